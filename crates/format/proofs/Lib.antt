@@ -1,0 +1,11 @@
+pub mod AllocLaws
+pub mod BackpointerLaws
+pub mod Cases
+pub mod Decoded
+pub mod EntryLaws
+pub mod FlagLaws
+pub mod GenLaws
+pub mod PackingLaws
+pub mod StructLaws
+pub mod ValueLaws
+pub mod WordLaws

@@ -1,0 +1,13 @@
+pub mod DryRun
+pub mod EmitLaws
+pub mod EncodeLaws
+pub mod FieldLaws
+pub mod KeyLaws
+pub mod KindLaws
+pub mod NumberLaws
+pub mod OrderLaws
+pub mod OutputLaws
+pub mod ProductLaw
+pub mod RoundTrip
+pub mod RowLaws
+pub mod SignedLaws

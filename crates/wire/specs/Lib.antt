@@ -1,0 +1,12 @@
+pub mod Bytes
+pub mod Numbers
+pub mod Kinds
+pub mod Positions
+pub mod Order
+pub mod Fields
+pub mod Keys
+pub mod Held
+pub mod Walk
+pub mod Encode
+pub mod Output
+pub mod Rows

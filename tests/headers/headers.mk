@@ -1,0 +1,11 @@
+# make headers LINUX=dir: our bit layouts, held to the headers of dir, which is fs/bcachefs of a Linux 6.12 source tree.
+HEADERS_DIR := tests/headers
+HEADERS_CFLAGS = -std=gnu11 -O1 -Wall -Wextra -iquote "$(LINUX)" -I $(HEADERS_DIR)/stub -I "$(LINUX)/../../tools/include" -idirafter "$(LINUX)/../../include"
+
+.PHONY: headers
+headers:
+	@test -f "$(LINUX)/bcachefs_format.h" || { echo "usage: make headers LINUX=dir, where dir is fs/bcachefs of a Linux 6.12 source tree" >&2; exit 2; }
+	rt staticlib headers
+	mkdir -p target/headers
+	$(CC) $(HEADERS_CFLAGS) -o target/headers/check $(HEADERS_DIR)/check.c target/staticlib/libheaders.a
+	target/headers/check
