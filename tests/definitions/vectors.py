@@ -1,0 +1,99 @@
+#!/usr/bin/env python3
+"""vectors.py N: holds the definitions to N of the stored vectors by computing.
+
+Each vector becomes a line of antt, that the answer of `calls/specs/Answers.antt` on its list is the vector's number and bytes, by `refl`. The lines are
+checked in a copy of the crates below target/definitions and are not kept. The last line is `N passed, M failed`.
+"""
+import re
+import shutil
+import subprocess
+import sys
+from pathlib import Path
+
+ROOT = Path(__file__).resolve().parents[2]
+WORK = ROOT / "target" / "definitions"
+LONGEST = 420  # bytes of a list that computes within a second or two
+
+
+def octets(text):
+    """The bytes of a field, as an antt list."""
+    data = b"" if text == "-" else bytes.fromhex(text)
+    return "".join(f"{b} ∷ " for b in data) + "[]", len(data)
+
+
+def read(call):
+    """The vectors of a call, as (id, number, antt call, antt answer)."""
+    for line in (ROOT / "vectors" / f"{call}.txt").read_text().splitlines():
+        if line.startswith("#") or not line.strip():
+            continue
+        if call == "apply":
+            name, out, number, volume, change, answer = line.split()
+            (v, n), (c, m), (a, _) = octets(volume), octets(change), octets(answer)
+            size, term = n + m, f"apply ({v}) ({c}) {out}"
+        else:
+            name, scratch, out, number, bytes_, answer = line.split()
+            (s, size), (a, _) = octets(bytes_), octets(answer)
+            term = f"{call} ({s}) {scratch + ' ' if call == 'release' else ''}{out}"
+        if size <= LONGEST:
+            yield name, int(number), term, a
+
+
+def spread(vectors, count):
+    """The first few of each number in turn, so that every number is met before any is met often."""
+    by_number = {}
+    for v in vectors:
+        by_number.setdefault(v[1], []).append(v)
+    out, turn = [], 0
+    while len(out) < count and any(len(vs) > turn for vs in by_number.values()):
+        for number in sorted(by_number):
+            if turn < len(by_number[number]) and len(out) < count:
+                out.append(by_number[number][turn])
+        turn += 1
+    return out
+
+
+def write(chosen):
+    """The copy of the crates, with a module of one line for each vector."""
+    shutil.rmtree(WORK, ignore_errors=True)
+    WORK.mkdir(parents=True)
+    shutil.copytree(ROOT / "crates", WORK / "crates")
+    (WORK / "crates.txt").write_text("wire:\nformat: wire\ncalls: wire format\n")
+    for other in (WORK / "crates").iterdir():
+        if other.name not in ("wire", "format", "calls"):
+            shutil.rmtree(other)
+    proofs = WORK / "crates" / "calls" / "proofs"
+    shutil.rmtree(proofs)
+    proofs.mkdir()
+    (proofs / "Lib.antt").write_text("pub mod Vectors\n")
+    lines = ["use mathlib.Core.Path.{_≡_, refl}", "use mathlib.Core.List.{List, [], _∷_}",
+             "use Rattle.calls.specs.Answers.{Answer, place, release, discard, apply}", ""]
+    for i, (name, number, term, answer) in enumerate(chosen):
+        call = term.split()[0]
+        lines += [f"-- {name}", f"v{i} : {term} ≡ record {{ number = {number}; written = {answer} }}", f"unfolding {call}", f"v{i} = refl", ""]
+    (proofs / "Vectors.antt").write_text("\n".join(lines))
+
+
+def main():
+    if len(sys.argv) != 2 or not sys.argv[1].isdigit():
+        sys.exit(__doc__)
+    share = -(-int(sys.argv[1]) // 4)
+    chosen = [v for call in ("place", "release", "discard", "apply") for v in spread(read(call), share)]
+    write(chosen)
+    run = subprocess.run(["rt", "dev", "calls"], cwd=WORK, stdout=subprocess.PIPE, stderr=subprocess.STDOUT, text=True)
+    bad = {m.group(1) for m in re.finditer(r"Vectors\.antt:\d+:\d+: error: `(v\d+)`", run.stdout)}
+    for label in sorted(bad, key=lambda b: int(b[1:])):
+        print("disagrees:", chosen[int(label[1:])][0])
+    whole = "logic=proved" in run.stdout.splitlines()[-1] if run.stdout.strip() else False
+    if not bad and not whole:
+        print(run.stdout[-3000:])
+        sys.exit("the crate calls was not checked")
+    counts = {}
+    for name, number, term, _ in chosen:
+        counts.setdefault(term.split()[0], []).append(number)
+    for call, numbers in counts.items():
+        print(f"{call}: {len(numbers)} vectors, numbers {sorted(set(numbers))}")
+    print(f"{len(chosen) - len(bad)} passed, {len(bad)} failed")
+    sys.exit(1 if bad else 0)
+
+
+main()
