@@ -1,0 +1,22 @@
+//! Call lists and change lists: reading and writing them, the judges of their numbers (`model`,
+//! `apply`), and a generator of them. Nothing here holds or needs the Rust text.
+
+pub mod apply;
+pub mod call_list;
+pub mod candidate;
+pub mod cases;
+pub mod change_list;
+pub mod changes;
+pub mod digest;
+pub mod edges;
+pub mod fields;
+pub mod generate;
+pub mod history;
+pub mod key;
+pub mod lent;
+pub mod limits;
+pub mod model;
+pub mod rng;
+pub mod spoil;
+pub mod timed;
+pub mod vectors;

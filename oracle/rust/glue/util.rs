@@ -1,0 +1,1 @@
+//@item src/util.rs | pub(crate) fn le64(

@@ -1,0 +1,141 @@
+//! The Rust's function and the model of document 01 on the same list.
+
+use crate::{run, Outcome};
+use lists::apply::apply;
+use lists::call_list::{CallList, ALLOC};
+use lists::change_list;
+use lists::fields::{put, split};
+use lists::key::Key;
+use lists::model::{answer_length, verdict, SUMS};
+
+/// The Rust's texts, each with the number whose refusal it is.
+pub const TEXTS: [(u32, &str); 10] = [
+    (4, "bucket size 0"),
+    (5, "data checksum option"),
+    (6, "compression option"),
+    (7, "compression without a data checksum"),
+    (8, "blocks do not divide the bucket"),
+    (11, "free buckets are needed and only"),
+    (12, "a freespace run before bucket 0"),
+    (13, "is free and has an alloc key"),
+    (15, "has data and no alloc key"),
+    (18, "frees more than it holds"),
+];
+
+/// The number whose refusal a text of the Rust is.
+pub fn number_of(text: &str) -> Option<u32> {
+    TEXTS
+        .iter()
+        .find(|(_, part)| text.contains(part))
+        .map(|(number, _)| *number)
+}
+
+/// Whether a refusal is one that document 01 adds to the Rust's.
+pub fn added(call: u8, number: u32) -> bool {
+    matches!(number, 1..=3 | 6 | 9 | 10 | 14 | 16 | 17 | 19..=21)
+        || (number == 4 && call == lists::call_list::RELEASE)
+}
+
+/// The model's number with a long scratch and output, for the call that the list names.
+pub fn number(list: &[u8]) -> u32 {
+    let call = list.get(3).copied().unwrap_or(0);
+    verdict(call, list, SUMS, usize::MAX)
+}
+
+/// How the Rust's outcome disagrees with the model's number, if it does.
+pub fn disagreement(list: &[u8], outcome: &Outcome) -> Option<String> {
+    let l = CallList::read(list)?;
+    let number = number(list);
+    let wrong = match (number, outcome) {
+        (0, Outcome::Accepted(answer)) => return malformed(&l, answer),
+        (2 | 3, _) => return None,
+        (0, _) => true,
+        (n, Outcome::Refused(text)) => !agrees(n, added(l.head.call, n), number_of(text)),
+        (15 | 18, Outcome::Panicked) => !short_value(&l),
+        (n, Outcome::Panicked) => !added(l.head.call, n),
+        (n, _) => !added(l.head.call, n),
+    };
+    wrong.then(|| format!("the model gives {number} and the Rust {outcome:?}"))
+}
+
+/// Whether a text's number goes with the model's: the same, or a later one where the model's is
+/// added; 12 and 13, and 15 to 19, are decided by bucket and not by number.
+fn agrees(model: u32, added: bool, text: Option<u32>) -> bool {
+    match text {
+        None => false,
+        Some(t) if !added => t == model,
+        Some(t) => t >= model || (15..=19).contains(&model) && t >= 15,
+    }
+}
+
+/// Whether a freed bucket's alloc value is below 24 bytes, on which a release panics first.
+fn short_value(l: &CallList) -> bool {
+    let bucket = u64::from(l.head.bucket);
+    let freed = |k: &Key| l.releases.iter().any(|r| r.sector / bucket == k.offset);
+    let short = |k: &Key| k.inode == 0 && k.value.len() < 24;
+    l.keys(ALLOC).iter().any(|k| short(k) && freed(k))
+}
+
+/// How an accepted answer is malformed, if it is.
+fn malformed(l: &CallList, answer: &[u8]) -> Option<String> {
+    let Some(batches) = change_list::read(answer) else {
+        return Some("the answer breaks a change list's layout".into());
+    };
+    if change_list::bytes(&batches) != answer {
+        return Some("the answer is not what its batches give".into());
+    }
+    if answer_length(l) != Some(answer.len()) {
+        return Some(format!(
+            "the model's length is {:?}, the answer's {}",
+            answer_length(l),
+            answer.len()
+        ));
+    }
+    let descends = |b: &change_list::Batch| {
+        let at = |r: &change_list::Row| (r.inode, r.offset);
+        b.rows.windows(2).any(|w| at(&w[0]) >= at(&w[1]))
+    };
+    if batches.iter().any(descends) {
+        return Some("rows do not ascend".into());
+    }
+    let (refused, _) = apply(&l.volume().bytes(), answer, usize::MAX);
+    (refused != 0 && refused != 3).then(|| format!("apply refuses the answer with {refused}"))
+}
+
+/// A list with fields left out while `disagrees` still holds of it.
+pub fn shrink(list: &[u8], disagrees: impl Fn(&[u8]) -> bool) -> Vec<u8> {
+    let mut fields: Vec<(u8, Vec<u8>)> = split(list)
+        .unwrap_or_default()
+        .iter()
+        .map(|f| (f.tag, f.body.to_vec()))
+        .collect();
+    let mut width = fields.len().max(1);
+    while width > 0 {
+        let mut i = 1;
+        while i < fields.len() {
+            let mut fewer = fields.clone();
+            fewer.drain(i..(i + width).min(fields.len()));
+            if disagrees(&joined(&fewer)) {
+                fields = fewer;
+            } else {
+                i += width;
+            }
+        }
+        width /= 2;
+    }
+    joined(&fields)
+}
+
+/// The bytes of fields.
+fn joined(fields: &[(u8, Vec<u8>)]) -> Vec<u8> {
+    let mut out = Vec::new();
+    for (tag, body) in fields {
+        put(&mut out, *tag, body);
+    }
+    out
+}
+
+/// Whether model and Rust disagree on a list.
+pub fn disagrees(list: &[u8]) -> bool {
+    disagreement(list, &run(list)).is_some()
+}
