@@ -1,0 +1,179 @@
+-- The limits of a list, found field by field and row by row.
+use Prim.Native.Nat.{ℕ, _≤_}
+use mathlib.Core.Path.{_≡_, sym, _∙_}
+use mathlib.Core.Logic.{inl, inr, ⊎-elim}
+use mathlib.Core.List.{List, map}
+use mathlib.Core.Bool.{true}
+use lib.ListN.{length, length-map}
+use lib.Dec.{leb}
+use borrow.Author.Tests.{eq-eqb, ne-eqb, le-leb, leb-true}
+use native.Mathlib.Omega.{arith}
+use Rattle.wire.specs.Fields.{Field}
+use Rattle.wire.specs.Keys.{keyOf}
+use Rattle.wire.specs.Kinds.{bucketRead, bucketInRange}
+use Rattle.wire.specs.Bytes.{All}
+use Rattle.calls.specs.Lists.{allOf}
+use Rattle.calls.specs.CallList.{bodies, firstBody, headOf, treesOf, callListOf, pieceOf, freedOf}
+use Rattle.calls.specs.Limits.{fewKeys, countsOk, bucketsOk, volumeWithin, listWithin}
+use Rattle.reader.specs.CallFields.{headWithin, allocWithin, runWithin, waitingWithin, fieldWithin}
+use Rattle.reader.specs.Table.{slotOf, mostOf}
+use Rattle.calls.proofs.BoolLaws.{both}
+use Rattle.reader.proofs.BoolLaws.{and-left, and-right}
+use Rattle.reader.proofs.ShapeLaws.{same-or}
+use Rattle.reader.proofs.ListLaws.{all-true, true-all, all-zip, all-map, all-of-map, bodies-all, all-bodies}
+use Rattle.reader.proofs.LayoutLaws.{Listed, key, reserved, piece, freed}
+
+-- the limits, one by one
+pub record Within (fs : List Field) : Type 0 where
+  pub alloc : length (bodies 4 fs) ≤ 4096
+  pub lru : length (bodies 10 fs) ≤ 4096
+  pub freespace : length (bodies 11 fs) ≤ 4096
+  pub needDiscard : length (bodies 12 fs) ≤ 4096
+  pub backpointers : length (bodies 13 fs) ≤ 4096
+  pub gens : length (bodies 14 fs) ≤ 4096
+  pub allocKeys : allOf (λ b. allocWithin (keyOf b)) (bodies 4 fs) ≡ true
+  pub waitingKeys : allOf (λ b. waitingWithin (keyOf b)) (bodies 12 fs) ≡ true
+  pub runKeys : allOf (λ b. runWithin (keyOf b)) (bodies 11 fs) ≡ true
+  pub reserved : length (bodies 64 fs) ≤ 4096
+  pub reservedRange : allOf (λ b. bucketInRange (bucketRead b)) (bodies 64 fs) ≡ true
+  pub head : headWithin (headOf (firstBody (bodies 1 fs))) ≡ true
+  pub pieces : length (bodies 65 fs) ≤ 1024
+  pub releases : length (bodies 66 fs) ≤ 1024
+
+few-of : {A : Type 0} (f : List ℕ → A) (n : ℕ) (bs : List (List ℕ)) → leb (length (map f bs)) n ≡ true → length bs ≤ n
+few-of f n bs h = leb-true (length bs) n (rw length-map at h)
+
+of-few : {A : Type 0} (f : List ℕ → A) (n : ℕ) (bs : List (List ℕ)) → length bs ≤ n → leb (length (map f bs)) n ≡ true
+of-few f n bs h = rw length-map (le-leb (length bs) n h)
+
+pub within-parts : (fs : List Field) → listWithin (callListOf fs) ≡ true → Within fs
+unfolding listWithin volumeWithin countsOk fewKeys bucketsOk callListOf treesOf
+within-parts fs h =
+    let v = and-left (volumeWithin (callListOf fs .volume)) _ h in
+    let r = and-right (volumeWithin (callListOf fs .volume)) _ h in
+    let n = and-left (countsOk (treesOf fs)) _ v in
+    let v1 = and-right (countsOk (treesOf fs)) _ v in
+    let b = and-left (bucketsOk (treesOf fs)) _ v1 in
+    let v2 = and-right (bucketsOk (treesOf fs)) _ v1 in
+    let v3 = and-right (leb (length (map bucketRead (bodies 64 fs))) 4096) _ v2 in
+    let n1 = and-right (leb (length (map keyOf (bodies 4 fs))) 4096) _ n in
+    let n2 = and-right (leb (length (map keyOf (bodies 10 fs))) 4096) _ n1 in
+    let n3 = and-right (leb (length (map keyOf (bodies 11 fs))) 4096) _ n2 in
+    let n4 = and-right (leb (length (map keyOf (bodies 12 fs))) 4096) _ n3 in
+    let n5 = and-right (leb (length (map keyOf (bodies 13 fs))) 4096) _ n4 in
+    let b1 = and-right (allOf allocWithin (map keyOf (bodies 4 fs))) _ b in
+    record {
+      alloc = few-of keyOf 4096 (bodies 4 fs) (and-left _ _ n);
+      lru = few-of keyOf 4096 (bodies 10 fs) (and-left _ _ n1);
+      freespace = few-of keyOf 4096 (bodies 11 fs) (and-left _ _ n2);
+      needDiscard = few-of keyOf 4096 (bodies 12 fs) (and-left _ _ n3);
+      backpointers = few-of keyOf 4096 (bodies 13 fs) (and-left _ _ n4);
+      gens = few-of keyOf 4096 (bodies 14 fs) n5;
+      allocKeys = sym (all-of-map allocWithin keyOf (bodies 4 fs)) ∙ and-left (allOf allocWithin (map keyOf (bodies 4 fs))) _ b;
+      waitingKeys = sym (all-of-map waitingWithin keyOf (bodies 12 fs)) ∙ and-left (allOf waitingWithin (map keyOf (bodies 12 fs))) _ b1;
+      runKeys = sym (all-of-map runWithin keyOf (bodies 11 fs)) ∙ and-right (allOf waitingWithin (map keyOf (bodies 12 fs))) _ b1;
+      reserved = few-of bucketRead 4096 (bodies 64 fs) (and-left _ _ v2);
+      reservedRange =
+          sym (all-of-map bucketInRange bucketRead (bodies 64 fs))
+          ∙ and-left (allOf bucketInRange (map bucketRead (bodies 64 fs))) _ v3;
+      head = and-right (allOf bucketInRange (map bucketRead (bodies 64 fs))) _ v3;
+      pieces = few-of pieceOf 1024 (bodies 65 fs) (and-left _ _ r);
+      releases = few-of freedOf 1024 (bodies 66 fs) (and-right (leb (length (map pieceOf (bodies 65 fs))) 1024) _ r);
+    }
+
+pub parts-within : (fs : List Field) → Within fs → listWithin (callListOf fs) ≡ true
+unfolding listWithin volumeWithin countsOk fewKeys bucketsOk callListOf treesOf
+parts-within fs w =
+    both
+    (both
+    (both (of-few keyOf 4096 (bodies 4 fs) (w .alloc))
+    (both (of-few keyOf 4096 (bodies 10 fs) (w .lru))
+    (both (of-few keyOf 4096 (bodies 11 fs) (w .freespace))
+    (both (of-few keyOf 4096 (bodies 12 fs) (w .needDiscard))
+    (both (of-few keyOf 4096 (bodies 13 fs) (w .backpointers)) (of-few keyOf 4096 (bodies 14 fs) (w .gens)))))))
+    (both
+    (both (all-of-map allocWithin keyOf (bodies 4 fs) ∙ w .allocKeys)
+    (both (all-of-map waitingWithin keyOf (bodies 12 fs) ∙ w .waitingKeys) (all-of-map runWithin keyOf (bodies 11 fs) ∙ w .runKeys)))
+    (both (of-few bucketRead 4096 (bodies 64 fs) (w .reserved))
+    (both (all-of-map bucketInRange bucketRead (bodies 64 fs) ∙ w .reservedRange) (w .head)))))
+    (both (of-few pieceOf 1024 (bodies 65 fs) (w .pieces)) (of-few freedOf 1024 (bodies 66 fs) (w .releases)))
+
+-- the limits on each field
+
+module _ (f : Field) where
+  field-made :
+      (f .tag ≡ 4 → allocWithin (keyOf (f .body)) ≡ true) → (f .tag ≡ 11 → runWithin (keyOf (f .body)) ≡ true)
+      → (f .tag ≡ 12 → waitingWithin (keyOf (f .body)) ≡ true) → (f .tag ≡ 64 → bucketInRange (bucketRead (f .body)) ≡ true)
+      → fieldWithin f ≡ true
+  unfolding fieldWithin
+  field-made a r w b =
+      ⊎-elim (λ e. rw (eq-eqb (f .tag) 4 e) (a e))
+      (λ n4.
+      ⊎-elim (λ e. rw (ne-eqb (f .tag) 4 n4, eq-eqb (f .tag) 11 e) (r e))
+      (λ n11.
+      ⊎-elim (λ e. rw (ne-eqb (f .tag) 4 n4, ne-eqb (f .tag) 11 n11, eq-eqb (f .tag) 12 e) (w e))
+      (λ n12.
+      ⊎-elim (λ e. rw (ne-eqb (f .tag) 4 n4, ne-eqb (f .tag) 11 n11, ne-eqb (f .tag) 12 n12, eq-eqb (f .tag) 64 e) (b e))
+      (λ n64. rw (ne-eqb (f .tag) 4 n4, ne-eqb (f .tag) 11 n11, ne-eqb (f .tag) 12 n12, ne-eqb (f .tag) 64 n64))
+      (same-or (f .tag) 64))
+      (same-or (f .tag) 12))
+      (same-or (f .tag) 11))
+      (same-or (f .tag) 4)
+
+  module _ (h : fieldWithin f ≡ true) where
+    field-alloc : f .tag ≡ 4 → allocWithin (keyOf (f .body)) ≡ true
+    unfolding fieldWithin
+    field-alloc e = rw (eq-eqb (f .tag) 4 e) at h
+
+    field-run : f .tag ≡ 11 → runWithin (keyOf (f .body)) ≡ true
+    unfolding fieldWithin
+    field-run e = rw (ne-eqb (f .tag) 4 (λ z. omega arith), eq-eqb (f .tag) 11 e) at h
+
+    field-waiting : f .tag ≡ 12 → waitingWithin (keyOf (f .body)) ≡ true
+    unfolding fieldWithin
+    field-waiting e =
+        rw (ne-eqb (f .tag) 4 (λ z. omega arith), ne-eqb (f .tag) 11 (λ z. omega arith), eq-eqb (f .tag) 12 e) at h
+
+    field-reserved : f .tag ≡ 64 → bucketInRange (bucketRead (f .body)) ≡ true
+    unfolding fieldWithin
+    field-reserved e =
+        rw (ne-eqb (f .tag) 4 (λ z. omega arith), ne-eqb (f .tag) 11 (λ z. omega arith), ne-eqb (f .tag) 12 (λ z. omega arith), eq-eqb (f .tag) 64 e) at h
+
+-- a list's fields keep the limits
+pub fields-within : (fs : List Field) → Within fs → allOf fieldWithin fs ≡ true
+fields-within fs w =
+    true-all fieldWithin
+    (all-map (λ f h. field-made f (h .0) (h .1 .0) (h .1 .1 .0) (h .1 .1 .1))
+    (all-zip (bodies-all 4 (λ b. allocWithin (keyOf b)) fs (w .allocKeys))
+    (all-zip (bodies-all 11 (λ b. runWithin (keyOf b)) fs (w .runKeys))
+    (all-zip (bodies-all 12 (λ b. waitingWithin (keyOf b)) fs (w .waitingKeys))
+    (bodies-all 64 (λ b. bucketInRange (bucketRead b)) fs (w .reservedRange))))))
+
+module _ (fs : List Field) (h : allOf fieldWithin fs ≡ true) where
+  each : All (λ f. fieldWithin f ≡ true) fs
+  each = all-true fieldWithin fs h
+
+  pub within-alloc : allOf (λ b. allocWithin (keyOf b)) (bodies 4 fs) ≡ true
+  within-alloc = all-bodies 4 (λ b. allocWithin (keyOf b)) (all-map field-alloc each)
+
+  pub within-run : allOf (λ b. runWithin (keyOf b)) (bodies 11 fs) ≡ true
+  within-run = all-bodies 11 (λ b. runWithin (keyOf b)) (all-map field-run each)
+
+  pub within-waiting : allOf (λ b. waitingWithin (keyOf b)) (bodies 12 fs) ≡ true
+  within-waiting = all-bodies 12 (λ b. waitingWithin (keyOf b)) (all-map field-waiting each)
+
+  pub within-reserved : allOf (λ b. bucketInRange (bucketRead b)) (bodies 64 fs) ≡ true
+  within-reserved = all-bodies 64 (λ b. bucketInRange (bucketRead b)) (all-map field-reserved each)
+
+-- a tag's fields are no more than its row takes
+pub few-at : {call t n : ℕ} (fs : List Field) → Within fs → Listed call t n → length (bodies t fs) ≤ mostOf (slotOf t)
+unfolding slotOf
+few-at fs w (key (inl e) l m) = rw e (w .alloc)
+few-at fs w (key (inr (inl e)) l m) = rw e (w .lru)
+few-at fs w (key (inr (inr (inl e))) l m) = rw e (w .freespace)
+few-at fs w (key (inr (inr (inr (inl e)))) l m) = rw e (w .needDiscard)
+few-at fs w (key (inr (inr (inr (inr (inl e))))) l m) = rw e (w .backpointers)
+few-at fs w (key (inr (inr (inr (inr (inr e))))) l m) = rw e (w .gens)
+few-at fs w (reserved e l) = rw e (w .reserved)
+few-at fs w (piece c e l) = rw e (w .pieces)
+few-at fs w (freed c e l) = rw e (w .releases)

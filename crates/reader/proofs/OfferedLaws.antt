@@ -1,0 +1,128 @@
+-- What later passes may use of a list that was read: its limits, and the length of each body at its place.
+use Prim.Native.Nat.{ℕ, zero, suc, _+_, _-_, _≤_, _<_}
+use mathlib.Core.Path.{_≡_, refl, sym, _∙_, ap, subst}
+use mathlib.Core.Logic.{⊎-elim}
+use mathlib.Core.List.{List, [], _∷_}
+use mathlib.Core.Bool.{Bool, true, false, _&&_, cond}
+use lib.ListN.{length, drop, getD}
+use native.Mathlib.Omega.{arith}
+use Rattle.wire.specs.Numbers.{le}
+use Rattle.wire.specs.Fields.{Field, fields, fieldAt, whole}
+use Rattle.wire.specs.Bytes.{All, none, more}
+use Rattle.wire.proofs.NumberLaws.{body-length}
+use Rattle.calls.specs.Lists.{those}
+use Rattle.calls.specs.CallList.{bodies, callListOf}
+use Rattle.calls.specs.Limits.{listWithin}
+use Rattle.reader.specs.CallFields.{startsOk}
+use Rattle.reader.specs.Table.{FieldHere}
+use Rattle.reader.specs.Readings.{callRefusal, volumeRefusal, listRefusal}
+use Rattle.reader.proofs.BoolLaws.{and-left, and-right, apart}
+use Rattle.reader.proofs.ShapeLaws.{same-or}
+use Rattle.reader.proofs.ListLaws.{bodies-here, bodies-other}
+use Rattle.reader.proofs.LayoutLaws.{Listed, key, reserved, piece, freed, key-tag-bounds, laidFields, laid-is, laid-none}
+use Rattle.reader.proofs.SlotLaws.{AllListed}
+use Rattle.reader.proofs.ReadingLaws.{refusal-is, opened, all-listed, after-first}
+use Rattle.reader.proofs.VolumeLaws.{call-refusal, volume-refusal}
+
+-- a list that is not refused
+record Kept (s : List ℕ) (call : ℕ) (any : Bool) : Type 0 where
+  laid : laidFields call any (fields s) ≡ true
+  within : listWithin (callListOf (fields s)) ≡ true
+
+kept : (s : List ℕ) (call : ℕ) (any : Bool) → 0 ≡ listRefusal call any s → Kept s call any
+kept s call any h =
+    go (whole s) (laidFields call any (fields s)) (listWithin (callListOf (fields s))) refl refl (h ∙ refusal-is s call any)
+  where
+    go :
+        (a b c : Bool) → laidFields call any (fields s) ≡ b → listWithin (callListOf (fields s)) ≡ c
+        → _≡_ {A = ℕ} 0 (cond (a && b) (cond c 0 3) 2) → Kept s call any
+    go true true true x y z = record { laid = x; within = y }
+    go true true false x y z = absurd (omega arith)
+    go true false c x y z = absurd (omega arith)
+    go false b c x y z = absurd (omega arith)
+
+started : (s : List ℕ) (call : ℕ) (any : Bool) → laidFields call any (fields s) ≡ true → startsOk call any (fields s) ≡ true
+started s call any h = go (fields s) h
+  where
+    go : (fs : List Field) → laidFields call any fs ≡ true → startsOk call any fs ≡ true
+    go [] h = apart (sym h ∙ laid-none call any)
+    go (f ∷ fs) h = and-left (startsOk call any (f ∷ fs)) _ (sym (laid-is call any f fs) ∙ h)
+
+rest-listed : (s : List ℕ) (call : ℕ) (any : Bool) → laidFields call any (fields s) ≡ true → AllListed call (fields (drop 42 s))
+rest-listed s call any h =
+    let o = opened s call any (started s call any h) in
+    let k = sym (laid-is call any (fieldAt s 1 3 39) (fields (drop 42 s))) ∙ ap (laidFields call any) (sym (o .first .here)) ∙ h in
+    all-listed call (fields (drop 42 s)) (and-left _ _ (and-right (startsOk call any (fieldAt s 1 3 39 ∷ fields (drop 42 s))) _ k))
+
+bodies-listed : (call t : ℕ) {fs : List Field} → AllListed call fs → All (λ b. Listed call t (length b)) (bodies t fs)
+unfolding bodies those
+bodies-listed call t none = none
+bodies-listed call t (more {a = f} {s = fs} l r) =
+    ⊎-elim (λ e. rw (bodies-here t f fs e) (more (subst (λ (u : ℕ). Listed call u (length (f .body))) e l) (bodies-listed call t r)))
+    (λ n. rw (bodies-other t f fs n) (bodies-listed call t r)) (same-or (f .tag) t)
+
+all-at : {A : Type 0} {P : A → Type 0} {xs : List A} → All P xs → (d : A) (i : ℕ) → i < length xs → P (getD xs i d)
+all-at none d i h = absurd (omega arith)
+all-at (more p r) d zero h = p
+all-at (more p r) d (suc i) h = all-at r d i (omega arith)
+
+-- a list that `read_call` or `read_volume` read: its refusal is 0
+pub call-kept : (call : ℕ) (s : List ℕ) → 0 ≡ callRefusal call s → 0 ≡ listRefusal call false s
+call-kept call s h = h ∙ sym (call-refusal call s)
+
+pub volume-kept : (s : List ℕ) → 0 ≡ volumeRefusal s → 0 ≡ listRefusal 0 true s
+volume-kept s h = h ∙ sym (volume-refusal s)
+
+module _ (call : ℕ) (any : Bool) (s : List ℕ) (h : 0 ≡ listRefusal call any s) where
+  pub limits-kept : listWithin (callListOf (fields s)) ≡ true
+  limits-kept = kept s call any h .within
+
+  -- each body is as long as its tag asks
+  pub body-listed :
+      (t i : ℕ) → 1 < t → i < length (bodies t (fields s)) → Listed call t (length (getD (bodies t (fields s)) i []))
+  body-listed t i l k =
+      let q = kept s call any h .laid in
+      let z = after-first s call any (opened s call any (started s call any q)) t l in
+      let r : All (λ b. Listed call t (length b)) (bodies t (fields s)) = rw z (bodies-listed call t (rest-listed s call any q)) in
+      all-at r [] i k
+
+-- the length before a body is the body's
+pub here-length : {s body : List ℕ} {at : ℕ} → FieldHere s at body → length body ≡ le 2 (drop (at - 2) s)
+here-length {s} {at = at} f = ap length (f .here) ∙ body-length s at (le 2 (drop (at - 2) s)) (f .within)
+
+-- what `read_key` asks, of a key at its place
+pub record KeyReady (s : List ℕ) (at : ℕ) : Type 0 where
+  pub after : 3 ≤ at
+  pub within : at + le 2 (drop (at - 2) s) ≤ length s
+  pub long : 37 ≤ le 2 (drop (at - 2) s)
+  pub short : le 2 (drop (at - 2) s) ≤ 293
+
+key-sizes : {call t n : ℕ} → Listed call t n → t ≤ 14 → (37 ≤ n) × (n ≤ 293)
+key-sizes (key k l m) h = (l, m)
+key-sizes (reserved e l) h = absurd (omega arith)
+key-sizes (piece c e l) h = absurd (omega arith)
+key-sizes (freed c e l) h = absurd (omega arith)
+
+pub key-ready : {call t at : ℕ} {s body : List ℕ} → t ≤ 14 → FieldHere s at body → Listed call t (length body) → KeyReady s at
+key-ready h f l =
+    let b = key-sizes l h in
+    record { after = f .after; within = f .within; long = omega (arith, b .0, here-length f); short = omega (arith, b .1, here-length f) }
+
+-- the lengths of the other bodies
+pub reserved-size : {call n : ℕ} → Listed call 64 n → n ≡ 4
+reserved-size (key k l m) = let b = key-tag-bounds 64 k in absurd (omega (arith, b .1))
+reserved-size (reserved e l) = l
+reserved-size (piece c e l) = absurd (omega arith)
+reserved-size (freed c e l) = absurd (omega arith)
+
+pub piece-size : {call n : ℕ} → Listed call 65 n → n ≡ 13
+piece-size (key k l m) = let b = key-tag-bounds 65 k in absurd (omega (arith, b .1))
+piece-size (reserved e l) = absurd (omega arith)
+piece-size (piece c e l) = l
+piece-size (freed c e l) = absurd (omega arith)
+
+pub freed-size : {call n : ℕ} → Listed call 66 n → n ≡ 10
+freed-size (key k l m) = let b = key-tag-bounds 66 k in absurd (omega (arith, b .1))
+freed-size (reserved e l) = absurd (omega arith)
+freed-size (piece c e l) = absurd (omega arith)
+freed-size (freed c e l) = l

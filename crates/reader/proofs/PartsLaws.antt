@@ -1,0 +1,169 @@
+-- The parts of a call's list that was read: as many offsets as each count says, and what they find. Assumes nothing.
+use Prim.Native.Nat.{ℕ, _+_, _≤_, _<_}
+use native.Mathlib.Omega.{arith}
+use mathlib.Core.Path.{_≡_, refl, sym, ap, _∙_}
+use mathlib.Core.Bool.{Bool, true, false}
+use mathlib.Core.List.{List, [], _∷_, map}
+use lib.ListN.{length, take, drop, length-map}
+use lib.Dec.{leb}
+use borrow.Author.Tests.{leb-true}
+use Rattle.wire.specs.Fields.{fields}
+use Rattle.wire.specs.Keys.{Key, keyOf}
+use Rattle.wire.specs.Kinds.{bucketRead}
+use Rattle.calls.specs.CallList.{CallList, bodies, treesOf, callListOf, callLaidOut, pieceOf, freedOf}
+use Rattle.calls.specs.Limits.{fewKeys, countsOk, bucketsOk, volumeWithin, listWithin}
+use Rattle.calls.specs.Refusals.{test, verdict}
+use Rattle.calls.specs.Answers.{Answer, answer, readCall, readVolume}
+use Rattle.calls.proofs.BoolLaws.{parts}
+use Rattle.calls.proofs.KeyFitsLaws.{list-within}
+use Rattle.calls.proofs.OutcomeLaws.{answer-next, answer-stops}
+use Rattle.reader.specs.Table.{Tabled}
+use Rattle.reader.specs.Readings.{callRefusal, listRefusal, ListRead}
+use Rattle.reader.specs.Located.{KeysAt, BucketsAt, PiecesAt, FreedsAt}
+use Rattle.reader.specs.declared.head.Head.{Head}
+use Rattle.reader.specs.declared.table.Counts.{Counts}
+use Rattle.reader.proofs.OfferedLaws.{call-kept, limits-kept}
+use Rattle.reader.proofs.LocatedLaws.{keys-located, buckets-located, pieces-located, freeds-located}
+
+-- a list that `read_call` read meets neither 2 nor 3
+pub record Passed (call : ℕ) (s : List ℕ) : Type 0 where
+  pub laid : callLaidOut call s ≡ true
+  pub within : listWithin (readCall s) ≡ true
+
+pub passed : (call : ℕ) (s : List ℕ) → 0 ≡ callRefusal call s → Passed call s
+unfolding callRefusal verdict
+passed call s h = go (callLaidOut call s) (listWithin (readCall s)) refl refl h
+  where
+    go :
+        (a b : Bool) → callLaidOut call s ≡ a → listWithin (readCall s) ≡ b → 0 ≡ verdict (test 2 a ∷ test 3 b ∷ []) → Passed call s
+    go true true x y z = record { laid = x; within = y }
+    go true false x y z = absurd (omega arith)
+    go false b x y z = absurd (omega arith)
+
+-- the answer after refusals 2 and 3, or with one of them
+module _ (call : ℕ) (s ts bytes : List ℕ) (room : ℕ) where
+  answer-of : Bool → Bool → Answer
+  answer-of a b = answer (test 2 a ∷ test 3 b ∷ ts) bytes room
+
+  pub read-on :
+      0 ≡ callRefusal call s → answer (test 2 (callLaidOut call s) ∷ test 3 (listWithin (readCall s)) ∷ ts) bytes room ≡ answer ts bytes room
+  unfolding answer-of
+  read-on h =
+      let p = passed call s h in
+      ap (λ (a : Bool). answer-of a (listWithin (readCall s))) (p .laid) ∙ ap (answer-of true) (p .within)
+      ∙ answer-next 0 (test 3 true ∷ ts) bytes room refl
+      ∙ answer-next 0 ts bytes room refl
+
+  pub read-refused :
+      (n : ℕ) → n ≡ callRefusal call s → 0 < callRefusal call s
+      → answer (test 2 (callLaidOut call s) ∷ test 3 (listWithin (readCall s)) ∷ ts) bytes room ≡ record { number = n; written = [] }
+  unfolding callRefusal verdict answer-of
+  read-refused n e l = go (callLaidOut call s) (listWithin (readCall s)) e l
+    where
+      go :
+          (a b : Bool) → n ≡ verdict (test 2 a ∷ test 3 b ∷ []) → 0 < verdict (test 2 a ∷ test 3 b ∷ [])
+          → answer-of a b ≡ record { number = n; written = [] }
+      go true true e l = absurd (omega arith)
+      go true false e l =
+          answer-next 0 (3 ∷ ts) bytes room refl ∙ answer-stops 3 ts bytes room (λ z. absurd (omega (arith, z)))
+          ∙ ap (λ (n : ℕ). record { number = n; written = [] }) (sym e)
+      go false b e l =
+          answer-stops 2 (test 3 b ∷ ts) bytes room (λ z. absurd (omega (arith, z)))
+          ∙ ap (λ (n : ℕ). record { number = n; written = [] }) (sym e)
+
+-- at most 4,096 keys of a tree and reserved buckets, at most 1,024 requests
+record Few (c : CallList) : Type 0 where
+  alloc : length (c .volume .trees .alloc) ≤ 4096
+  freespace : length (c .volume .trees .freespace) ≤ 4096
+  needDiscard : length (c .volume .trees .needDiscard) ≤ 4096
+  gens : length (c .volume .trees .gens) ≤ 4096
+  reserved : length (c .volume .reserved) ≤ 4096
+
+few-in : (c : CallList) → listWithin c ≡ true → Few c
+unfolding listWithin volumeWithin countsOk fewKeys
+few-in c h =
+    let v = c .volume in
+    let t = v .trees in
+    let w = parts (volumeWithin v) _ h .0 in
+    let a = parts (countsOk t) _ w in
+    let alloc = parts (fewKeys (t .alloc)) _ (a .0) in
+    let lru = parts (fewKeys (t .lru)) _ (alloc .1) in
+    let freespace = parts (fewKeys (t .freespace)) _ (lru .1) in
+    let needs = parts (fewKeys (t .needDiscard)) _ (freespace .1) in
+    let back = parts (fewKeys (t .backpointers)) (fewKeys (t .gens)) (needs .1) in
+    let reserved = parts (leb (length (v .reserved)) 4096) _ (parts (bucketsOk t) _ (a .1) .1) in
+    record {
+      alloc = leb-true (length (t .alloc)) 4096 (alloc .0);
+      freespace = leb-true (length (t .freespace)) 4096 (freespace .0);
+      needDiscard = leb-true (length (t .needDiscard)) 4096 (needs .0);
+      gens = leb-true (length (t .gens)) 4096 (back .1);
+      reserved = leb-true (length (v .reserved)) 4096 (reserved .0);
+    }
+
+module _ (call : ℕ) (s index : List ℕ) (size : length index ≡ 29696) (h : Head) (c : Counts) (z : 0 ≡ callRefusal call s) (q : ListRead call s index h c) where
+  kept : 0 ≡ listRefusal call false s
+  kept = call-kept call s z
+
+  few : Few (readCall s)
+  few = few-in (readCall s) (limits-kept call false s kept)
+
+  -- a part of the table, of as many offsets as are counted
+  counted : (n t base : ℕ) → 1 < t → t ≤ 14 → base ≤ 20480 → n ≡ length (bodies t (fields s)) → length (map keyOf (bodies t (fields s))) ≤ 4096
+      → Tabled s index base (bodies t (fields s)) → (n ≤ 4096) × KeysAt s (take n (drop base index)) (map keyOf (bodies t (fields s)))
+  counted n t base l m low e short tab =
+      let w : n ≤ 4096 = omega (arith, e, short, length-map (bodies t (fields s)) keyOf) in
+      (w, rw e (keys-located call false s kept index base t l m (omega (arith, e, w, size)) tab))
+
+  -- trees 4, 11, 12 and 14
+  pub alloc-part : (c .alloc ≤ 4096) × KeysAt s (take (c .alloc) index) (readVolume s .trees .alloc)
+  unfolding callListOf treesOf
+  alloc-part = counted (c .alloc) 4 0 (omega arith) (omega arith) (omega arith) (q .counts .alloc) (few .alloc) (q .table .alloc)
+
+  pub freespace-part : (c .freespace ≤ 4096) × KeysAt s (take (c .freespace) (drop 8192 index)) (readVolume s .trees .freespace)
+  unfolding callListOf treesOf
+  freespace-part =
+      counted (c .freespace) 11 8192 (omega arith) (omega arith) (omega arith) (q .counts .freespace)
+      (few .freespace) (q .table .freespace)
+
+  pub need-discard-part : (c .«need_discard» ≤ 4096) × KeysAt s (take (c .«need_discard») (drop 12288 index)) (readVolume s .trees .needDiscard)
+  unfolding callListOf treesOf
+  need-discard-part =
+      counted (c .«need_discard») 12 12288 (omega arith) (omega arith) (omega arith) (q .counts .needDiscard)
+      (few .needDiscard) (q .table .needDiscard)
+
+  pub gens-part : (c .gens ≤ 4096) × KeysAt s (take (c .gens) (drop 20480 index)) (readVolume s .trees .gens)
+  unfolding callListOf treesOf
+  gens-part =
+      counted (c .gens) 14 20480 (omega arith) (omega arith) (omega arith) (q .counts .gens)
+      (few .gens) (q .table .gens)
+
+  -- the reserved buckets
+  pub reserved-part : (c .reserved ≤ 4096) × BucketsAt s (take (c .reserved) (drop 24576 index)) (readVolume s .reserved)
+  unfolding callListOf
+  reserved-part =
+      let bs = bodies 64 (fields s) in
+      let e = q .counts .reserved in
+      let w : c .reserved ≤ 4096 = omega (arith, e, few .reserved, length-map bs bucketRead) in
+      (w, rw e (buckets-located call false s kept index 24576 (omega (arith, e, w, size)) (q .table .reserved)))
+
+-- the requests of a placement
+module _ (s index : List ℕ) (size : length index ≡ 29696) (h : Head) (c : Counts) (z : 0 ≡ callRefusal 1 s) (q : ListRead 1 s index h c) where
+  pub pieces-part : (c .requests ≤ 1024) × PiecesAt s (take (c .requests) (drop 28672 index)) (readCall s .pieces)
+  unfolding callListOf
+  pieces-part =
+      let bs = bodies 65 (fields s) in
+      let e : c .requests ≡ length bs = q .counts .requests in
+      let few = list-within (readCall s) (limits-kept 1 false s (call-kept 1 s z)) .1 in
+      let w : c .requests ≤ 1024 = omega (arith, e, few, length-map bs pieceOf) in
+      (w, rw e (pieces-located 1 false s (call-kept 1 s z) index 28672 (omega (arith, e, w, size)) (q .table .requests)))
+
+-- the requests of a release
+module _ (s index : List ℕ) (size : length index ≡ 29696) (h : Head) (c : Counts) (z : 0 ≡ callRefusal 2 s) (q : ListRead 2 s index h c) where
+  pub freeds-part : (c .requests ≤ 1024) × FreedsAt s (take (c .requests) (drop 28672 index)) (readCall s .releases)
+  unfolding callListOf
+  freeds-part =
+      let bs = bodies 66 (fields s) in
+      let e : c .requests ≡ length bs = q .counts .requests in
+      let few = list-within (readCall s) (limits-kept 2 false s (call-kept 2 s z)) .2 in
+      let w : c .requests ≤ 1024 = omega (arith, e, few, length-map bs freedOf) in
+      (w, rw e (freeds-located 2 false s (call-kept 2 s z) index 28672 (omega (arith, e, w, size)) (q .table .requests)))

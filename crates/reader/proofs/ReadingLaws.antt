@@ -1,0 +1,517 @@
+-- The pass over a call list: how it starts, what one more field changes, and what it finds in the end.
+use Prim.Native.Nat.{ℕ, _+_, _*_, _≤_, _<_}
+use mathlib.Core.Path.{_≡_, refl, sym, _∙_, ap}
+use mathlib.Core.List.{List, [], _∷_, _++_}
+use mathlib.Core.Bool.{Bool, true, false, not, _&&_, _||_, cond, and-false, and-assoc}
+use lib.ListN.{length, take, drop, getD, set, length-set, drop-of-length-le}
+use lib.Dec.{eqb}
+use borrow.Author.Tests.{eq-eqb, ne-eqb, eqb-true, eqb-false}
+use native.Mathlib.Omega.{arith}
+use Rattle.wire.specs.Fields.{Field, fieldsAfter, fields, fieldAt, stepOf, whole}
+use Rattle.wire.specs.declared.fields.NextField.{NextField}
+use Rattle.wire.specs.declared.fields.NextField.the-variants.{Found, Stop}
+use Rattle.wire.proofs.NumberLaws.{body-length}
+use Rattle.wire.proofs.FieldLaws.{FieldAt, field-at, stop-at, Walked, walked-none, walked-more, whole-end, whole-left}
+use Rattle.calls.specs.Lists.{allOf, inOrder}
+use Rattle.calls.specs.CallList.{Head, headOf, headOk, bodies, firstBody, callListOf, shaped, volumeShapes, requestShapes, laidOut}
+use Rattle.calls.specs.Limits.{listWithin}
+use Rattle.calls.specs.Refusals.{test, verdict}
+use Rattle.reader.specs.CallFields.{restShapes, callFieldOk, startsOk, fieldFrom, leastOf, follows, headWithin, fieldWithin}
+use Rattle.reader.specs.Table.{slotOf, mostOf, room, Passed, Indexed, Counted, countsIn, requestBodies, Tabled}
+use Rattle.reader.specs.Readings.{listRefusal}
+use Rattle.reader.proofs.BoolLaws.{apart, and-left, and-right, fails}
+use Rattle.reader.proofs.ListLaws.{all-true, all-map, bodies-here, bodies-other}
+use Rattle.reader.proofs.LayoutLaws.{Listed, listed, listed-above, laidFields, laid-is, laid-none}
+use Rattle.reader.proofs.SlotLaws.{inSlot, AllListed, slot-at, slot-alloc, slot-lru, slot-freespace, slot-need-discard, slot-backpointers, slot-gens, slot-reserved, slot-requests, no-pieces, no-releases}
+use Rattle.reader.proofs.LimitLaws.{Within, within-parts, parts-within, fields-within, within-alloc, within-run, within-waiting, within-reserved, few-at}
+use Rattle.reader.proofs.PlaceLaws.{within-cut, follows-cut, listed-least, listed-most, here-at}
+use Rattle.reader.proofs.TableLaws.{room-true, room-false}
+use Rattle.reader.proofs.NotingLaws.{Noting, noting-none, noting-more, place-fits, row-full, field-over, row-counted, row-tabled, all-within}
+
+-- the first field
+
+pub starts-none : (s : List ℕ) (call : ℕ) (any : Bool) → stepOf 0 s ≡ Stop → startsOk call any (fields s) ≡ false
+unfolding startsOk
+starts-none s call any e = ap (startsOk call any) (stop-at s 0 e)
+
+module _ (s : List ℕ) (call : ℕ) (any : Bool) (t b n : ℕ) (f : FieldAt s 0 t b n) where
+  pub starts-tag : (t ≡ 1 → ⊥) → startsOk call any (fields s) ≡ false
+  unfolding startsOk
+  starts-tag h = ap (startsOk call any) (f .here) ∙ simp (ne-eqb t 1 h)
+
+  pub starts-size : (n ≡ 39 → ⊥) → startsOk call any (fields s) ≡ false
+  unfolding startsOk
+  starts-size h = ap (startsOk call any) (f .here) ∙ simp (body-length s b n (f .within), ne-eqb n 39 h, and-false)
+
+  pub starts-is :
+      t ≡ 1 → n ≡ 39 → (h : Head) → h ≡ headOf (take 39 (drop b s))
+      → startsOk call any (fields s) ≡ (headOk h && (any || eqb (h .call) call))
+  unfolding startsOk
+  starts-is e z h k =
+      let l : length (take n (drop b s)) ≡ 39 = body-length s b n (f .within) ∙ z in
+      let g : headOf (take n (drop b s)) ≡ h = ap (λ (m : ℕ). headOf (take m (drop b s))) z ∙ sym k in
+      ap (startsOk call any) (f .here) ∙ simp (eq-eqb t 1 e, l, g)
+
+-- what the head decides
+pub head-bad : (h x : Bool) → h ≡ false → (h && x) ≡ false
+head-bad h x e = simp e
+
+pub head-any : (h any x : Bool) → h ≡ true → any ≡ true → (h && (any || x)) ≡ true
+head-any h any x e a = simp (e, a)
+
+pub head-own : (h any x : Bool) → h ≡ true → any ≡ false → (h && (any || x)) ≡ x
+head-own h any x e a = simp (e, a)
+
+-- field 1 stands first, with the fields after it from place 42 on
+pub record Opened (s : List ℕ) (call : ℕ) (any : Bool) : Type 0 where
+  pub first : FieldAt s 0 1 3 39
+  pub starts : startsOk call any (fields s) ≡ true
+
+pub opened : (s : List ℕ) (call : ℕ) (any : Bool) → startsOk call any (fields s) ≡ true → Opened s call any
+unfolding startsOk
+opened s call any h = go (stepOf 0 s) refl
+  where
+    at-1 : (t b n : ℕ) → FieldAt s 0 t b n → t ≡ 1 → n ≡ 39 → b ≡ 3 → FieldAt s 0 1 3 39
+    at-1 t b n f et en eb = rw (et, en, eb) at f
+
+    go : (x : NextField) → stepOf 0 s ≡ x → Opened s call any
+    go Stop e = apart (sym h ∙ starts-none s call any e)
+    go (Found t b n) e =
+        let f = field-at s 0 t b n e in
+        let k : startsOk call any (fieldAt s t b n ∷ fields (drop (b + n) s)) ≡ true = ap (startsOk call any) (sym (f .here)) ∙ h in
+        let k1 = and-left (eqb t 1 && eqb (length (take n (drop b s))) 39) _ k in
+        let z = eqb-true (length (take n (drop b s))) 39 (and-right (eqb t 1) _ k1) in
+        record {
+          first =
+              at-1 t b n f (eqb-true t 1 (and-left _ _ k1)) (sym (body-length s b n (f .within)) ∙ z) (f .on);
+          starts = h;
+        }
+
+-- the number of a refusal
+
+list-laid :
+    (s : List ℕ) (call : ℕ) (any : Bool)
+    → (laidOut (volumeShapes ++ requestShapes call) s && (any || eqb (callListOf (fields s) .volume .head .call) call))
+    ≡ (whole s && laidFields call any (fields s))
+unfolding laidOut
+list-laid s call any = and-assoc (whole s) _ _
+
+by-tests : (a b : Bool) → verdict (test 2 a ∷ test 3 b ∷ []) ≡ cond a (cond b 0 3) 2
+unfolding verdict
+by-tests false b = refl
+by-tests true false = refl
+by-tests true true = refl
+
+pub refusal-is :
+    (s : List ℕ) (call : ℕ) (any : Bool)
+    → listRefusal call any s ≡ cond (whole s && laidFields call any (fields s)) (cond (listWithin (callListOf (fields s))) 0 3) 2
+unfolding listRefusal
+refusal-is s call any =
+    by-tests
+    (laidOut (volumeShapes ++ requestShapes call) s && (any || eqb (callListOf (fields s) .volume .head .call) call))
+    (listWithin (callListOf (fields s)))
+    ∙ ap (λ (a : Bool). cond a (cond (listWithin (callListOf (fields s))) 0 3) 2) (list-laid s call any)
+
+-- a refusal with a number that is not 0
+abbrev pub RefusedBy : ℕ → List ℕ → ℕ → Bool → Type 0
+RefusedBy n s call any = (n ≡ listRefusal call any s) × (0 < listRefusal call any s)
+
+refused : (s : List ℕ) (call : ℕ) (any : Bool) (n : ℕ) → listRefusal call any s ≡ n → 0 < n → RefusedBy n s call any
+refused s call any n e h = (sym e, omega arith)
+
+pub broken : (s : List ℕ) (call : ℕ) (any : Bool) → laidFields call any (fields s) ≡ false → RefusedBy 2 s call any
+broken s call any h = refused s call any 2 (refusal-is s call any ∙ simp (h, and-false)) (omega arith)
+
+pub cut : (s : List ℕ) (call : ℕ) (any : Bool) → whole s ≡ false → RefusedBy 2 s call any
+cut s call any h = refused s call any 2 (refusal-is s call any ∙ simp h) (omega arith)
+
+pub passed-by :
+    (s : List ℕ) (call : ℕ) (any : Bool) → whole s ≡ true → laidFields call any (fields s) ≡ true
+    → listWithin (callListOf (fields s)) ≡ false → RefusedBy 3 s call any
+passed-by s call any h l k = refused s call any 3 (refusal-is s call any ∙ simp (h, l, k)) (omega arith)
+
+pub accepted :
+    (s : List ℕ) (call : ℕ) (any : Bool) → whole s ≡ true → laidFields call any (fields s) ≡ true
+    → listWithin (callListOf (fields s)) ≡ true → 0 ≡ listRefusal call any s
+accepted s call any h l k = sym (refusal-is s call any ∙ simp (h, l, k))
+
+pub not-started : (s : List ℕ) (call : ℕ) (any : Bool) → startsOk call any (fields s) ≡ false → RefusedBy 2 s call any
+not-started s call any h = broken s call any (go (fields s) h)
+  where
+    go : (fs : List Field) → startsOk call any fs ≡ false → laidFields call any fs ≡ false
+    go [] h = laid-none call any
+    go (f ∷ fs) h = laid-is call any f fs ∙ simp h
+
+-- the loop's invariant
+
+-- what is known of the limits: one is passed, if the layout is right to the end; or none was yet
+abbrev pub Limits : List ℕ → ℕ → ℕ → List ℕ → List ℕ → Bool → Type 0
+Limits s call at counts index true = AllListed call (fields (drop 42 s)) → listWithin (callListOf (fields s)) ≡ false
+Limits s call at counts index false =
+    Noting s (fields (drop 42 s)) at counts index × (headWithin (headOf (take 39 (drop 3 s))) ≡ true)
+
+pub record Going (s : List ℕ) (call : ℕ) (any : Bool) (at last before : ℕ) (over : Bool) (counts index : List ℕ) : Type 0 where
+  pub open1 : Opened s call any
+  pub walked : Walked s at
+  pub len : ℕ
+  pub inside : before + len ≤ length s
+  pub least : leastOf last ≤ len
+  pub order : inOrder follows (fieldAt s last before len ∷ fields (drop at s)) ≡ inOrder follows (fields s)
+  pub fine : allOf (callFieldOk call) (fields (drop at s)) ≡ allOf (callFieldOk call) (fields (drop 42 s))
+  pub width : length counts ≡ 8
+  pub size : length index ≡ 29696
+  pub limits : Limits s call at counts index over
+
+-- the head's limits
+head-of : (s : List ℕ) (call : ℕ) (any : Bool) → Opened s call any → firstBody (bodies 1 (fields s)) ≡ take 39 (drop 3 s)
+head-of s call any o =
+    ap (λ (fs : List Field). firstBody (bodies 1 fs)) (o .first .here)
+    ∙ ap firstBody (bodies-here 1 (fieldAt s 1 3 39) (fields (drop 42 s)) refl)
+
+over-head :
+    (s : List ℕ) (call : ℕ) (any : Bool) → Opened s call any → headWithin (headOf (take 39 (drop 3 s))) ≡ false
+    → listWithin (callListOf (fields s)) ≡ false
+over-head s call any o h =
+    fails _ _
+    (λ k. ap (λ (b : List ℕ). headWithin (headOf b)) (sym (head-of s call any o)) ∙ within-parts (fields s) k .head) h
+
+pub going-start :
+    (s : List ℕ) (call : ℕ) (any : Bool) (index : List ℕ) (r : Bool) → Opened s call any → length index ≡ 29696
+    → r ≡ headWithin (headOf (take 39 (drop 3 s)))
+    → Going s call any 42 1 3 (not r) (0 ∷ 0 ∷ 0 ∷ 0 ∷ 0 ∷ 0 ∷ 0 ∷ 0 ∷ []) index
+going-start s call any index r o z e =
+    record {
+      open1 = o;
+      walked = walked-more s 0 (walked-none s) 1 3 39 (o .first);
+      len = 39;
+      inside = o .first .within;
+      least = omega arith;
+      order = ap (inOrder follows) (sym (o .first .here));
+      fine = refl;
+      width = refl;
+      size = z;
+      limits = begin r e;
+    }
+  where
+    begin :
+        (r : Bool) → r ≡ headWithin (headOf (take 39 (drop 3 s)))
+        → Limits s call 42 (0 ∷ 0 ∷ 0 ∷ 0 ∷ 0 ∷ 0 ∷ 0 ∷ 0 ∷ []) index (not r)
+    begin true e = (noting-none s index, sym e)
+    begin false e = λ l. over-head s call any o (sym e)
+
+-- the layout of the whole list, by what is left of it
+laid-here :
+    (s : List ℕ) (call : ℕ) (any : Bool) → Opened s call any
+    → laidFields call any (fields s) ≡ (allOf (callFieldOk call) (fields (drop 42 s)) && inOrder follows (fields s))
+laid-here s call any o =
+    let f = fieldAt s 1 3 39 in
+    let fs = fields (drop 42 s) in
+    ap (laidFields call any) (o .first .here) ∙ laid-is call any f fs
+    ∙ ap (λ (b : Bool). b && (allOf (callFieldOk call) fs && inOrder follows (f ∷ fs)))
+    (ap (startsOk call any) (sym (o .first .here)) ∙ o .starts)
+    ∙ ap (λ (gs : List Field). allOf (callFieldOk call) fs && inOrder follows gs) (sym (o .first .here))
+
+-- what the fields after field 1 are, in a list that is laid out
+pub all-listed : (call : ℕ) (fs : List Field) → allOf (callFieldOk call) fs ≡ true → AllListed call fs
+unfolding callFieldOk
+all-listed call fs h = all-map (λ f k. listed call f (and-left (shaped (restShapes call) f) _ k)) (all-true (callFieldOk call) fs h)
+
+ok-listed :
+    (s : List ℕ) (call t b n : ℕ) → b + n ≤ length s → callFieldOk call (fieldAt s t b n) ≡ true → Listed call t n
+unfolding callFieldOk
+ok-listed s call t b n w h =
+    let l = listed call (fieldAt s t b n) (and-left (shaped (restShapes call) (fieldAt s t b n)) _ h) in
+    rw (body-length s b n w) at l
+
+-- the bodies of a tag above 1 are those after field 1
+pub after-first :
+    (s : List ℕ) (call : ℕ) (any : Bool) → Opened s call any → (t : ℕ) → 1 < t → bodies t (fields s) ≡ bodies t (fields (drop 42 s))
+after-first s call any o t h =
+    ap (bodies t) (o .first .here) ∙ bodies-other t (fieldAt s 1 3 39) (fields (drop 42 s)) (λ e. omega arith)
+
+module _
+    (s : List ℕ) (call : ℕ) (any : Bool) (at last before : ℕ) (over : Bool) (counts index : List ℕ)
+    (g : Going s call any at last before over counts index) where
+  pub last-within : before + leastOf last ≤ length s
+  last-within = omega (arith, g .inside, g .least)
+
+  pub breaks : stepOf at (drop at s) ≡ Stop → at < length s → RefusedBy 2 s call any
+  breaks e h = cut s call any (whole-left s at (g .walked) e h)
+
+  module _ (t b n : ℕ) (f : FieldAt s at t b n) where
+    pub bad : callFieldOk call (fieldAt s t b n) ≡ false → RefusedBy 2 s call any
+    unfolding allOf
+    bad h =
+        let z : allOf (callFieldOk call) (fields (drop 42 s)) ≡ false = sym (g .fine) ∙ ap (allOf (callFieldOk call)) (f .here) ∙ simp h in
+        broken s call any (laid-here s call any (g .open1) ∙ simp z)
+
+    module _ (ok : callFieldOk call (fieldAt s t b n) ≡ true) where
+      pub next-listed : Listed call t n
+      next-listed = ok-listed s call t b n (f .within) ok
+
+      pub next-within : b + leastOf t ≤ length s
+      next-within = omega (arith, f .within, listed-least next-listed)
+
+      -- the order of the fields, with the one that comes
+      order-here :
+          (follows (fieldFrom s last before) (fieldFrom s t b)
+          && inOrder follows (fieldAt s t b n ∷ fields (drop (b + n) s)))
+          ≡ inOrder follows (fields s)
+      unfolding inOrder
+      order-here =
+          ap (λ (x : Bool). x && inOrder follows (fieldAt s t b n ∷ fields (drop (b + n) s)))
+          (sym (follows-cut s last before (g .len) t b n (g .least) (listed-least next-listed)))
+          ∙ ap (λ (fs : List Field). inOrder follows (fieldAt s last before (g .len) ∷ fs)) (sym (f .here))
+          ∙ g .order
+
+      pub back : follows (fieldFrom s last before) (fieldFrom s t b) ≡ false → RefusedBy 2 s call any
+      back h =
+          let z : inOrder follows (fields s) ≡ false = sym order-here ∙ simp h in
+          broken s call any (laid-here s call any (g .open1) ∙ simp (z, and-false))
+
+-- a limit that is passed
+
+refute : (a : Bool) → (a ≡ true → ⊥) → a ≡ false
+refute true h = absurd (h refl)
+refute false h = refl
+
+module _ (s : List ℕ) (call : ℕ) (any : Bool) (o : Opened s call any) where
+  rest-within : allOf fieldWithin (fields s) ≡ true → allOf fieldWithin (fields (drop 42 s)) ≡ true
+  unfolding allOf
+  rest-within h = and-right (fieldWithin (fieldAt s 1 3 39)) _ (ap (allOf fieldWithin) (sym (o .first .here)) ∙ h)
+
+  over-field : allOf fieldWithin (fields (drop 42 s)) ≡ false → listWithin (callListOf (fields s)) ≡ false
+  over-field h = fails _ _ (λ k. rest-within (fields-within (fields s) (within-parts (fields s) k))) h
+
+  over-row :
+      (t n : ℕ) → Listed call t n → AllListed call (fields (drop 42 s))
+      → mostOf (slotOf t) < length (inSlot (slotOf t) (fields (drop 42 s))) → listWithin (callListOf (fields s)) ≡ false
+  over-row t n l r h =
+      refute (listWithin (callListOf (fields s)))
+      (λ k.
+      omega (arith, few-at (fields s) (within-parts (fields s) k) l, ap length (after-first s call any o t (listed-above l)), ap length (slot-at l (fields (drop 42 s)) r)))
+
+-- one more field
+
+set-length : (r : Bool) (xs : List ℕ) (i v : ℕ) → length (cond r xs (set xs i v)) ≡ length xs
+set-length true xs i v = refl
+set-length false xs i v = length-set xs i v
+
+module _
+    (s : List ℕ) (call : ℕ) (any : Bool) (at last before : ℕ) (over : Bool) (counts index : List ℕ)
+    (g : Going s call any at last before over counts index) (t b n : ℕ) (e : stepOf at (drop at s) ≡ Found t b n)
+    (ok : callFieldOk call (fieldAt s t b n) ≡ true) where
+  f : FieldAt s at t b n
+  f = field-at s at t b n e
+
+  l : Listed call t n
+  l = ok-listed s call t b n (f .within) ok
+
+  here-within : (q : Bool) → q ≡ fieldWithin (fieldFrom s t b) → fieldWithin (fieldAt s t b n) ≡ q
+  here-within q h = within-cut s b n t (listed-least l) ∙ sym h
+
+  limits-next :
+      (o p q : Bool) → p ≡ fieldWithin (fieldFrom s t b) → q ≡ room counts (slotOf t) b → Limits s call at counts index o
+      → Limits s call (b + n)
+      (cond (o || (not p || not q)) counts (set counts (slotOf t) (getD counts (slotOf t) 0 + 1)))
+      (cond (o || (not p || not q)) index (set index (slotOf t * 4096 + getD counts (slotOf t) 0) b))
+      (o || (not p || not q))
+  limits-next true p q hp hq w = w
+  limits-next false false q hp hq w =
+      λ r.
+      over-field s call any (g .open1)
+      (field-over s (fields (drop 42 s)) at counts index (g .width) (w .0) t b n f (here-within false hp))
+  limits-next false true false hp hq w =
+      λ r.
+      over-row s call any (g .open1) t n l r
+      (row-full s (fields (drop 42 s)) at counts index (g .width) (w .0) t b n f
+      (room-false counts (slotOf t) b
+      (omega (arith, f .on, place-fits s (fields (drop 42 s)) at counts index (g .width) (w .0))) hq))
+  limits-next false true true hp hq w = (
+    noting-more s (fields (drop 42 s)) at counts index (g .width) (w .0) t b n f (g .size) (here-at s at t b n e f)
+        (listed-most l) (here-within true hp) (room-true counts (slotOf t) b hq),
+    w .1,
+  )
+
+  pub goes-on :
+      (counts′ index′ : List ℕ) (r : Bool) → follows (fieldFrom s last before) (fieldFrom s t b) ≡ true
+      → Passed s over t b counts counts′ index index′ r → Going s call any (b + n) t b r counts′ index′
+  unfolding allOf
+  goes-on counts′ index′ r h p =
+      record {
+        open1 = g .open1;
+        walked = walked-more s at (g .walked) t b n f;
+        len = n;
+        inside = f .within;
+        least = listed-least l;
+        order = simp h at (order-here s call any at last before over counts index g t b n f ok);
+        fine = simp ok at (ap (allOf (callFieldOk call)) (sym (f .here)) ∙ g .fine);
+        width = ap length (p .counted) ∙ set-length r counts (slotOf t) _ ∙ g .width;
+        size = ap length (p .placed) ∙ set-length r index _ b ∙ g .size;
+        limits =
+            rw (p .counted, p .placed, p .answer)
+            (limits-next over (fieldWithin (fieldFrom s t b)) (room counts (slotOf t) b) refl refl (g .limits));
+      }
+
+-- the end of the list
+
+module _
+    (s : List ℕ) (call : ℕ) (any : Bool) (at last before : ℕ) (over : Bool) (counts index : List ℕ)
+    (g : Going s call any at last before over counts index) (e : length s ≤ at) where
+  nothing-left : drop at s ≡ []
+  nothing-left = drop-of-length-le s {i = at} e
+
+  all-fine : allOf (callFieldOk call) (fields (drop 42 s)) ≡ true
+  unfolding allOf fieldsAfter
+  all-fine = sym (rw nothing-left at (g .fine))
+
+  all-ordered : inOrder follows (fields s) ≡ true
+  unfolding inOrder fieldsAfter
+  all-ordered = sym (rw nothing-left at (g .order))
+
+  to-the-end : whole s ≡ true
+  to-the-end = whole-end s at (g .walked) (omega (arith, g .walked .within))
+
+  all-laid : laidFields call any (fields s) ≡ true
+  all-laid = laid-here s call any (g .open1) ∙ simp (all-fine, all-ordered)
+
+  rest : AllListed call (fields (drop 42 s))
+  rest = all-listed call (fields (drop 42 s)) all-fine
+
+  pub ends-over : over ≡ true → RefusedBy 3 s call any
+  ends-over h = passed-by s call any to-the-end all-laid (limit over h (g .limits))
+    where
+      limit : (o : Bool) → o ≡ true → Limits s call at counts index o → listWithin (callListOf (fields s)) ≡ false
+      limit true z w = w rest
+      limit false z w = apart (sym z)
+
+  module _ (h : over ≡ false) where
+    noted : Noting s (fields (drop 42 s)) at counts index × (headWithin (headOf (take 39 (drop 3 s))) ≡ true)
+    noted = none-passed over h (g .limits)
+      where
+        none-passed :
+            (o : Bool) → o ≡ false → Limits s call at counts index o
+            → Noting s (fields (drop 42 s)) at counts index × (headWithin (headOf (take 39 (drop 3 s))) ≡ true)
+        none-passed true z w = apart z
+        none-passed false z w = w
+
+    -- a row's bodies, in the whole list
+    row-bodies : (k t : ℕ) → 1 < t → inSlot k (fields (drop 42 s)) ≡ bodies t (fields (drop 42 s)) → inSlot k (fields (drop 42 s)) ≡ bodies t (fields s)
+    row-bodies k t l z = z ∙ sym (after-first s call any (g .open1) t l)
+
+    row-requests : inSlot 7 (fields (drop 42 s)) ≡ requestBodies call (fields s)
+    row-requests =
+        slot-requests call (fields (drop 42 s)) rest
+        ∙ sym
+        (λ i.
+        cond (eqb call 1) (after-first s call any (g .open1) 65 (omega arith) i)
+        (cond (eqb call 2) (after-first s call any (g .open1) 66 (omega arith) i) []))
+
+    count-is : (k : ℕ) (bs : List (List ℕ)) → k < 8 → inSlot k (fields (drop 42 s)) ≡ bs → getD counts k 0 ≡ length bs
+    count-is k bs l z = row-counted s (fields (drop 42 s)) at counts index (noted .0) e k l ∙ ap length z
+
+    few-is : (k : ℕ) (bs : List (List ℕ)) → k < 8 → inSlot k (fields (drop 42 s)) ≡ bs → length bs ≤ mostOf k
+    few-is k bs l z = omega (arith, count-is k bs l z, noted .0 .few k l)
+
+    table-is : (k base : ℕ) (bs : List (List ℕ)) → k < 8 → k * 4096 ≡ base → inSlot k (fields (drop 42 s)) ≡ bs → Tabled s index base bs
+    table-is k base bs l m z = rw z at (row-tabled s (fields (drop 42 s)) at counts index (noted .0) e k base l m)
+
+    alloc : inSlot 0 (fields (drop 42 s)) ≡ bodies 4 (fields s)
+    alloc = row-bodies 0 4 (omega arith) (slot-alloc call (fields (drop 42 s)) rest)
+
+    lru : inSlot 1 (fields (drop 42 s)) ≡ bodies 10 (fields s)
+    lru = row-bodies 1 10 (omega arith) (slot-lru call (fields (drop 42 s)) rest)
+
+    freespace : inSlot 2 (fields (drop 42 s)) ≡ bodies 11 (fields s)
+    freespace = row-bodies 2 11 (omega arith) (slot-freespace call (fields (drop 42 s)) rest)
+
+    needDiscard : inSlot 3 (fields (drop 42 s)) ≡ bodies 12 (fields s)
+    needDiscard = row-bodies 3 12 (omega arith) (slot-need-discard call (fields (drop 42 s)) rest)
+
+    backpointers : inSlot 4 (fields (drop 42 s)) ≡ bodies 13 (fields s)
+    backpointers = row-bodies 4 13 (omega arith) (slot-backpointers call (fields (drop 42 s)) rest)
+
+    gens : inSlot 5 (fields (drop 42 s)) ≡ bodies 14 (fields s)
+    gens = row-bodies 5 14 (omega arith) (slot-gens call (fields (drop 42 s)) rest)
+
+    reserved : inSlot 6 (fields (drop 42 s)) ≡ bodies 64 (fields s)
+    reserved = row-bodies 6 64 (omega arith) (slot-reserved call (fields (drop 42 s)) rest)
+
+    pub ends-counted : Counted call s (countsIn counts)
+    ends-counted =
+        record {
+          alloc = count-is 0 _ (omega arith) alloc;
+          lru = count-is 1 _ (omega arith) lru;
+          freespace = count-is 2 _ (omega arith) freespace;
+          needDiscard = count-is 3 _ (omega arith) needDiscard;
+          backpointers = count-is 4 _ (omega arith) backpointers;
+          gens = count-is 5 _ (omega arith) gens;
+          reserved = count-is 6 _ (omega arith) reserved;
+          requests = count-is 7 _ (omega arith) row-requests;
+        }
+
+    pub ends-indexed : Indexed call s index
+    ends-indexed =
+        record {
+          alloc = table-is 0 0 _ (omega arith) refl alloc;
+          lru = table-is 1 4096 _ (omega arith) refl lru;
+          freespace = table-is 2 8192 _ (omega arith) refl freespace;
+          needDiscard = table-is 3 12288 _ (omega arith) refl needDiscard;
+          backpointers = table-is 4 16384 _ (omega arith) refl backpointers;
+          gens = table-is 5 20480 _ (omega arith) refl gens;
+          reserved = table-is 6 24576 _ (omega arith) refl reserved;
+          requests = table-is 7 28672 _ (omega arith) refl row-requests;
+        }
+
+    fields-ok : allOf fieldWithin (fields s) ≡ true
+    unfolding allOf fieldWithin
+    fields-ok =
+        ap (allOf fieldWithin) (g .open1 .first .here)
+        ∙ all-within s (fields (drop 42 s)) at counts index (noted .0) e
+
+    -- the requests of the call are within their limit, and the other call's are none
+    pieces-few : length (bodies 65 (fields s)) ≤ 1024
+    pieces-few = go (eqb call 1) refl
+      where
+        go : (p : Bool) → eqb call 1 ≡ p → length (bodies 65 (fields s)) ≤ 1024
+        go true x = few-is 7 (bodies 65 (fields s)) (omega arith) (row-requests ∙ simp x)
+        go false x =
+            omega (arith, ap length (after-first s call any (g .open1) 65 (omega arith) ∙ no-pieces call (fields (drop 42 s)) rest (eqb-false call 1 x)))
+
+    releases-few : length (bodies 66 (fields s)) ≤ 1024
+    releases-few = go (eqb call 2) refl
+      where
+        go : (p : Bool) → eqb call 2 ≡ p → length (bodies 66 (fields s)) ≤ 1024
+        go true x =
+            few-is 7 (bodies 66 (fields s)) (omega arith) (row-requests ∙ simp (ne-eqb call 1 (λ z. omega (arith, eqb-true call 2 x)), x))
+        go false x =
+            omega (arith, ap length (after-first s call any (g .open1) 66 (omega arith) ∙ no-releases call (fields (drop 42 s)) rest (eqb-false call 2 x)))
+
+    head-is : firstBody (bodies 1 (fields s)) ≡ take 39 (drop 3 s)
+    head-is = head-of s call any (g .open1)
+
+    pub ends-headed : callListOf (fields s) .volume .head ≡ headOf (take 39 (drop 3 s))
+    unfolding callListOf
+    ends-headed = ap headOf head-is
+
+    within-all : Within (fields s)
+    within-all =
+        record {
+          alloc = few-is 0 _ (omega arith) alloc;
+          lru = few-is 1 _ (omega arith) lru;
+          freespace = few-is 2 _ (omega arith) freespace;
+          needDiscard = few-is 3 _ (omega arith) needDiscard;
+          backpointers = few-is 4 _ (omega arith) backpointers;
+          gens = few-is 5 _ (omega arith) gens;
+          allocKeys = within-alloc (fields s) fields-ok;
+          waitingKeys = within-waiting (fields s) fields-ok;
+          runKeys = within-run (fields s) fields-ok;
+          reserved = few-is 6 _ (omega arith) reserved;
+          reservedRange = within-reserved (fields s) fields-ok;
+          head = ap (λ (b : List ℕ). headWithin (headOf b)) head-is ∙ noted .1;
+          pieces = pieces-few;
+          releases = releases-few;
+        }
+
+    pub ends-accepted : 0 ≡ listRefusal call any s
+    ends-accepted = accepted s call any to-the-end all-laid (parts-within (fields s) within-all)

@@ -1,0 +1,42 @@
+-- `passes` meets its contract.
+use mathlib.Core.Path.{sym, _∙_}
+use denote.Ref.{now}
+use borrow.Author.Needs.{needs}
+use borrow.Author.Tests.{not-true, not-false}
+use Rattle.reader.proofs.SlotLaws.{slot-below}
+use Rattle.reader.proofs.TableLaws.{passed-limit, passed-noted}
+use Rattle.reader.proofs.call.passes.Statement.{statement}
+use Rattle.reader.proofs.call.passes.Tie as tie
+
+returns : tie.Need-returns
+returns c = search needs
+
+field-within-requires : tie.Need-field-within-requires
+field-within-requires c κs = search needs
+
+returns-2 : tie.Need-returns-2
+returns-2 c =
+    let a = c .before .before .before .before .before .args in
+    passed-limit (now (a .s)) (a .over) (a .tag) (a .start) (now (a .counts)) (now (a .index)) (c .before .before .if1 .left)
+    (sym (c .before .field-within .ensures) ∙ not-true _ (c .if2 .taken))
+
+slot-of-requires : tie.Need-slot-of-requires
+slot-of-requires c κs = search needs
+
+note-requires : tie.Need-note-requires
+note-requires c κs = (rw (c .slot-of .ensures) (slot-below _), c .before .before .before .before .before .before .before .before .pre .1)
+
+same-length : tie.Need-same-length
+same-length c = search needs
+
+returns-3 : tie.Need-returns-3
+returns-3 c =
+    let a = c .before .before .before .before .before .before .before .before .before .before .before .args in
+    passed-noted (now (a .s)) (a .over) (a .tag) (a .start) (now (a .counts)) _ (now (a .index)) _ _ _
+    (c .before .before .before .before .before .before .before .before .if1 .left)
+    (sym (c .before .before .before .before .before .before .before .field-within .ensures) ∙ not-false _ (c .before .before .before .before .before .before .if2 .left))
+    (c .before .before .before .slot-of .ensures)
+    (c .before .before .note .ensures)
+
+pub passes-spec : {M : Type 1} → statement M
+passes-spec = tie.close (tie.spec returns field-within-requires returns-2 slot-of-requires note-requires same-length returns-3)

@@ -1,0 +1,43 @@
+-- The answers of the readers: refusals 2 and 3, or the head, the counts and the table.
+use Prim.Native.Nat.{ℕ, _<_}
+use mathlib.Core.Path.{_≡_}
+use mathlib.Core.List.{List, [], _∷_, _++_}
+use mathlib.Core.Bool.{Bool, _&&_, _||_}
+use lib.Dec.{eqb}
+use Rattle.wire.specs.Fields.{fields}
+use Rattle.calls.specs.CallList.{callListOf, laidOut, volumeShapes, requestShapes, callLaidOut, volumeLaidOut}
+use Rattle.calls.specs.Limits.{volumeWithin, listWithin}
+use Rattle.calls.specs.Refusals.{test, verdict}
+use Rattle.reader.specs.Heads.{headIn}
+use Rattle.reader.specs.Table.{Indexed, Counted}
+use Rattle.reader.specs.declared.head.Head.{Head}
+use Rattle.reader.specs.declared.table.Counts.{Counts}
+use Rattle.reader.specs.declared.call.Reading.{Reading}
+use Rattle.reader.specs.declared.call.Reading.the-variants.{Refused, Read}
+
+-- refusals 2 and 3 of a call, in their order
+unfoldable pub callRefusal : ℕ → List ℕ → ℕ
+callRefusal call s = verdict (test 2 (callLaidOut call s) ∷ test 3 (listWithin (callListOf (fields s))) ∷ [])
+
+unfoldable pub volumeRefusal : List ℕ → ℕ
+volumeRefusal s = verdict (test 2 (volumeLaidOut s) ∷ test 3 (volumeWithin (callListOf (fields s) .volume)) ∷ [])
+
+-- a list of this call, or with `any` of whatever call its head names
+unfoldable pub listRefusal : ℕ → Bool → List ℕ → ℕ
+listRefusal call any s =
+    verdict
+    (test 2
+    (laidOut (volumeShapes ++ requestShapes call) s && (any || eqb (callListOf (fields s) .volume .head .call) call))
+    ∷ test 3 (listWithin (callListOf (fields s)))
+    ∷ [])
+
+-- a list that was read: its head, its counts and its table
+pub record ListRead (call : ℕ) (s index : List ℕ) (h : Head) (c : Counts) : Type 0 where
+  pub head : headIn h ≡ callListOf (fields s) .volume .head
+  pub counts : Counted call s c
+  pub table : Indexed call s index
+
+-- the refusal's number, or 0 and the list
+abbrev pub Answered : ℕ → ℕ → List ℕ → List ℕ → Reading → Type 0
+Answered number call s index (Refused n) = (n ≡ number) × (0 < number)
+Answered number call s index (Read h c) = (0 ≡ number) × ListRead call s index h c

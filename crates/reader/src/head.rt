@@ -1,0 +1,66 @@
+// Field 1: the head of a call list.
+ghost use mathlib.Core.Path.{_≡_};
+ghost use Prim.Native.Nat.{_+_, _≤_};
+ghost use lib.ListN.{length, take, drop};
+ghost use Rattle.calls.specs.CallList.{headOf, headOk};
+ghost use Rattle.reader.specs.CallFields.{headWithin};
+ghost use Rattle.reader.specs.Heads.{headIn};
+use wire::kinds;
+use wire::kinds::FileSector;
+use wire::le;
+
+pub struct Head {
+    pub call: u8,
+    pub bucket_sectors: u16,
+    pub block_sectors: u16,
+    pub option: u8,
+    pub roots: u8,
+    pub reserve: u32,
+    pub batch: u32,
+    pub journal: u64,
+    pub inode: u64,
+    pub base: FileSector,
+}
+
+// The head whose body starts at a place of a list. The length of field 1 shows the bound.
+pub fn read_head(s: &[u8], at: usize) -> Head
+    requires { ⌜ at + 39 ≤ length (now s) ⌝ }
+    ensures { λ r. ⌜ headIn r ≡ headOf (take 39 (drop at (now (s .entry)))) ⌝ }
+{
+    Head {
+        call: le::le8(s, at),
+        bucket_sectors: le::le16(s, at + 1),
+        block_sectors: le::le16(s, at + 3),
+        option: le::le8(s, at + 5),
+        roots: le::le8(s, at + 6),
+        reserve: le::le32(s, at + 7),
+        batch: le::le32(s, at + 11),
+        journal: le::le64(s, at + 15),
+        inode: le::le64(s, at + 23),
+        base: FileSector(le::le64(s, at + 31)),
+    }
+}
+
+// Whether a head names a call, and no root that there is not.
+pub fn head_ok(h: Head) -> bool
+    ensures { λ r. ⌜ r ≡ headOk (headIn h) ⌝ }
+{
+    if h.call < 1 {
+        return false;
+    }
+    if 3 < h.call {
+        return false;
+    }
+    h.roots < 8
+}
+
+// Whether a head is within document 01's limits.
+pub fn head_within(h: Head) -> bool
+    ensures { λ r. ⌜ r ≡ headWithin (headIn h) ⌝ }
+{
+    if 65536 < h.reserve {
+        return false;
+    }
+    let base = h.base;
+    kinds::base_in_range(base)
+}

@@ -1,0 +1,9 @@
+// The readers of call lists, volumes and change lists: refusals 2 and 3, the head, and a table of where each field stands.
+pub mod call;
+pub mod change;
+pub mod head;
+pub mod keys;
+pub mod limits;
+pub mod order;
+pub mod piece;
+pub mod table;

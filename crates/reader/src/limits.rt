@@ -1,0 +1,64 @@
+// Document 01's limits on one field.
+ghost use mathlib.Core.Path.{_≡_};
+ghost use Prim.Native.Nat.{_+_, _≤_};
+ghost use lib.ListN.{length, drop};
+ghost use Rattle.wire.specs.Keys.{keyOf};
+ghost use Rattle.reader.specs.CallFields.{allocWithin, runWithin, waitingWithin, fieldWithin, fieldFrom, leastOf};
+use wire::bpos;
+use wire::kinds;
+use wire::le;
+use wire::positions;
+
+// Whether an alloc key at inode 0 is of a bucket in range. A key's length shows the bound here and below.
+fn alloc_within(s: &[u8], start: usize) -> bool
+    requires { ⌜ start + 37 ≤ length (now s) ⌝ }
+    ensures { λ r. ⌜ r ≡ allocWithin (keyOf (drop start (now (s .entry)))) ⌝ }
+{
+    let pos = bpos::read_pos(s, start + 17);
+    if pos.inode != 0 {
+        return true;
+    }
+    wire::kinds::bucket_in_range(positions::bucket_in(pos))
+}
+
+// Whether a type 25 freespace key at inode 0 ends in range.
+fn run_within(s: &[u8], start: usize) -> bool
+    requires { ⌜ start + 37 ≤ length (now s) ⌝ }
+    ensures { λ r. ⌜ r ≡ runWithin (keyOf (drop start (now (s .entry)))) ⌝ }
+{
+    let kind = le::le8(s, start);
+    if kind != 25 {
+        return true;
+    }
+    let pos = bpos::read_pos(s, start + 17);
+    if pos.inode != 0 {
+        return true;
+    }
+    kinds::run_end_in_range(positions::bucket_in(pos))
+}
+
+// Whether a need-discard key of type 25 is of a bucket in range.
+fn waiting_within(s: &[u8], start: usize) -> bool
+    requires { ⌜ start + 37 ≤ length (now s) ⌝ }
+    ensures { λ r. ⌜ r ≡ waitingWithin (keyOf (drop start (now (s .entry)))) ⌝ }
+{
+    let kind = le::le8(s, start);
+    if kind != 25 {
+        return true;
+    }
+    wire::kinds::bucket_in_range(positions::bucket_in(bpos::read_pos(s, start + 17)))
+}
+
+// Whether a field after field 1 keeps the limits. The length that its tag asks shows the bound.
+pub fn field_within(s: &[u8], tag: u8, start: usize) -> bool
+    requires { ⌜ start + leastOf tag ≤ length (now s) ⌝ }
+    ensures { λ r. ⌜ r ≡ fieldWithin (fieldFrom (now (s .entry)) tag start) ⌝ }
+{
+    match tag {
+        4 => alloc_within(s, start),
+        11 => run_within(s, start),
+        12 => waiting_within(s, start),
+        64 => wire::kinds::bucket_in_range(kinds::read_bucket(s, start)),
+        _ => true,
+    }
+}
