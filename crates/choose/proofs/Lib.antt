@@ -1,0 +1,14 @@
+pub mod BitLaws
+pub mod CheckedLaws
+pub mod ClockLaws
+pub mod EarlyLaws
+pub mod FreeLaws
+pub mod ListLaws
+pub mod MarkLaws
+pub mod PartLaws
+pub mod RecordLaws
+pub mod RequestLaws
+pub mod RunLaws
+pub mod TakeLaws
+pub mod TakenLaws
+pub mod WalkLaws

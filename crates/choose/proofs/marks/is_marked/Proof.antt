@@ -1,0 +1,19 @@
+-- `is_marked` meets its contract.
+use mathlib.Core.Path.{_≡_, refl, sym, ap, _∙_}
+use Rattle.choose.specs.Bits.{marked}
+use borrow.Author.Needs.{needs}
+use Rattle.choose.proofs.marks.is_marked.Statement.{statement}
+use Rattle.choose.proofs.marks.is_marked.Tie as tie
+
+element-copy-out-has-bit : tie.Need-element-copy-out-has-bit
+element-copy-out-has-bit c = search needs
+
+has-bit-requires : tie.Need-has-bit-requires
+has-bit-requires c κs = search needs
+
+returns : tie.Need-returns
+unfolding marked
+returns c = c .has-bit .ensures
+
+pub is-marked-spec : {M : Type 1} → statement M
+is-marked-spec = tie.close (tie.spec element-copy-out-has-bit has-bit-requires returns)

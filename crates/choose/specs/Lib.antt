@@ -1,0 +1,8 @@
+pub mod Bits
+pub mod Checked
+pub mod Parts
+pub mod Records
+pub mod Requests
+pub mod Runs
+pub mod Times
+pub mod Walks

@@ -1,0 +1,27 @@
+-- The table of the generation records.
+use Prim.Native.Nat.{ℕ, _/_, _<_}
+use mathlib.Core.Path.{_≡_}
+use mathlib.Core.Bool.{Bool, _&&_, cond}
+use mathlib.Core.List.{List}
+use mathlib.Core.Option.{Option, none, some}
+use lib.Dec.{ltb, eqb}
+use lib.ListN.{length, getD, set}
+use Rattle.wire.specs.Keys.{Key}
+use Rattle.wire.specs.declared.kinds.Bucket.{Bucket}
+use Rattle.calls.specs.Generations.{genRecord}
+use Rattle.choose.specs.Parts.{keyHere, Whole}
+
+-- the table after the key at an offset: a record is noted, another key at a record's place takes it out
+unfoldable pub noted : ℕ → Key → List ℕ → List ℕ
+noted at k table =
+    cond (eqb (k .pos .inode) 0 && (eqb (k .pos .snapshot) 0 && ltb (k .pos .offset) 256))
+    (set table (k .pos .offset) (cond (eqb (k .type) 30) at 0)) table
+
+-- what an entry stands for: the key at its offset, or none where it is 0
+abbrev pub recordAt : List ℕ → ℕ → Option Key
+recordAt s at = cond (eqb at 0) none (some (keyHere s at))
+
+-- the table finds the record that holds a bucket's generation
+pub record RecordsFound (s : List ℕ) (gens : List Key) (table : List ℕ) : Type 0 where
+  pub whole : (o : ℕ) → o < 256 → (getD table o 0 ≡ 0 → ⊥) → Whole s (getD table o 0)
+  pub is : (b : Bucket) → b .0 < 65536 → recordAt s (getD table (b .0 / 256) 0) ≡ genRecord gens b

@@ -1,0 +1,9 @@
+// What a placement chooses: refusals 4 to 13, take_buckets, bucket_gen, write_clock.
+pub mod clock;
+pub mod gens;
+pub mod located;
+pub mod marks;
+pub mod refusals;
+pub mod requests;
+pub mod runs;
+pub mod take;

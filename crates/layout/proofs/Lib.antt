@@ -1,0 +1,4 @@
+pub mod NextFitLaws
+pub mod LayLaws
+pub mod ReadLaws
+pub mod Front

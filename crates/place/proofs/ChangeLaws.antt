@@ -1,0 +1,115 @@
+-- Laws of the change list of a placement: its bytes in the order in which they are emitted. Assumes nothing.
+use mathlib.Core.Path.{_≡_, refl, sym, ap, _∙_}
+use mathlib.Core.Bool.{Bool, true, false, _&&_}
+use mathlib.Core.List.{List, [], _∷_, _++_, map, flatMap, append-assoc, append-nil}
+use Prim.Native.Nat.{ℕ, zero, suc, _%_, _/_, _^_}
+use native.Mathlib.Omega.{arith}
+use lib.ListN.{getD, replicate}
+use lib.Dec.{eqb}
+use borrow.Author.Tests.{eq-eqb, ne-eqb}
+use Rattle.wire.specs.Fields.{Field}
+use Rattle.wire.specs.Encode.{headBytes, encode, encodeField, keyField}
+use Rattle.wire.specs.Rows.{rowField}
+use Rattle.calls.specs.Lists.{total}
+use Rattle.calls.specs.CallList as calls
+use Rattle.calls.specs.CallList.{treeFields}
+use Rattle.calls.specs.Extents.{extentKey, backpointerKey}
+use Rattle.calls.specs.Lru.{lruKeys, lruWanted}
+use Rattle.calls.specs.ChangeList.{Batch, rootField, takenField, spotField, sectorsField, discardedField, endField, batchFields, changeFields, changeBytes}
+use Rattle.calls.specs.Place.{rootMissing, rootsIf, dirtyIn, newAllocKey, spotAt, placeRows, placedOf, walkOf, placeBatch}
+use Rattle.calls.specs.Answers.{readCall, readVolume}
+use Rattle.reader.specs.Heads.{headIn}
+use Rattle.reader.specs.declared.head.Head.{Head}
+use Rattle.place.specs.Pieces.{bucketsIn}
+use Rattle.place.specs.Plan.{Plan}
+use Rattle.place.specs.Change.{placement, keyFields, otherFields}
+use Rattle.place.specs.Tally.{talliesOf}
+use Rattle.place.specs.declared.tally.Tally.{Tally}
+use Rattle.place.specs.declared.tally.Tallies.{Tallies}
+use Rattle.wire.proofs.EncodeLaws.{encode-append, encode-next, encode-none}
+use Rattle.place.proofs.StepLaws.{bucket-sectors}
+use Rattle.place.proofs.RowLaws.{all-tally, placed-pieces}
+
+nine : (a b c d e f g h i : List Field) → a ++ b ++ c ++ d ++ e ++ f ++ g ++ h ++ i ++ [] ≡ (a ++ b) ++ (c ++ d ++ e ++ f ++ g ++ h ++ i)
+nine a b c d e f g h i = simp (append-assoc, append-nil)
+
+-- one batch: its keys, and what follows them
+pub change-split : (b : Batch) → changeBytes (b ∷ []) ≡ encode (keyFields b) ++ encode (otherFields b)
+unfolding changeBytes changeFields batchFields keyFields otherFields
+change-split b =
+    ap encode
+    (nine (map (keyField 0) (b .extents)) (treeFields (b .trees)) (map rootField (b .roots)) (map takenField (b .taken)) (map spotField (b .spots))
+    (map rowField (b .rows)) (map sectorsField (b .sectors)) (map discardedField (b .discarded)) (endField ∷ []))
+    ∙ encode-append (keyFields b) (otherFields b)
+
+five : (a b c d e : List Field) → encode (a ++ (b ++ c ++ d ++ [] ++ e ++ [])) ≡ encode a ++ (encode b ++ (encode c ++ (encode d ++ encode e)))
+five a b c d e = simp (encode-append, append-assoc, append-nil)
+
+six : (a b c d : List Field) (e f : Field)
+    → encode (a ++ b ++ c ++ d ++ (e ∷ []) ++ [] ++ (f ∷ [])) ≡ encode a ++ (encode b ++ (encode c ++ (encode d ++ (encodeField e ++ encodeField f))))
+six a b c d e f = simp (encode-append, encode-next, encode-none, append-assoc, append-nil)
+
+module _ {s offsets numbers generations : List ℕ} {h : Head} (plan : Plan s offsets numbers generations h) where
+  -- the keys, by what planning hands over
+  pub keys-of :
+      encode (keyFields (placement s))
+      ≡ encode (map (keyField 0) (map (extentKey (headIn h)) (placedOf (readCall s))))
+      ++ (encode (map (keyField 4) (map (newAllocKey (readVolume s) (placedOf (readCall s))) (bucketsIn numbers)))
+      ++ (encode (map (keyField 10) (flatMap (λ b. lruKeys (h .«bucket_sectors») b (dirtyIn (placedOf (readCall s)) b)) (bucketsIn numbers)))
+      ++ (encode (map (keyField 11) (walkOf (readCall s) .queue)) ++ encode (map (keyField 13) (map (backpointerKey (headIn h)) (placedOf (readCall s)))))))
+  unfolding keyFields placeBatch treeFields
+  keys-of =
+      rw (plan .head, plan .taken, ← bucket-sectors plan)
+      (five _ (map (keyField 4) (map (newAllocKey (readVolume s) (placedOf (readCall s))) (walkOf (readCall s) .taken)))
+      (map (keyField 10) (flatMap (λ b. lruKeys (readVolume s .head .bucketSectors) b (dirtyIn (placedOf (readCall s)) b)) (walkOf (readCall s) .taken)))
+      (map (keyField 11) (walkOf (readCall s) .queue)) (map (keyField 13) (map (backpointerKey (readVolume s .head)) (placedOf (readCall s)))))
+
+  -- what follows them, by the tallies
+  pub others-of : (t : Tallies) → t ≡ talliesOf (readCall s .pieces)
+      → encode (otherFields (placement s))
+      ≡ encode (map rootField (rootsIf (lruWanted (h .«bucket_sectors») (t .all .stored) && rootMissing (h .roots) 0) 10))
+      ++ (encode (map takenField (bucketsIn numbers))
+      ++ (encode (map spotField (map spotAt (placedOf (readCall s))))
+      ++ (encode (map rowField (placeRows (headIn h) (bucketsIn numbers) (placedOf (readCall s)) (map (extentKey (headIn h)) (placedOf (readCall s)))))
+      ++ (encodeField (sectorsField (t .all .file)) ++ encodeField endField))))
+  unfolding otherFields placeBatch
+  others-of t e =
+      let ps = placedOf (readCall s) in
+      let a = all-tally ps ∙ ap (λ l. talliesOf l .all) (placed-pieces (readCall s)) ∙ ap (λ (x : Tallies). x .all) (sym e) in
+      let d : total (λ p. p .piece .stored) ps ≡ t .all .stored = ap (λ (x : Tally). x .stored) a in
+      let f : total (λ p. p .piece .file) ps ≡ t .all .file = ap (λ (x : Tally). x .file) a in
+      let r : readVolume s .head .roots ≡ h .roots = ap (λ (x : calls.Head). x .roots) (sym (plan .head)) in
+      rw (plan .head, plan .taken, ← bucket-sectors plan, ← d, ← f, ← r)
+      (six _ (map takenField (walkOf (readCall s) .taken)) (map spotField (map spotAt ps))
+      (map rowField (placeRows (readVolume s .head) (walkOf (readCall s) .taken) ps (map (extentKey (readVolume s .head)) ps)))
+      (sectorsField (total (λ p. p .piece .file) ps)) endField)
+
+-- the end of a batch
+pub end-bytes : headBytes 76 0 ≡ encodeField endField
+unfolding encodeField
+end-bytes = sym (append-nil (headBytes 76 0))
+
+-- the root
+
+pub root-full : (sectors stored roots : ℕ) → stored % sectors ≡ 0 → rootsIf (lruWanted sectors stored && rootMissing roots 0) 10 ≡ []
+unfolding lruWanted
+root-full sectors stored roots e = simp (eq-eqb (stored % sectors) 0 e)
+
+pub root-there : (sectors stored roots : ℕ) → (roots % 2 ≡ 0 → ⊥) → rootsIf (lruWanted sectors stored && rootMissing roots 0) 10 ≡ []
+unfolding rootMissing
+root-there sectors stored roots h = go (lruWanted sectors stored) (eqb (roots / 2 ^ 0 % 2) 0) (ne-eqb (roots / 2 ^ 0 % 2) 0 (λ e. h (omega arith)))
+  where
+    go : (a b : Bool) → b ≡ false → rootsIf (a && b) 10 ≡ []
+    go true b e = rw e
+    go false b e = refl
+
+pub root-made : (sectors stored roots : ℕ) → (stored % sectors ≡ 0 → ⊥) → roots % 2 ≡ 0
+    → rootsIf (lruWanted sectors stored && rootMissing roots 0) 10 ≡ 10 ∷ []
+unfolding lruWanted rootMissing
+root-made sectors stored roots h e = simp (ne-eqb (stored % sectors) 0 h, eq-eqb (roots / 2 ^ 0 % 2) 0 (omega arith))
+
+-- counts that are 0
+pub zero-at : (n k : ℕ) → _≡_ {A = ℕ} (getD (replicate n 0) k 0) 0
+zero-at zero k = refl
+zero-at (suc n) zero = refl
+zero-at (suc n) (suc k) = zero-at n k

@@ -1,0 +1,76 @@
+-- From a list that was read to its parts, and from its answer after refusals 2 and 3 to the answer of the definition. Assumes nothing.
+use mathlib.Core.Path.{_≡_, ap, sym, _∙_}
+use mathlib.Core.Bool.{true}
+use mathlib.Core.List.{List, [], _∷_}
+use Prim.Native.Nat.{ℕ, _+_, _-_, _≤_, _<_}
+use native.Mathlib.Omega.{arith}
+use lib.Dec.{leb}
+use lib.ListN.{length, take, drop, length-take}
+use Rattle.wire.specs.Kinds.{bucketInRange, baseInRange}
+use Rattle.calls.specs.Answers.{Answer, answer, made, outcome, place, readCall, readVolume}
+use Rattle.calls.specs.CallList as calls
+use Rattle.calls.specs.CallList.{Volume}
+use Rattle.calls.specs.ChangeList.{changeBytes}
+use Rattle.calls.specs.Limits.{countsOk, bucketsOk, volumeWithin}
+use Rattle.calls.specs.Lists.{allOf}
+use Rattle.calls.specs.Place.{placeTests}
+use Rattle.calls.proofs.AnswerLaws.{place-is}
+use Rattle.calls.proofs.BoolLaws.{parts}
+use Rattle.calls.proofs.KeyFitsLaws.{list-within}
+use Rattle.reader.specs.Located.{KeysAt}
+use Rattle.reader.specs.Readings.{callRefusal, ListRead}
+use Rattle.reader.specs.declared.head.Head.{Head}
+use Rattle.reader.specs.declared.table.Counts.{Counts}
+use Rattle.reader.proofs.PartsLaws.{passed, read-on, read-refused, alloc-part, freespace-part, gens-part, reserved-part, pieces-part}
+use Rattle.choose.proofs.CheckedLaws.{checked}
+use Rattle.place.specs.Called.{Called}
+use Rattle.place.specs.Change.{placement}
+
+-- refusal 3 shows the base's bound
+base-in : (v : Volume) → volumeWithin v ≡ true → baseInRange (v .head .base) ≡ true
+unfolding volumeWithin
+base-in v h =
+    let a = parts (countsOk (v .trees)) _ h in
+    let b = parts (bucketsOk (v .trees)) _ (a .1) in
+    let d = parts (leb (length (v .reserved)) 4096) _ (b .1) in
+    let e = parts (allOf bucketInRange (v .reserved)) _ (d .1) in
+    parts (leb (v .head .reserve) 65536) (baseInRange (v .head .base)) (e .1) .1
+
+module _ (s index : List ℕ) (size : length index ≡ 29696) (h : Head) (c : Counts) (z : 0 ≡ callRefusal 1 s) (q : ListRead 1 s index h c) where
+  -- the counts are as the table has room
+  pub counts-low : (c .alloc ≤ 4096) × (c .freespace ≤ 4096) × (c .gens ≤ 4096) × (c .reserved ≤ 4096) × (c .requests ≤ 1024)
+  counts-low =
+      (alloc-part 1 s index size h c z q .0, freespace-part 1 s index size h c z q .0, gens-part 1 s index size h c z q .0, reserved-part 1 s index size h c z q .0, pieces-part s index size h c z q .0)
+
+  pub called : Called s h (take (c .alloc) index) (take (8192 + c .freespace - 8192) (drop 8192 index))
+      (take (24576 + c .reserved - 24576) (drop 24576 index)) (take (28672 + c .requests - 28672) (drop 28672 index))
+  called =
+      let runs : 8192 + c .freespace - 8192 ≡ c .freespace = omega arith in
+      let reserved : 24576 + c .reserved - 24576 ≡ c .reserved = omega arith in
+      let pieces : 28672 + c .requests - 28672 ≡ c .requests = omega arith in
+      let p = passed 1 s z in
+      let w = list-within (readCall s) (p .within) .0 in
+      record {
+        checked = checked 1 s (p .laid) (p .within);
+        head = q .head;
+        alloc = alloc-part 1 s index size h c z q .1;
+        runs = rw runs (freespace-part 1 s index size h c z q .1);
+        reserved = rw reserved (reserved-part 1 s index size h c z q .1);
+        pieces = rw pieces (pieces-part s index size h c z q .1);
+        few = omega (arith, length-take (28672 + c .requests - 28672) (drop 28672 index), pieces-part s index size h c z q .0);
+        base = ap (λ (x : calls.Head). baseInRange (x .base)) (q .head) ∙ base-in (readVolume s) w;
+      }
+
+  pub gens-called : KeysAt s (take (20480 + c .gens - 20480) (drop 20480 index)) (readVolume s .trees .gens)
+  gens-called = let gens : 20480 + c .gens - 20480 ≡ c .gens = omega arith in rw gens (gens-part 1 s index size h c z q .1)
+
+module _ (s : List ℕ) (room : ℕ) where
+  abbrev bytes : List ℕ
+  bytes = changeBytes (placement s ∷ [])
+
+  pub place-refused : {n : ℕ} → n ≡ callRefusal 1 s → 0 < callRefusal 1 s → place s room ≡ record { number = n; written = [] }
+  place-refused {n} e l = place-is s room ∙ read-refused 1 s (placeTests (readCall s)) bytes room n e l
+
+  pub place-on : {number written : ℕ} {after : List ℕ} (out : List ℕ) → 0 ≡ callRefusal 1 s
+      → made number written after ≡ outcome (answer (placeTests (readCall s)) bytes room) out → made number written after ≡ outcome (place s room) out
+  place-on out z o = o ∙ ap (λ (a : Answer). outcome a out) (sym (place-is s room ∙ read-on 1 s (placeTests (readCall s)) bytes room z))

@@ -1,0 +1,85 @@
+-- `change::put_keys` meets its contract. Assumes nothing.
+use native.Mathlib.Omega.{arith}
+use mathlib.Core.Path.{sym, ap}
+use Rattle.calls.specs.CallList.{Head}
+use Rattle.calls.specs.Place.{placedOf}
+use Rattle.calls.specs.Answers.{readCall, readVolume}
+use Rattle.place.specs.Plan.{AllocsOf}
+use Rattle.wire.proofs.EmitLaws.{emitted, and-then}
+use Rattle.place.proofs.StepLaws.{gens-length}
+use Rattle.place.proofs.ChangeLaws.{keys-of, zero-at}
+use borrow.Author.Needs.{needs}
+use Rattle.place.proofs.change.put_keys.Statement.{statement}
+use Rattle.place.proofs.change.put_keys.Tie as tie
+
+slice-aggregate-fill-dirty : tie.Need-slice-aggregate-fill-dirty
+slice-aggregate-fill-dirty c = search needs
+
+abbrev start : tie.After-dirty → tie.Start
+start c = c .before .before .before .before .before .before .before
+
+fill-dirty-requires : tie.Need-fill-dirty-requires
+fill-dirty-requires c κs = let a = start c in (a .pre .0, (a .pre .0 .short, λ k. zero-at 1024 k))
+
+put-extents-requires : tie.Need-put-extents-requires
+put-extents-requires c κs = search needs
+
+slice-aggregate-put-allocs : tie.Need-slice-aggregate-put-allocs
+slice-aggregate-put-allocs c = search needs
+
+put-allocs-requires : tie.Need-put-allocs-requires
+put-allocs-requires c κs = let f = c .before .before .before .before .before .before .before in let a = start (f .before) in (omega (arith, gens-length (a .pre .0)), omega (arith, f .fill-dirty .kept .0, a .pre .0 .short))
+
+slice-aggregate-put-lrus : tie.Need-slice-aggregate-put-lrus
+slice-aggregate-put-lrus c = search needs
+
+cast-put-lrus : tie.Need-cast-put-lrus
+cast-put-lrus c = search needs
+
+put-lrus-requires : tie.Need-put-lrus-requires
+put-lrus-requires c κs = let f = c .before .before .before .before .before .before .before .before .before .before .before .before .before in let a = start (f .before) in (omega (arith, f .fill-dirty .kept .0, a .pre .0 .short), a .pre .0 .sectors)
+
+put-queue-requires : tie.Need-put-queue-requires
+put-queue-requires c κs = c .before .before .before .before .before .before .before .before .before .before .before .before .before .before .before .before .before .before .before .before .before .before .before .before .before .pre .1 .0
+
+put-backpointers-requires : tie.Need-put-backpointers-requires
+put-backpointers-requires c κs = c .before .before .before .before .before .before .before .before .before .before .before .before .before .before .before .before .before .before .before .before .before .before .before .before .before .before .before .before .before .pre .0
+
+same-length : tie.Need-same-length
+same-length c = search needs
+
+returns : tie.Need-returns
+returns c =
+    let b = c .before .before in
+    let q = b .before .before .before .before in
+    let l = q .before .before .before .before in
+    let m = l .before .before .before .before .before .before in
+    let e = m .before .before .before .before .before in
+    let f = e .before .before .before in
+    let a = start (f .before) in
+    let plan = a .pre .0 in
+    let v = readVolume (a .args .s .now) in
+    let ps = placedOf (readCall (a .args .s .now)) in
+    let allocs : AllocsOf v (a .args .taken .now) (a .args .gens .now) (a .args .h .journal) (a .args .clock) =
+    record { number = ap (λ (x : Head). x .journal) (sym (plan .head)); gens = plan .gens; time = a .pre .1 .1 } in
+    emitted (sym (keys-of plan))
+    (and-then (e .put-extents .ensures)
+    (and-then (m .put-allocs .ensures v ps allocs (f .fill-dirty .ensures))
+    (and-then (l .put-lrus .ensures ps (f .fill-dirty .ensures)) (and-then (q .put-queue .ensures) (b .put-backpointers .ensures)))))
+
+pub put-keys-spec : {M : Type 1} → statement M
+put-keys-spec =
+    tie.close
+    (tie.spec
+    slice-aggregate-fill-dirty
+    fill-dirty-requires
+    put-extents-requires
+    slice-aggregate-put-allocs
+    put-allocs-requires
+    slice-aggregate-put-lrus
+    cast-put-lrus
+    put-lrus-requires
+    put-queue-requires
+    put-backpointers-requires
+    same-length
+    returns)

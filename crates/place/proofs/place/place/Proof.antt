@@ -1,0 +1,47 @@
+-- `place::place` meets its contract. Assumes nothing.
+use mathlib.Core.Path.{refl}
+use denote.Ref.{now}
+use lib.ListN.{length}
+use Rattle.calls.proofs.OutcomeLaws.{refused}
+use Rattle.place.proofs.ReadLaws.{place-refused}
+use borrow.Author.Needs.{needs}
+use Rattle.place.proofs.place.place.Statement.{statement}
+use Rattle.place.proofs.place.place.Tie as tie
+
+read-call-requires : tie.Need-read-call-requires
+read-call-requires c κs = search needs
+
+enum-known-number : tie.Need-enum-known-number
+enum-known-number c = search needs
+
+enum-known-h : tie.Need-enum-known-h
+enum-known-h c = search needs
+
+place-read-requires : tie.Need-place-read-requires
+place-read-requires c κs =
+    let a = rw (c .before .before .before .before .h .given .1) at (c .before .before .before .before .before .before .read-call .ensures) in
+    (a .0, a .1, refl)
+
+returns : tie.Need-returns
+returns c =
+    let b = c .before .before .before .before .before .before .before .args in
+    let a = rw (c .before .number .given .1) at (c .before .before .before .read-call .ensures) in
+    refused (c .before .number .given .0 .0) (now (b .out)) (place-refused (now (b .list)) (length (now (b .out))) (a .0) (a .1)) refl
+
+same-length : tie.Need-same-length
+same-length c = search needs
+
+returns-2 : tie.Need-returns-2
+returns-2 c = search needs
+
+pub place-spec : {M : Type 1} → statement M
+place-spec =
+    tie.close
+    (tie.spec
+    read-call-requires
+    enum-known-number
+    enum-known-h
+    place-read-requires
+    returns
+    same-length
+    returns-2)

@@ -1,0 +1,58 @@
+-- `place::place_buckets` meets its contract. Assumes nothing.
+use mathlib.Core.Path.{sym, subst}
+use mathlib.Core.List.{List}
+use Prim.Native.Nat.{ℕ}
+use lib.Seq.{length-take-le}
+use Rattle.place.specs.Plan.{Plan}
+use borrow.Author.Needs.{needs}
+use Rattle.place.proofs.place.place_buckets.Statement.{statement}
+use Rattle.place.proofs.place.place_buckets.Tie as tie
+
+abbrev start : tie.After-find-records → tie.Start
+start c = c .before .before .before .before .before .before .before .before .before
+
+find-records-requires : tie.Need-find-records-requires
+find-records-requires c κs = search needs
+
+slice-aggregate-fill-gens : tie.Need-slice-aggregate-fill-gens
+slice-aggregate-fill-gens c = search needs
+
+fill-gens-requires : tie.Need-fill-gens-requires
+fill-gens-requires c κs = search needs
+
+write-clock-requires : tie.Need-write-clock-requires
+write-clock-requires c κs = search needs
+
+array-share-prefix-ages : tie.Need-array-share-prefix-ages
+array-share-prefix-ages c = search needs
+
+slice-aggregate-write-change : tie.Need-slice-aggregate-write-change
+slice-aggregate-write-change c = sym (length-take-le _ _ (search needs))
+
+write-change-requires : tie.Need-write-change-requires
+write-change-requires c κs =
+    let f = c .before .before .before .before .before in
+    let a = start (f .before .before .before) in (
+      subst (λ (g : List ℕ). Plan (a .args .s .now) (a .args .pieces .now) (a .args .taken .now) g (a .args .h)) (sym (f .fill-gens .ensures)) (a .pre .0),
+      (a .pre .1 .0, sym (c .before .before .before .write-clock .ensures), a .pre .1 .3),
+    )
+
+same-length : tie.Need-same-length
+same-length c = search needs
+
+returns : tie.Need-returns
+returns c = search needs
+
+pub place-buckets-spec : {M : Type 1} → statement M
+place-buckets-spec =
+    tie.close
+    (tie.spec
+    find-records-requires
+    slice-aggregate-fill-gens
+    fill-gens-requires
+    write-clock-requires
+    array-share-prefix-ages
+    slice-aggregate-write-change
+    write-change-requires
+    same-length
+    returns)

@@ -1,0 +1,150 @@
+// The change list of a placement.
+ghost use mathlib.Core.Path.{_≡_};
+ghost use Prim.Native.Nat.{_<_};
+ghost use mathlib.Core.Bool.{_&&_};
+ghost use mathlib.Core.List.{[], _∷_, map};
+ghost use Rattle.wire.specs.Encode.{encode, encodeField};
+ghost use Rattle.calls.specs.Clock.{clockOf};
+ghost use Rattle.calls.specs.Lru.{lruWanted};
+ghost use Rattle.calls.specs.ChangeList.{rootField, takenField, sectorsField, changeBytes};
+ghost use Rattle.calls.specs.Place.{rootMissing, rootsIf};
+ghost use Rattle.calls.specs.Answers.{readVolume};
+ghost use Rattle.place.specs.Pieces.{bucketsIn};
+ghost use Rattle.place.specs.Plan.{Plan};
+ghost use Rattle.place.specs.Queue.{Walk};
+ghost use Rattle.wire.specs.Output.{Emitted};
+ghost use Rattle.place.specs.Change.{placement, keyFields, otherFields};
+use crate::allocs;
+use crate::backpointers;
+use crate::dirty;
+use crate::extents;
+use crate::lru;
+use crate::queue;
+use crate::rows;
+use crate::spots;
+use crate::tally;
+use reader::head::Head;
+use wire::emit;
+use wire::kinds::Bucket;
+
+// The keys of all trees.
+pub fn put_keys(
+    out: &mut [u8],
+    at: usize,
+    s: &[u8],
+    pieces: &[u32],
+    taken: &[u64],
+    gens: &[u8],
+    runs: &[u32],
+    passed: usize,
+    left: u32,
+    h: Head,
+    clock: u64,
+) -> usize
+    requires { ⌜ Plan (now s) (now pieces) (now taken) (now gens) h ⌝ }
+    requires { ⌜ Walk (now s) (now runs) passed left ⌝ }
+    requires { ⌜ clockOf (readVolume (now s) .trees .alloc) ≡ clock ⌝ }
+    ensures { λ r. ⌜ Emitted (now (out .entry)) at (encode (keyFields (placement (now (s .entry))))) (now (out .exit)) r ⌝ }
+{
+    let mut dirty = [0u32; 1024];
+    dirty::fill_dirty(&mut dirty, s, pieces, taken, gens, h);
+    let p = extents::put_extents(out, at, s, pieces, taken, gens, h);
+    let p = allocs::put_allocs(out, p, taken, gens, &dirty, h.journal, clock);
+    let p = lru::put_lrus(out, p, taken, &dirty, h.bucket_sectors as u64);
+    let p = queue::put_queue(out, p, s, runs, passed, left);
+    backpointers::put_backpointers(out, p, s, pieces, taken, gens, h)
+}
+
+// Field 70: the LRU root, where it is wanted and does not exist. Refusal 4 shows that a bucket has sectors.
+pub fn put_root(out: &mut [u8], at: usize, sectors: u64, stored: u64, roots: u8) -> usize
+    requires { ⌜ 0 < sectors ⌝ }
+    ensures { λ r. ⌜ Emitted (now (out .entry)) at (encode (map rootField (rootsIf (lruWanted sectors stored && rootMissing roots 0) 10))) (now (out .exit)) r ⌝ }
+{
+    if stored % sectors == 0 {
+        return at;
+    }
+    if roots % 2 != 0 {
+        return at;
+    }
+    let p = emit::put_head(out, at, 70, 1);
+    emit::put_le(out, p, 1, 10)
+}
+
+// Fields 71: the buckets taken.
+pub fn put_taken(out: &mut [u8], at: usize, taken: &[u64]) -> usize
+    ensures { λ r. ⌜ Emitted (now (out .entry)) at (encode (map takenField (bucketsIn (now (taken .entry))))) (now (out .exit)) r ⌝ }
+{
+    let mut p = at;
+    let mut i: usize = 0;
+    while i < taken.len() {
+        p = emit::put_bucket(out, p, 71, Bucket(taken[i]));
+        i += 1;
+    }
+    p
+}
+
+// Field 74: the file sectors.
+pub fn put_sectors(out: &mut [u8], at: usize, sectors: u64) -> usize
+    ensures { λ r. ⌜ Emitted (now (out .entry)) at (encodeField (sectorsField sectors)) (now (out .exit)) r ⌝ }
+{
+    let p = emit::put_head(out, at, 74, 8);
+    emit::put_le(out, p, 8, sectors)
+}
+
+// What follows the keys: root, buckets taken, spots, rows, file sectors and the end.
+pub fn put_others(
+    out: &mut [u8],
+    at: usize,
+    s: &[u8],
+    pieces: &[u32],
+    taken: &[u64],
+    gens: &[u8],
+    h: Head,
+) -> usize
+    requires { ⌜ Plan (now s) (now pieces) (now taken) (now gens) h ⌝ }
+    ensures { λ r. ⌜ Emitted (now (out .entry)) at (encode (otherFields (placement (now (s .entry))))) (now (out .exit)) r ⌝ }
+{
+    let t = tally::tally_pieces(s, pieces);
+    let all = t.all;
+    let p = put_root(out, at, h.bucket_sectors as u64, all.stored, h.roots);
+    let p = put_taken(out, p, taken);
+    let p = spots::put_spots(out, p, s, pieces, taken, gens, h);
+    let p = rows::put_rows(out, p, taken.len() as u64, t, h);
+    let p = put_sectors(out, p, all.file);
+    emit::put_head(out, p, 76, 0)
+}
+
+// The whole change list of a placement, one batch.
+pub fn put_change(
+    out: &mut [u8],
+    at: usize,
+    s: &[u8],
+    pieces: &[u32],
+    taken: &[u64],
+    gens: &[u8],
+    runs: &[u32],
+    passed: usize,
+    left: u32,
+    h: Head,
+    clock: u64,
+) -> usize
+    requires { ⌜ Plan (now s) (now pieces) (now taken) (now gens) h ⌝ }
+    requires { ⌜ Walk (now s) (now runs) passed left ⌝ }
+    requires { ⌜ clockOf (readVolume (now s) .trees .alloc) ≡ clock ⌝ }
+    ensures { λ r. ⌜ Emitted (now (out .entry)) at (changeBytes (placement (now (s .entry)) ∷ [])) (now (out .exit)) r ⌝ }
+{
+    let p = put_keys(
+        out,
+        at,
+        s,
+        pieces,
+        taken,
+        gens,
+        runs,
+        passed,
+        left,
+        h,
+        clock,
+    );
+    put_others(out, p, s, pieces, taken, gens, h)
+}

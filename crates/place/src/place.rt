@@ -1,0 +1,184 @@
+// The call: a list is read, then answered.
+ghost use mathlib.Core.Path.{_≡_};
+ghost use mathlib.Core.List.{[], _∷_};
+ghost use lib.ListN.{length};
+ghost use Rattle.calls.specs.Answers as answers;
+ghost use Rattle.calls.specs.Answers.{answer, made, outcome, readCall, readVolume};
+ghost use Rattle.calls.specs.ChangeList.{changeBytes};
+ghost use Rattle.calls.specs.Clock.{clockOf};
+ghost use Rattle.calls.specs.Place.{placeTests};
+ghost use Rattle.reader.specs.Located.{KeysAt};
+ghost use Rattle.reader.specs.Readings.{callRefusal, ListRead};
+ghost use Rattle.place.specs.Called.{Called};
+ghost use Rattle.place.specs.Change.{placement};
+ghost use Rattle.place.specs.Choice.{PlanFor};
+ghost use Rattle.place.specs.Plan.{Plan};
+ghost use Rattle.place.specs.Queue.{Walk};
+use crate::change;
+use crate::choice;
+use crate::gens;
+use choose::clock;
+use choose::take::Taken;
+use reader::call;
+use reader::call::Reading;
+use reader::head::Head;
+use reader::table::Counts;
+
+// A run into one byte tells the length; then 21, or the run into the output. Planning shows what is required, here and below.
+fn write_change(
+    s: &[u8],
+    h: Head,
+    runs: &[u32],
+    pieces: &[u32],
+    taken: &[u64],
+    gens: &[u8],
+    passed: usize,
+    left: u32,
+    clock: u64,
+    out: &mut [u8],
+    written: &mut usize,
+) -> u32
+    requires { ⌜ Plan (now s) (now pieces) (now taken) (now gens) h ⌝ }
+    requires { ⌜ Walk (now s) (now runs) passed left × (clockOf (readVolume (now s) .trees .alloc) ≡ clock) × (now written ≡ 0) ⌝ }
+    ensures { λ r. ⌜ made r (now (written .exit)) (now (out .exit)) ≡ outcome (answer [] (changeBytes (placement (now (s .entry)) ∷ [])) (length (now (out .entry)))) (now (out .entry)) ⌝ }
+{
+    let mut one = [0u8; 1];
+    let n = change::put_change(
+        &mut one,
+        0,
+        s,
+        pieces,
+        taken,
+        gens,
+        runs,
+        passed,
+        left,
+        h,
+        clock,
+    );
+    if out.len() < n {
+        return 21;
+    }
+    *written = change::put_change(out, 0, s, pieces, taken, gens, runs, passed, left, h, clock);
+    0
+}
+
+// The answer where the buckets are taken: their generations and the clock, and the change list.
+fn place_buckets(
+    s: &[u8],
+    h: Head,
+    alloc: &[u32],
+    runs: &[u32],
+    gens: &[u32],
+    pieces: &[u32],
+    taken: &[u64],
+    passed: usize,
+    left: u32,
+    out: &mut [u8],
+    written: &mut usize,
+) -> u32
+    requires { ⌜ PlanFor (now s) h (now pieces) (now taken) ⌝ }
+    requires { ⌜ Walk (now s) (now runs) passed left × KeysAt (now s) (now alloc) (readVolume (now s) .trees .alloc) × KeysAt (now s) (now gens) (readVolume (now s) .trees .gens) × (now written ≡ 0) ⌝ }
+    ensures { λ r. ⌜ made r (now (written .exit)) (now (out .exit)) ≡ outcome (answer [] (changeBytes (placement (now (s .entry)) ∷ [])) (length (now (out .entry)))) (now (out .entry)) ⌝ }
+{
+    let n = taken.len();
+    let mut records = [0u32; 256];
+    let mut ages = [0u8; 1024];
+    choose::gens::find_records(s, gens, &mut records);
+    gens::fill_gens(&mut ages, s, &records, taken);
+    let clock = clock::write_clock(s, alloc);
+    write_change(
+        s,
+        h,
+        runs,
+        pieces,
+        taken,
+        &ages[..n],
+        passed,
+        left,
+        clock,
+        out,
+        written,
+    )
+}
+
+// The answer after refusals 2 and 3. The reader shows what is required.
+fn place_lists(
+    s: &[u8],
+    h: Head,
+    alloc: &[u32],
+    runs: &[u32],
+    gens: &[u32],
+    reserved: &[u32],
+    pieces: &[u32],
+    out: &mut [u8],
+    written: &mut usize,
+) -> u32
+    requires { ⌜ Called (now s) h (now alloc) (now runs) (now reserved) (now pieces) × KeysAt (now s) (now gens) (readVolume (now s) .trees .gens) × (now written ≡ 0) ⌝ }
+    ensures { λ r. ⌜ made r (now (written .exit)) (now (out .exit)) ≡ outcome (answer (placeTests (readCall (now (s .entry)))) (changeBytes (placement (now (s .entry)) ∷ [])) (length (now (out .entry)))) (now (out .entry)) ⌝ }
+{
+    let mut taken = [0u64; 1024];
+    match choice::choose_buckets(s, h, alloc, runs, reserved, pieces, &mut taken) {
+        Taken::Refused(number) => number,
+        Taken::Took {
+            count,
+            passed,
+            left,
+        } => place_buckets(
+            s,
+            h,
+            alloc,
+            runs,
+            gens,
+            pieces,
+            &taken[..count],
+            passed,
+            left,
+            out,
+            written,
+        ),
+    }
+}
+
+// The answer to a list that was read: its parts by their places. `read_call` shows what is required.
+fn place_read(
+    list: &[u8],
+    h: Head,
+    counts: Counts,
+    index: &[u32; 29696],
+    out: &mut [u8],
+    written: &mut usize,
+) -> u32
+    requires { ⌜ (0 ≡ callRefusal 1 (now list)) × ListRead 1 (now list) (now index) h counts × (now written ≡ 0) ⌝ }
+    ensures { λ r. ⌜ made r (now (written .exit)) (now (out .exit)) ≡ outcome (answers.place (now (list .entry)) (length (now (out .entry)))) (now (out .entry)) ⌝ }
+{
+    let places: &[u32] = index;
+    let alloc = counts.alloc;
+    let runs = 8192 + counts.freespace;
+    let gens = 20480 + counts.gens;
+    let reserved = 24576 + counts.reserved;
+    let pieces = 28672 + counts.requests;
+    place_lists(
+        list,
+        h,
+        &places[..alloc],
+        &places[8192..runs],
+        &places[20480..gens],
+        &places[24576..reserved],
+        &places[28672..pieces],
+        out,
+        written,
+    )
+}
+
+// Place: for any list and any output, the number, the length and the output that the definition gives.
+pub fn place(list: &[u8], out: &mut [u8], written: &mut usize) -> u32
+    ensures { λ r. ⌜ made r (now (written .exit)) (now (out .exit)) ≡ outcome (answers.place (now (list .entry)) (length (now (out .entry)))) (now (out .entry)) ⌝ }
+{
+    *written = 0;
+    let mut index = [0u32; 29696];
+    match call::read_call(list, 1, &mut index) {
+        Reading::Refused(number) => number,
+        Reading::Read(h, counts) => place_read(list, h, counts, &index, out, written),
+    }
+}
