@@ -1,0 +1,35 @@
+-- The lent scratch: the sum of each bucket, and the buckets whose sum is not 0.
+use mathlib.Core.Path.{_≡_}
+use Prim.Native.Nat.{ℕ, _≤_, _<_}
+use mathlib.Core.List.{List, map}
+use lib.ListN.{length, getD, take}
+use lib.Dec.{ltb}
+use Rattle.wire.specs.Kinds.{bucketsFrom, noBucket}
+use Rattle.wire.specs.declared.kinds.Bucket.{Bucket}
+use Rattle.calls.specs.CallList.{Freed}
+use Rattle.calls.specs.Lists.{those}
+use Rattle.calls.specs.Release.{freedIn}
+
+-- the first 65,536 sums are 0
+pub record Cleared (sums : List ℕ) : Type 0 where
+  pub long : 65536 ≤ length sums
+  pub zero : (b : ℕ) → b < 65536 → getD sums b 0 ≡ 0
+
+-- the first 65,536 sums are what requests free of each bucket
+pub record Sums (sectors : ℕ) (rs : List Freed) (sums : List ℕ) : Type 0 where
+  pub long : 65536 ≤ length sums
+  pub at : (b : ℕ) → b < 65536 → getD sums b 0 ≡ freedIn sectors rs (record { 0 = b })
+
+-- a bucket's sum
+abbrev pub sumOf : List ℕ → Bucket → ℕ
+sumOf sums b = getD sums (b .0) 0
+
+-- the buckets whose sum is not 0, ascending
+unfoldable pub summedBuckets : List ℕ → List Bucket
+summedBuckets sums = those (λ b. ltb 0 (sumOf sums b)) (bucketsFrom 65536 noBucket)
+
+-- the first n numbers name these buckets, and the first n amounts are theirs
+pub record Listed (bs : List Bucket) (amount : Bucket → ℕ) (buckets amounts : List ℕ) (n : ℕ) : Type 0 where
+  pub count : n ≡ length bs
+  pub named : take n buckets ≡ map (λ b. b .0) bs
+  pub summed : take n amounts ≡ map amount bs

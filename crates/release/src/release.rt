@@ -1,0 +1,68 @@
+// The call: a list is read, then answered.
+ghost use mathlib.Core.Path.{_≡_};
+ghost use lib.ListN.{length};
+ghost use Rattle.calls.specs.Answers.{release, made, outcome, scratchAfter};
+ghost use Rattle.reader.specs.Readings.{callRefusal, ListRead};
+ghost use Rattle.release.specs.Summing.{Cleared};
+use crate::lists;
+use crate::sums;
+use reader::call;
+use reader::call::Reading;
+use reader::head::Head;
+use reader::table::Counts;
+
+// The answer to a list that was read, by the parts of its table. `read_call` and `clear` show what is required.
+fn release_parts(
+    list: &[u8],
+    head: Head,
+    counts: Counts,
+    index: &[u32; 29696],
+    scratch: &mut [u32],
+    out: &mut [u8],
+    written: &mut usize,
+) -> u32
+    requires { ⌜ ListRead 2 (now list) (now index) head counts × (0 ≡ callRefusal 2 (now list)) × Cleared (now scratch) × (now written ≡ 0) ⌝ }
+    ensures { λ r. ⌜ (made r (now (written .exit)) (now (out .exit)) ≡ outcome (release (now (list .entry)) (length (now (scratch .entry))) (length (now (out .entry)))) (now (out .entry))) × (now (scratch .exit) ≡ scratchAfter (now (scratch .entry))) ⌝ }
+{
+    let table: &[u32] = index;
+    let alloc = counts.alloc;
+    let gens = 20480 + counts.gens;
+    let requests = 28672 + counts.requests;
+    lists::release_lists(
+        list,
+        head,
+        &table[..alloc],
+        &table[20480..gens],
+        &table[28672..requests],
+        scratch,
+        out,
+        written,
+    )
+}
+
+// The answer after refusal 1. `clear` shows what is required.
+fn release_cleared(list: &[u8], scratch: &mut [u32], out: &mut [u8], written: &mut usize) -> u32
+    requires { ⌜ Cleared (now scratch) × (now written ≡ 0) ⌝ }
+    ensures { λ r. ⌜ (made r (now (written .exit)) (now (out .exit)) ≡ outcome (release (now (list .entry)) (length (now (scratch .entry))) (length (now (out .entry)))) (now (out .entry))) × (now (scratch .exit) ≡ scratchAfter (now (scratch .entry))) ⌝ }
+{
+    let mut index = [0u32; 29696];
+    let reading = call::read_call(list, 2, &mut index);
+    match reading {
+        Reading::Refused(n) => n,
+        Reading::Read(head, counts) => {
+            release_parts(list, head, counts, &index, scratch, out, written)
+        }
+    }
+}
+
+// Release: for any list, scratch and output, the number, the length, the output and the scratch that the definition gives.
+pub fn release(list: &[u8], scratch: &mut [u32], out: &mut [u8], written: &mut usize) -> u32
+    ensures { λ r. ⌜ (made r (now (written .exit)) (now (out .exit)) ≡ outcome (release (now (list .entry)) (length (now (scratch .entry))) (length (now (out .entry)))) (now (out .entry))) × (now (scratch .exit) ≡ scratchAfter (now (scratch .entry))) ⌝ }
+{
+    *written = 0;
+    if scratch.len() < 65536 {
+        return 1;
+    }
+    sums::clear(scratch);
+    release_cleared(list, scratch, out, written)
+}
