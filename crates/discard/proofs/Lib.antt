@@ -1,0 +1,8 @@
+pub mod OffsetLaws
+pub mod TableLaws
+pub mod ChosenLaws
+pub mod EmitLaws
+pub mod RunLaws
+pub mod CountLaws
+pub mod BatchLaws
+pub mod OutcomeLaws

@@ -1,0 +1,59 @@
+-- `batch::put_alloc_keys` meets its contract. The invariant: what is left are the keys from index i on. Assumes nothing.
+use native.Mathlib.Omega.{arith}
+use Prim.Native.Nat.{_-_}
+use lib.ListN.{length}
+use Rattle.wire.proofs.OutputLaws.{part-length}
+use Rattle.discard.specs.Emitted.{allocBytes}
+use Rattle.discard.proofs.OffsetLaws.{all-at}
+use Rattle.discard.proofs.EmitLaws.{Emits, emits-none, emits-more, emits-all}
+use Rattle.discard.proofs.batch.put_alloc_keys.Statement.{statement}
+use Rattle.discard.proofs.batch.put_alloc_keys.Tie as tie
+
+abbrev Inv-loop : tie.InvT-loop
+Inv-loop out₀ at s freed p₀ i₀ out p i = Emits (allocBytes s) freed out₀ at out p i
+
+abbrev μ-loop : tie.MeasureT-loop
+μ-loop out₀ at s freed p₀ i₀ out p i = length freed - i
+
+loop-holds : tie.Need-loop-holds Inv-loop μ-loop
+loop-holds c = emits-none _ _ (omega arith)
+
+mul-put-alloc-key : tie.Need-mul-put-alloc-key Inv-loop μ-loop
+mul-put-alloc-key c = omega arith
+
+shared-slice-read-put-alloc-key : tie.Need-shared-slice-read-put-alloc-key Inv-loop μ-loop
+shared-slice-read-put-alloc-key c = omega arith
+
+put-alloc-key-requires : tie.Need-put-alloc-key-requires Inv-loop μ-loop
+put-alloc-key-requires c κs = all-at (c .before .before .before .before .before .before .before .pre) (c .before .before .before .loop .i) (omega arith)
+
+add-i : tie.Need-add-i Inv-loop μ-loop
+add-i c = omega arith
+
+loop-less : tie.Need-loop-less Inv-loop μ-loop
+loop-less c = omega arith
+
+loop-again : tie.Need-loop-again Inv-loop μ-loop
+loop-again c = emits-more _ _ (c .before .before .before .before .before .before .loop .i) (c .before .before .before .before .before .before .loop .inv) (omega arith) (c .before .before .put-alloc-key .ensures)
+
+same-length : tie.Need-same-length Inv-loop μ-loop
+same-length c = part-length (c .before .loop .inv)
+
+returns : tie.Need-returns Inv-loop μ-loop
+returns c = emits-all _ _ (c .before .loop .i) (c .before .loop .inv) (omega arith)
+
+pub put-alloc-keys-spec : {M : Type 1} → statement M
+put-alloc-keys-spec =
+    tie.close
+    (tie.spec
+    Inv-loop
+    μ-loop
+    loop-holds
+    mul-put-alloc-key
+    shared-slice-read-put-alloc-key
+    put-alloc-key-requires
+    add-i
+    loop-less
+    loop-again
+    same-length
+    returns)

@@ -1,0 +1,59 @@
+-- `batch::put_deletions` meets its contract. The invariant: what is left are the keys from index i on. Assumes nothing.
+use native.Mathlib.Omega.{arith}
+use Prim.Native.Nat.{_-_}
+use lib.ListN.{length}
+use Rattle.wire.proofs.OutputLaws.{part-length}
+use Rattle.discard.specs.Emitted.{deletionBytes}
+use Rattle.discard.proofs.OffsetLaws.{all-at}
+use Rattle.discard.proofs.EmitLaws.{Emits, emits-none, emits-more, emits-all}
+use Rattle.discard.proofs.batch.put_deletions.Statement.{statement}
+use Rattle.discard.proofs.batch.put_deletions.Tie as tie
+
+abbrev Inv-loop : tie.InvT-loop
+Inv-loop out₀ at s freed needs table p₀ i₀ out p i = Emits (deletionBytes s needs) freed out₀ at out p i
+
+abbrev μ-loop : tie.MeasureT-loop
+μ-loop out₀ at s freed needs table p₀ i₀ out p i = length freed - i
+
+loop-holds : tie.Need-loop-holds Inv-loop μ-loop
+loop-holds c = emits-none _ _ (omega arith)
+
+mul-put-waiting : tie.Need-mul-put-waiting Inv-loop μ-loop
+mul-put-waiting c = omega arith
+
+shared-slice-read-put-waiting : tie.Need-shared-slice-read-put-waiting Inv-loop μ-loop
+shared-slice-read-put-waiting c = omega arith
+
+put-waiting-requires : tie.Need-put-waiting-requires Inv-loop μ-loop
+put-waiting-requires c κs = (all-at (c .before .before .before .before .before .before .before .before .pre .0) (c .before .before .before .loop .i) (omega arith), c .before .before .before .before .before .before .before .before .pre .1)
+
+add-i : tie.Need-add-i Inv-loop μ-loop
+add-i c = omega arith
+
+loop-less : tie.Need-loop-less Inv-loop μ-loop
+loop-less c = omega arith
+
+loop-again : tie.Need-loop-again Inv-loop μ-loop
+loop-again c = emits-more _ _ (c .before .before .before .before .before .before .loop .i) (c .before .before .before .before .before .before .loop .inv) (omega arith) (c .before .before .put-waiting .ensures)
+
+same-length : tie.Need-same-length Inv-loop μ-loop
+same-length c = part-length (c .before .loop .inv)
+
+returns : tie.Need-returns Inv-loop μ-loop
+returns c = emits-all _ _ (c .before .loop .i) (c .before .loop .inv) (omega arith)
+
+pub put-deletions-spec : {M : Type 1} → statement M
+put-deletions-spec =
+    tie.close
+    (tie.spec
+    Inv-loop
+    μ-loop
+    loop-holds
+    mul-put-waiting
+    shared-slice-read-put-waiting
+    put-waiting-requires
+    add-i
+    loop-less
+    loop-again
+    same-length
+    returns)

@@ -1,0 +1,79 @@
+-- `changes::discard_freed` meets its contract. The invariant: what is left are the batches from place a on. Assumes nothing.
+use native.Mathlib.Omega.{arith}
+use denote.Ref.{now}
+use Prim.Native.Nat.{_≤_, _-_}
+use lib.ListN.{length}
+use Rattle.wire.proofs.OutputLaws.{part-length, stretch-length}
+use Rattle.discard.proofs.BatchLaws.{Batches, batches-none, batches-more, batches-all, part-all}
+use Rattle.discard.proofs.changes.discard_freed.Statement.{statement}
+use Rattle.discard.proofs.changes.discard_freed.Tie as tie
+
+abbrev Inv-loop : tie.InvT-loop
+Inv-loop out₀ at s size freed needs table p₀ a₀ out p a = (a ≤ length freed) × Batches s needs size freed out₀ at out p a
+
+abbrev μ-loop : tie.MeasureT-loop
+μ-loop out₀ at s size freed needs table p₀ a₀ out p a = length freed - a
+
+loop-holds : tie.Need-loop-holds Inv-loop μ-loop
+loop-holds c = let b = c .before .before .before .before .args in (omega arith, batches-none (now (b .s)) (now (b .needs)) (b .size) (now (b .freed)) (omega arith))
+
+batch-end-requires : tie.Need-batch-end-requires Inv-loop μ-loop
+batch-end-requires c κs = omega arith
+
+mul-discard-buckets : tie.Need-mul-discard-buckets Inv-loop μ-loop
+mul-discard-buckets c = omega arith
+
+sub-discard-buckets : tie.Need-sub-discard-buckets Inv-loop μ-loop
+sub-discard-buckets c = omega (arith, c .before .batch-end .ensures)
+
+part-discard-buckets-start : tie.Need-part-discard-buckets-start Inv-loop μ-loop
+part-discard-buckets-start c = omega (arith, c .before .batch-end .ensures)
+
+part-discard-buckets-end : tie.Need-part-discard-buckets-end Inv-loop μ-loop
+part-discard-buckets-end c = omega (arith, c .before .batch-end .ensures)
+
+discard-buckets-requires : tie.Need-discard-buckets-requires Inv-loop μ-loop
+discard-buckets-requires c κs =
+    let b = c .before .before .before .before .before .before .before .before .before in
+    let a = c .before .before .before .before .loop .a in
+    let k = c .before .before .batch-end .result - a in
+    let e = c .before .before .batch-end .ensures in
+    let n = stretch-length (now (b .args .freed)) a k (omega (arith, e)) in
+    (part-all a k (b .pre .1), omega (arith, n, e, b .pre .0), omega (arith, n, e, b .pre .2), b .pre .3)
+
+loop-less : tie.Need-loop-less Inv-loop μ-loop
+loop-less c = omega (arith, c .before .before .before .before .before .batch-end .ensures, c .before .before .before .before .before .before .before .before .before .before .before .before .pre .0)
+
+loop-again : tie.Need-loop-again Inv-loop μ-loop
+loop-again c =
+    let b = c .before .before .before .before .before .before .before .before .before .before .before .before in
+    let l = c .before .before .before .before .before .before .before .loop in
+    let e = c .before .before .before .before .before .batch-end .ensures in
+    (omega (arith, e), batches-more (now (b .args .s)) (now (b .args .needs)) (b .args .size) (now (b .args .freed)) (l .a) (l .inv .1) (b .pre .0) (omega arith) e (c .before .before .discard-buckets .ensures))
+
+same-length : tie.Need-same-length Inv-loop μ-loop
+same-length c = part-length (c .before .loop .inv .1)
+
+returns : tie.Need-returns Inv-loop μ-loop
+returns c =
+    let b = c .before .before .before .before .before .before .args in
+    let l = c .before .loop in
+    batches-all (now (b .s)) (now (b .needs)) (b .size) (now (b .freed)) (l .a) (l .inv .1) (omega arith)
+
+pub discard-freed-spec : {M : Type 1} → statement M
+discard-freed-spec =
+    tie.close
+    (tie.spec
+    Inv-loop
+    μ-loop
+    loop-holds
+    batch-end-requires
+    mul-discard-buckets
+    sub-discard-buckets
+    part-discard-buckets-start
+    part-discard-buckets-end
+    discard-buckets-requires
+    loop-less
+    loop-again
+    same-length
+    returns)

@@ -1,0 +1,81 @@
+-- `runs::put_runs` meets its contract. The invariant: the runs of the buckets passed are written but for the last. Assumes nothing.
+use native.Mathlib.Omega.{arith}
+use mathlib.Core.Path.{_∙_}
+use denote.Ref.{now}
+use Prim.Native.Nat.{_≤_, _-_}
+use lib.ListN.{length}
+use Rattle.wire.proofs.OutputLaws.{part-length, wrote-length}
+use Rattle.discard.proofs.OffsetLaws.{all-at}
+use Rattle.discard.proofs.RunLaws.{Runs, runs-none, runs-more, runs-all, with-size}
+use Rattle.discard.proofs.runs.put_runs.Statement.{statement}
+use Rattle.discard.proofs.runs.put_runs.Tie as tie
+
+abbrev Inv-loop : tie.InvT-loop
+Inv-loop out₀ at s freed p₀ r₀ i₀ out p r i = (r .size ≤ i) × Runs s freed out₀ at out p r i
+
+abbrev μ-loop : tie.MeasureT-loop
+μ-loop out₀ at s freed p₀ r₀ i₀ out p r i = length freed - i
+
+loop-holds : tie.Need-loop-holds Inv-loop μ-loop
+loop-holds c = (omega arith, runs-none (now (c .before .before .before .args .s)) (now (c .before .before .before .args .freed)) _ (omega arith))
+
+mul-bucket-at : tie.Need-mul-bucket-at Inv-loop μ-loop
+mul-bucket-at c = omega arith
+
+shared-slice-read-bucket-at : tie.Need-shared-slice-read-bucket-at Inv-loop μ-loop
+shared-slice-read-bucket-at c = omega arith
+
+bucket-at-requires : tie.Need-bucket-at-requires Inv-loop μ-loop
+bucket-at-requires c κs = all-at (c .before .before .before .before .before .before .pre .0) (c .before .before .loop .i) (omega arith) .kept
+
+put-ended-requires : tie.Need-put-ended-requires Inv-loop μ-loop
+put-ended-requires c κs = tt
+
+with-bucket-requires : tie.Need-with-bucket-requires Inv-loop μ-loop
+with-bucket-requires c κs =
+    let h = all-at (c .before .before .before .before .before .before .before .before .before .before .before .pre .0) (c .before .before .before .before .before .before .before .loop .i) (omega arith) in
+    (rw (c .before .before .before .before .bucket-at .ensures) (h .below), omega (arith, c .before .before .before .before .before .before .before .loop .inv .0, c .before .before .before .before .before .before .before .before .before .before .before .pre .1))
+
+add-i : tie.Need-add-i Inv-loop μ-loop
+add-i c = omega arith
+
+loop-less : tie.Need-loop-less Inv-loop μ-loop
+loop-less c = omega arith
+
+loop-again : tie.Need-loop-again Inv-loop μ-loop
+loop-again c =
+    let a = c .before .before .before .before .before .before .before .before .before .before .before .before .args in
+    let l = c .before .before .before .before .before .before .before .before .loop in
+    let w = c .with-bucket .ensures in
+    (rw w (omega (arith, with-size (l .r) (c .before .before .before .before .before .bucket-at .result), l .inv .0)), rw w (runs-more (now (a .s)) (now (a .freed)) (l .r) (l .i) (l .inv .1) (omega arith) (c .before .before .before .before .before .bucket-at .ensures) (c .before .before .before .put-ended .ensures)))
+
+put-run-requires : tie.Need-put-run-requires Inv-loop μ-loop
+put-run-requires c κs = tt
+
+same-length : tie.Need-same-length Inv-loop μ-loop
+same-length c = wrote-length (c .before .before .put-run .ensures) ∙ part-length (c .before .before .before .before .before .loop .inv .1)
+
+returns : tie.Need-returns Inv-loop μ-loop
+returns c =
+    let a = c .before .before .before .before .before .before .before .before .before .args in
+    let l = c .before .before .before .before .before .loop in
+    runs-all (now (a .s)) (now (a .freed)) (l .r) (l .i) (l .inv .1) (omega arith) (c .before .before .put-run .ensures)
+
+pub put-runs-spec : {M : Type 1} → statement M
+put-runs-spec =
+    tie.close
+    (tie.spec
+    Inv-loop
+    μ-loop
+    loop-holds
+    mul-bucket-at
+    shared-slice-read-bucket-at
+    bucket-at-requires
+    put-ended-requires
+    with-bucket-requires
+    add-i
+    loop-less
+    loop-again
+    put-run-requires
+    same-length
+    returns)

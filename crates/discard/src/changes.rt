@@ -1,0 +1,96 @@
+// All batches of a discard (discard_freed), and its answer.
+ghost use mathlib.Core.Path.{_≡_};
+ghost use Prim.Native.Nat.{_≤_, _<_};
+ghost use mathlib.Core.List.{[]};
+ghost use lib.ListN.{length};
+ghost use Rattle.wire.specs.Bytes.{All};
+ghost use Rattle.wire.specs.Output.{Emitted};
+ghost use Rattle.calls.specs.ChangeList.{changeBytes};
+ghost use Rattle.calls.specs.Discard.{discardBatches};
+ghost use Rattle.calls.specs.Answers.{readVolume, answer, made, outcome};
+ghost use Rattle.discard.specs.Offsets.{FreedKept};
+ghost use Rattle.discard.specs.Table.{Tabled};
+ghost use Rattle.discard.specs.Emitted.{batchEnd, changesFrom};
+ghost use Rattle.discard.specs.Given.{Ready};
+use crate::batch;
+use crate::freed;
+use crate::waiting;
+use reader::head::Head;
+
+// Where the batch that begins at a ends, of n keys in all.
+fn batch_end(a: usize, n: usize, size: u32) -> usize
+    requires { ⌜ a ≤ n ⌝ }
+    ensures { λ r. ⌜ r ≡ batchEnd a n size ⌝ }
+{
+    let k = size as usize;
+    if n - a <= k {
+        return n;
+    }
+    a + k
+}
+
+// The batches, in alloc order. Refusal 20 shows that a batch has a key, `freed_keys`, `note_waiting` and the limits the rest.
+pub fn discard_freed(
+    out: &mut [u8],
+    at: usize,
+    s: &[u8],
+    size: u32,
+    freed: &[u32],
+    needs: &[u32],
+    table: &[u16; 65536],
+) -> usize
+    requires { ⌜ (0 < size) × All (FreedKept (now s)) (now freed) × (length (now freed) ≤ 4096) × Tabled (now s) (now needs) (now table) ⌝ }
+    ensures { λ r. ⌜ Emitted (now (out .entry)) at (changesFrom (now (s .entry)) (now (needs .entry)) size (now (freed .entry))) (now (out .exit)) r ⌝ }
+{
+    let mut p = at;
+    let mut a: usize = 0;
+    while a < freed.len() {
+        let e = batch_end(a, freed.len(), size);
+        p = batch::discard_buckets(out, p, s, &freed[a..e], needs, table);
+        a = e;
+    }
+    p
+}
+
+// First a dry run, into one byte, which tells the length; then 21 or the run into the output.
+fn write_changes(
+    out: &mut [u8],
+    written: &mut usize,
+    s: &[u8],
+    size: u32,
+    freed: &[u32],
+    needs: &[u32],
+    table: &[u16; 65536],
+) -> u32
+    requires { ⌜ (0 < size) × All (FreedKept (now s)) (now freed) × (length (now freed) ≤ 4096) × Tabled (now s) (now needs) (now table) ⌝ }
+    ensures { λ r. ⌜ made r (now (written .exit)) (now (out .exit)) ≡ outcome (answer [] (changesFrom (now (s .entry)) (now (needs .entry)) size (now (freed .entry))) (length (now (out .entry)))) (now (out .entry)) ⌝ }
+{
+    let mut dry = [0u8; 1];
+    let n = discard_freed(&mut dry, 0, s, size, freed, needs, table);
+    if out.len() < n {
+        *written = 0;
+        return 21;
+    }
+    discard_freed(out, 0, s, size, freed, needs, table);
+    *written = n;
+    0
+}
+
+// The answer to a discard whose list passed refusals 2, 3 and 20, which the reader and its caller show.
+pub fn discard_lists(
+    s: &[u8],
+    head: Head,
+    alloc: &[u32],
+    needs: &[u32],
+    out: &mut [u8],
+    written: &mut usize,
+) -> u32
+    requires { ⌜ Ready (now s) (now alloc) (now needs) head ⌝ }
+    ensures { λ r. ⌜ made r (now (written .exit)) (now (out .exit)) ≡ outcome (answer [] (changeBytes (discardBatches (readVolume (now (s .entry))))) (length (now (out .entry)))) (now (out .entry)) ⌝ }
+{
+    let mut table = [0u16; 65536];
+    waiting::note_waiting(&mut table, s, needs);
+    let mut freed = [0u32; 4096];
+    let n = freed::freed_keys(&mut freed, s, alloc, needs, &table);
+    write_changes(out, written, s, head.batch, &freed[..n], needs, &table)
+}

@@ -1,0 +1,8 @@
+// Discard: buckets that wait go back to the free pool.
+pub mod batch;
+pub mod changes;
+pub mod discard;
+pub mod found;
+pub mod freed;
+pub mod runs;
+pub mod waiting;
