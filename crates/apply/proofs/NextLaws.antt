@@ -1,0 +1,378 @@
+-- The next volume, section by section: its bytes and its limits. Assumes nothing.
+use mathlib.Core.Path.{_≡_, refl, ap, sym, _∙_, subst}
+use mathlib.Core.Bool.{Bool, true, false, not, _&&_, _||_, and-true}
+use mathlib.Core.List.{List, [], _∷_, _++_, map, append-assoc, append-nil}
+use Prim.Native.Nat.{ℕ, _+_, _-_, _%_, _≤_, _<_}
+use native.Mathlib.Omega.{arith}
+use lib.Dec.{leb, eqb, ltb}
+use lib.ListN.{length, take, drop, getD, length-append, length-take, length-drop, take-append-drop, length-map, List·getD-append}
+use lib.Seq.{take-all, take-at, drop-drop, take-append-le, drop-append-le}
+use borrow.Author.Tests.{ltb-true}
+use Rattle.wire.specs.Bytes.{All, none, more, Bytes}
+use Rattle.wire.specs.Numbers.{le, leBytes, each}
+use Rattle.wire.specs.Fields.{Field, fields, whole}
+use Rattle.wire.specs.Keys.{Key, keyOf}
+use Rattle.wire.specs.Encode.{headBytes, encodeField, encode, keyField}
+use Rattle.wire.specs.Kinds.{bucketInRange, runEndInRange, baseInRange}
+use Rattle.wire.specs.Positions.{bucketIn}
+use Rattle.wire.specs.declared.kinds.Bucket.{Bucket}
+use Rattle.wire.proofs.EncodeLaws.{encode-next, encode-append}
+use Rattle.wire.proofs.NumberLaws.{all-take, all-drop, leBytes-le, le-byte}
+use Rattle.wire.proofs.RoundTrip.{next-again}
+use Rattle.calls.specs.Lists.{allOf}
+use Rattle.calls.specs.CallList.{Head, headOf, headBody, headOk, Trees, Volume, bodies, treesOf, callListOf, shaped, treeFields, reservedField, volumeBytes}
+use Rattle.calls.specs.Limits.{isSet, atInode0, isRun, fewKeys, countsOk, bucketsOk, volumeWithin}
+use Rattle.calls.specs.ChangeList.{changeShapes, changeLaidOut}
+use Rattle.calls.specs.Trees.{applyQueue}
+use Rattle.calls.specs.Apply.{applyTrees, setRoots, withRoots}
+use Rattle.calls.specs.Answers.{readVolume, nextVolume}
+use Rattle.calls.proofs.AllLaws.{all-imp, all-each, all-test, test-all}
+use Rattle.calls.proofs.ApplyLaws.{roots-below}
+use Rattle.calls.proofs.BoolLaws.{both, parts}
+use Rattle.calls.proofs.Blocks.{field, flat, gather, keeps}
+use Rattle.reader.proofs.BoolLaws.{same}
+use Rattle.apply.specs.Entries.{sections, bucketKey, entries, fieldFor, sectionBytes}
+use Rattle.apply.specs.Weights.{keyFits, sectionWithin}
+use Rattle.apply.specs.Roots.{rootsIn, frontBytes}
+use Rattle.apply.proofs.BatchLaws.{tree-changes, bucket-changes, head-changes}
+use Rattle.apply.proofs.VolumeLaws.{entries-bodies, tree-entry, tree-keys, bucket-keys, SectionOf, Parted, headBodyOf}
+use Rattle.apply.proofs.RootLaws.{roots-listed}
+
+-- the keys of section t in the next volume
+unfoldable pub nextOf : List ℕ → List ℕ → ℕ → List Key
+nextOf vol list t = applyQueue (entries t (fields list)) (entries t (fields vol))
+
+-- its sections
+
+module _ (vol list : List ℕ) (l : changeLaidOut list ≡ true) where
+  queued : (t : ℕ) → eqb t 64 ≡ false → keeps t 37 293 changeShapes ≡ true → entries t (fields list) ≡ map keyOf (bodies t (fields list))
+  unfolding changeLaidOut
+  queued t n k =
+      let fs : List Field = fields list in
+      let a = parts (whole list) _ l in
+      let b = parts (allOf (shaped changeShapes) fs) _ (a .1) in
+      entries-bodies t (all-imp (tree-entry t changeShapes n k) (test-all (shaped changeShapes) fs (b .0))) ∙ tree-keys t n (bodies t fs)
+
+  next-tree :
+      (t : ℕ) (of : Trees → List Key) → eqb t 64 ≡ false → eqb 76 t ≡ false → keeps t 37 293 changeShapes ≡ true
+      → ((gs : List Field) → of (treesOf gs) ≡ map keyOf (bodies t gs))
+      → ((q v : Trees) → of (applyTrees q v) ≡ applyQueue (of q) (of v))
+      → SectionOf vol t
+      → of (nextVolume vol list .trees) ≡ nextOf vol list t
+  unfolding nextOf callListOf
+  next-tree t of n m k h a s =
+      tree-changes t of m h a list (readVolume vol)
+      ∙ (λ i. applyQueue (sym (queued t n k) i) ((h (fields vol) ∙ sym (s .is ∙ tree-keys t n (bodies t (fields vol)))) i))
+
+  next-buckets : SectionOf vol 64 → map (bucketKey 1) (nextVolume vol list .reserved) ≡ nextOf vol list 64
+  unfolding nextOf callListOf
+  next-buckets s =
+      bucket-changes list (readVolume vol) l
+      ∙ ap (applyQueue (entries 64 (fields list))) (sym (s .is ∙ bucket-keys (bodies 64 (fields vol))))
+
+pub record Next (vol list : List ℕ) : Type 0 where
+  pub alloc : nextVolume vol list .trees .alloc ≡ nextOf vol list 4
+  pub lru : nextVolume vol list .trees .lru ≡ nextOf vol list 10
+  pub freespace : nextVolume vol list .trees .freespace ≡ nextOf vol list 11
+  pub needDiscard : nextVolume vol list .trees .needDiscard ≡ nextOf vol list 12
+  pub backpointers : nextVolume vol list .trees .backpointers ≡ nextOf vol list 13
+  pub gens : nextVolume vol list .trees .gens ≡ nextOf vol list 14
+  pub reserved : map (bucketKey 1) (nextVolume vol list .reserved) ≡ nextOf vol list 64
+
+next-each : {vol list : List ℕ} → All (SectionOf vol) sections → changeLaidOut list ≡ true → Next vol list
+unfolding treesOf applyTrees changeShapes
+next-each {vol} {list} (more a (more b (more c (more d (more e (more f (more g none))))))) l =
+    record {
+      alloc = next-tree vol list l 4 (λ t. t .alloc) refl refl refl (λ gs. refl) (λ q v. refl) a;
+      lru = next-tree vol list l 10 (λ t. t .lru) refl refl refl (λ gs. refl) (λ q v. refl) b;
+      freespace = next-tree vol list l 11 (λ t. t .freespace) refl refl refl (λ gs. refl) (λ q v. refl) c;
+      needDiscard = next-tree vol list l 12 (λ t. t .needDiscard) refl refl refl (λ gs. refl) (λ q v. refl) d;
+      backpointers = next-tree vol list l 13 (λ t. t .backpointers) refl refl refl (λ gs. refl) (λ q v. refl) e;
+      gens = next-tree vol list l 14 (λ t. t .gens) refl refl refl (λ gs. refl) (λ q v. refl) f;
+      reserved = next-buckets vol list l g;
+    }
+
+pub next-is : {vol list : List ℕ} → Parted vol → changeLaidOut list ≡ true → Next vol list
+next-is p l = next-each (p .each) l
+
+-- the bytes of a volume, section by section
+
+for-tree : (t : ℕ) → eqb t 64 ≡ false → (k : Key) → keyField t k ≡ fieldFor t k
+unfolding fieldFor
+for-tree t n k = rw n
+
+tree-bytes : (t : ℕ) → eqb t 64 ≡ false → (ks : List Key) → encode (map (keyField t) ks) ≡ sectionBytes t ks
+unfolding encode each sectionBytes
+tree-bytes t n [] = refl
+tree-bytes t n (k ∷ ks) = λ i. encodeField (for-tree t n k i) ++ tree-bytes t n ks i
+
+bucket-bytes : (bs : List Bucket) → encode (map reservedField bs) ≡ sectionBytes 64 (map (bucketKey 1) bs)
+unfolding encode each sectionBytes fieldFor
+bucket-bytes [] = refl
+bucket-bytes (b ∷ bs) = ap (λ (l : List ℕ). encodeField (reservedField b) ++ l) (unfold encode sectionBytes in (bucket-bytes bs))
+
+volume-parts :
+    (v : Volume)
+    → volumeBytes v
+    ≡ encodeField (field 1 (headBody (v .head)))
+    ++ (sectionBytes 4 (v .trees .alloc)
+    ++ (sectionBytes 10 (v .trees .lru)
+    ++ (sectionBytes 11 (v .trees .freespace)
+    ++ (sectionBytes 12 (v .trees .needDiscard)
+    ++ (sectionBytes 13 (v .trees .backpointers)
+    ++ (sectionBytes 14 (v .trees .gens) ++ sectionBytes 64 (map (bucketKey 1) (v .reserved))))))))
+unfolding volumeBytes treeFields
+volume-parts v =
+    simp (
+      encode-next,
+      encode-append,
+      append-assoc,
+      tree-bytes 4 refl,
+      tree-bytes 10 refl,
+      tree-bytes 11 refl,
+      tree-bytes 12 refl,
+      tree-bytes 13 refl,
+      tree-bytes 14 refl,
+      bucket-bytes,
+    )
+
+-- field 1: the root bits, and all else
+
+piece : {b : List ℕ} → Bytes b → (n k : ℕ) → k + n ≤ length b → leBytes n (le n (drop k b)) ++ drop (k + n) b ≡ drop k b
+piece {b} r n k h =
+    rw (leBytes-le n (all-drop k r) (rw length-drop (omega arith)), ← drop-drop n k b) (take-append-drop n (drop k b))
+
+one-byte : (r : ℕ) → r < 256 → leBytes 1 r ≡ r ∷ []
+unfolding leBytes
+one-byte r l = let m : r % 256 ≡ r = omega arith in rw m
+
+head-with : {b : List ℕ} → Bytes b → length b ≡ 39 → (r : ℕ) → r < 256 → headBody (withRoots (headOf b) r) ≡ take 6 b ++ (r ∷ drop 7 b)
+unfolding headBody withRoots headOf
+head-with {b} s e r l =
+    let last : leBytes 8 (le 8 (drop 31 b)) ≡ drop 31 b =
+    leBytes-le 8 (all-drop 31 s) (rw length-drop (omega arith)) ∙ take-all 8 (drop 31 b) (omega (arith, length-drop 31 b)) in
+    rw (
+      next-again s 0 1 (omega arith),
+      next-again s 1 2 (omega arith),
+      next-again s 3 2 (omega arith),
+      next-again s 5 1 (omega arith),
+    )
+    (simp append-assoc
+    (rw (
+      last,
+      piece s 8 23 (omega arith),
+      piece s 8 15 (omega arith),
+      piece s 4 11 (omega arith),
+      piece s 4 7 (omega arith),
+      one-byte r l,
+    )))
+
+encode-39 : (c : List ℕ) → length c ≡ 39 → encodeField (field 1 c) ≡ 1 ∷ 39 ∷ 0 ∷ c
+unfolding encodeField headBytes leBytes
+encode-39 c e = rw e
+
+module _ {vol : List ℕ} (p : Parted vol) where
+  abbrev b : List ℕ
+  b = headBodyOf vol
+
+  abbrev rest : List ℕ
+  rest = encode (flat (gather sections (fields vol)))
+
+  -- the volume's first bytes
+  starts : vol ≡ 1 ∷ 39 ∷ 0 ∷ (b ++ rest)
+  starts = p .whole ∙ ap (λ (l : List ℕ). l ++ rest) (encode-39 b (p .long))
+
+  pub front-fits : 42 ≤ length vol
+  front-fits = omega (arith, ap length starts, length-append b rest, p .long)
+
+  head-bytes : Bytes b
+  head-bytes =
+      subst (λ (l : List ℕ). Bytes l) (take-at b rest 39 (p .long))
+      (all-take 39 (all-drop 3 (subst (λ (l : List ℕ). Bytes l) starts (p .bytes))))
+
+  pub roots-at : getD vol 9 0 ≡ headOf b .roots
+  unfolding headOf
+  roots-at = ap (λ (l : List ℕ). getD l 9 0) starts ∙ List·getD-append b rest 0 6 (omega (arith, p .long)) ∙ sym (le-byte b 6)
+
+  pub roots-low : getD vol 9 0 < 8
+  unfolding headOk callListOf
+  roots-low =
+      let h = parts (leb 1 (headOf b .call)) _ (p .head) .1 in
+      let k = parts (leb (headOf b .call) 3) (ltb (headOf b .roots) 8) h .1 in
+      rw roots-at (ltb-true (headOf b .roots) 8 k)
+
+  front-next : (r : ℕ) → r < 256 → encodeField (field 1 (headBody (withRoots (headOf b) r))) ≡ take 9 vol ++ (r ∷ take 32 (drop 10 vol))
+  front-next r l =
+      let c : List ℕ = take 6 b ++ (r ∷ drop 7 b) in
+      let n : length c ≡ 39 = simp (length-append, length-take, length-drop) (omega (arith, p .long)) in
+      let x : take 9 vol ≡ 1 ∷ 39 ∷ 0 ∷ take 6 b =
+      ap (take 9) starts ∙ ap (λ (m : List ℕ). 1 ∷ 39 ∷ 0 ∷ m) (take-append-le 6 b rest (omega (arith, p .long))) in
+      let y : take 32 (drop 10 vol) ≡ drop 7 b =
+      ap (λ (m : List ℕ). take 32 (drop 10 m)) starts ∙ ap (take 32) (drop-append-le 7 b rest (omega (arith, p .long)))
+      ∙ take-at (drop 7 b) rest 32 (length-drop 7 b ∙ omega (arith, p .long)) in
+      ap (λ (m : List ℕ). encodeField (field 1 m)) (head-with head-bytes (p .long) r l)
+      ∙ encode-39 c n
+      ∙ (λ i. sym x i ++ (r ∷ sym y i))
+
+-- the bytes of the next volume
+
+unfoldable pub nextBytes : List ℕ → List ℕ → ℕ → List ℕ
+nextBytes vol list t = sectionBytes t (nextOf vol list t)
+
+module _ {vol : List ℕ} (list : List ℕ) (p : Parted vol) (l : changeLaidOut list ≡ true) where
+  next-front : encodeField (field 1 (headBody (nextVolume vol list .head))) ≡ frontBytes vol list
+  unfolding callListOf frontBytes
+  next-front =
+      let r : ℕ = setRoots (rootsIn (fields list)) (getD vol 9 0) in
+      let low : r < 8 = roots-below (getD vol 9 0) (roots-listed list l) (roots-low p) in
+      ap (λ (h : Head). encodeField (field 1 (headBody h)))
+      (head-changes list (readVolume vol)
+      ∙ ap (λ (n : ℕ). withRoots (headOf (headBodyOf vol)) (setRoots (rootsIn (fields list)) n)) (sym (roots-at p)))
+      ∙ front-next p r (omega arith)
+
+  pub next-bytes : volumeBytes (nextVolume vol list) ≡ frontBytes vol list ++ each (nextBytes vol list) sections
+  unfolding each nextBytes
+  next-bytes =
+      let n = next-is p l in
+      let last : sectionBytes 64 (map (bucketKey 1) (nextVolume vol list .reserved)) ≡ sectionBytes 64 (nextOf vol list 64) ++ [] =
+      ap (sectionBytes 64) (n .reserved) ∙ sym (append-nil (sectionBytes 64 (nextOf vol list 64))) in
+      volume-parts (nextVolume vol list)
+      ∙ (λ i.
+      next-front i
+      ++ (sectionBytes 4 (n .alloc i)
+      ++ (sectionBytes 10 (n .lru i)
+      ++ (sectionBytes 11 (n .freespace i)
+      ++ (sectionBytes 12 (n .needDiscard i) ++ (sectionBytes 13 (n .backpointers i) ++ (sectionBytes 14 (n .gens i) ++ last i)))))))
+
+-- the limits of the next volume
+
+unfoldable pub nextWithin : List ℕ → List ℕ → ℕ → Bool
+nextWithin vol list t = sectionWithin t (nextOf vol list t)
+
+-- sections without a limit on buckets
+free-within : (t : ℕ) (ks : List Key) → ((k : Key) → keyFits t (k .type) (k .pos) ≡ true) → sectionWithin t ks ≡ fewKeys ks
+unfolding sectionWithin fewKeys
+free-within t ks f = ap (λ (b : Bool). leb (length ks) 4096 && b) (go ks) ∙ and-true (leb (length ks) 4096)
+  where
+    go : (l : List Key) → allOf (λ k. keyFits t (k .type) (k .pos)) l ≡ true
+    go l = all-test (λ k. keyFits t (k .type) (k .pos)) (all-each f l)
+
+all-reserved : (l : List Bucket) → allOf (λ k. bucketInRange (bucketIn (k .pos))) (map (bucketKey 1) l) ≡ allOf bucketInRange l
+unfolding allOf
+all-reserved [] = refl
+all-reserved (b ∷ l) = ap (λ (t : Bool). bucketInRange b && t) (all-reserved l)
+
+reserved-within : (bs : List Bucket) → sectionWithin 64 (map (bucketKey 1) bs) ≡ (leb (length bs) 4096 && allOf bucketInRange bs)
+unfolding sectionWithin keyFits
+reserved-within bs = λ i. leb (length-map bs (bucketKey 1) i) 4096 && all-reserved bs i
+
+-- the tests of a volume, in another order: counts, then buckets; or section by section
+module _ (a4 a10 a11 a12 a13 a14 b4 b11 b12 r n x y : Bool) (hx : x ≡ true) (hy : y ≡ true) where
+  abbrev by-kind : Bool
+  by-kind = (a4 && (a10 && (a11 && (a12 && (a13 && a14))))) && ((b4 && (b12 && b11)) && (r && (n && (x && y))))
+
+  abbrev by-section : Bool
+  by-section = (a4 && b4) && (a10 && ((a11 && b11) && ((a12 && b12) && (a13 && (a14 && ((r && n) && true))))))
+
+  to-sections : by-kind ≡ true → by-section ≡ true
+  to-sections h =
+      let p = parts (a4 && (a10 && (a11 && (a12 && (a13 && a14))))) _ h in
+      let c4 = parts a4 _ (p .0) in
+      let c10 = parts a10 _ (c4 .1) in
+      let c11 = parts a11 _ (c10 .1) in
+      let c12 = parts a12 _ (c11 .1) in
+      let c13 = parts a13 a14 (c12 .1) in
+      let q = parts (b4 && (b12 && b11)) _ (p .1) in
+      let d4 = parts b4 _ (q .0) in
+      let d12 = parts b12 b11 (d4 .1) in
+      let e = parts r _ (q .1) in
+      let f = parts n _ (e .1) in
+      both (both (c4 .0) (d4 .0))
+      (both (c10 .0)
+      (both (both (c11 .0) (d12 .1))
+      (both (both (c12 .0) (d12 .0)) (both (c13 .0) (both (c13 .1) (both (both (e .0) (f .0)) refl))))))
+
+  to-kinds : by-section ≡ true → by-kind ≡ true
+  to-kinds h =
+      let c4 = parts (a4 && b4) _ h in
+      let c10 = parts a10 _ (c4 .1) in
+      let c11 = parts (a11 && b11) _ (c10 .1) in
+      let c12 = parts (a12 && b12) _ (c11 .1) in
+      let c13 = parts a13 _ (c12 .1) in
+      let c14 = parts a14 _ (c13 .1) in
+      let e = parts r n (parts (r && n) true (c14 .1) .0) in
+      let d4 = parts a4 b4 (c4 .0) in
+      let d11 = parts a11 b11 (c11 .0) in
+      let d12 = parts a12 b12 (c12 .0) in
+      both (both (d4 .0) (both (c10 .0) (both (d11 .0) (both (d12 .0) (both (c13 .0) (c14 .0))))))
+      (both (both (d4 .1) (both (d12 .1) (d11 .1))) (both (e .0) (both (e .1) (both hx hy))))
+
+  same-tests : by-kind ≡ by-section
+  same-tests = same by-kind by-section to-sections to-kinds
+
+volume-within :
+    (v : Volume) → leb (v .head .reserve) 65536 ≡ true → baseInRange (v .head .base) ≡ true
+    → volumeWithin v
+    ≡ (sectionWithin 4 (v .trees .alloc)
+    && (sectionWithin 10 (v .trees .lru)
+    && (sectionWithin 11 (v .trees .freespace)
+    && (sectionWithin 12 (v .trees .needDiscard)
+    && (sectionWithin 13 (v .trees .backpointers)
+    && (sectionWithin 14 (v .trees .gens) && (sectionWithin 64 (map (bucketKey 1) (v .reserved)) && true)))))))
+unfolding volumeWithin countsOk bucketsOk sectionWithin fewKeys keyFits
+volume-within v hx hy =
+    let t : Trees = v .trees in
+    let few : List Key → Bool = fewKeys in
+    same-tests (few (t .alloc)) (few (t .lru)) (few (t .freespace)) (few (t .needDiscard)) (few (t .backpointers)) (few (t .gens))
+    (allOf (λ k. not (atInode0 k) || bucketInRange (bucketIn (k .pos))) (t .alloc))
+    (allOf (λ k. not (isRun k) || runEndInRange (bucketIn (k .pos))) (t .freespace))
+    (allOf (λ k. not (isSet k) || bucketInRange (bucketIn (k .pos))) (t .needDiscard))
+    (leb (length (v .reserved)) 4096)
+    (allOf bucketInRange (v .reserved))
+    (leb (v .head .reserve) 65536)
+    (baseInRange (v .head .base))
+    hx hy
+    ∙ (λ i.
+    tree-4 (t .alloc) i
+    && (sym (free-within 10 (t .lru) (λ k. refl)) i
+    && (tree-11 (t .freespace) i
+    && (tree-12 (t .needDiscard) i
+    && (sym (free-within 13 (t .backpointers) (λ k. refl)) i
+    && (sym (free-within 14 (t .gens) (λ k. refl)) i && (sym (reserved-within (v .reserved)) i && true)))))))
+  where
+    tree-4 : (ks : List Key) → (fewKeys ks && allOf (λ k. not (atInode0 k) || bucketInRange (bucketIn (k .pos))) ks) ≡ sectionWithin 4 ks
+    tree-4 ks = refl
+
+    tree-11 : (ks : List Key) → (fewKeys ks && allOf (λ k. not (isRun k) || runEndInRange (bucketIn (k .pos))) ks) ≡ sectionWithin 11 ks
+    tree-11 ks = refl
+
+    tree-12 : (ks : List Key) → (fewKeys ks && allOf (λ k. not (isSet k) || bucketInRange (bucketIn (k .pos))) ks) ≡ sectionWithin 12 ks
+    tree-12 ks = refl
+
+head-within : (v : Volume) → volumeWithin v ≡ true → (leb (v .head .reserve) 65536 ≡ true) × (baseInRange (v .head .base) ≡ true)
+unfolding volumeWithin
+head-within v h =
+    let a = parts (countsOk (v .trees)) _ h in
+    let b = parts (bucketsOk (v .trees)) _ (a .1) in
+    let c = parts (leb (length (v .reserved)) 4096) _ (b .1) in
+    let d = parts (allOf bucketInRange (v .reserved)) _ (c .1) in
+    parts (leb (v .head .reserve) 65536) (baseInRange (v .head .base)) (d .1)
+
+pub next-within :
+    {vol : List ℕ} (list : List ℕ) → Parted vol → changeLaidOut list ≡ true → volumeWithin (readVolume vol) ≡ true
+    → volumeWithin (nextVolume vol list) ≡ allOf (nextWithin vol list) sections
+unfolding allOf nextWithin withRoots
+next-within {vol} list p l h =
+    let n = next-is p l in
+    let v : Volume = nextVolume vol list in
+    let e = head-changes list (readVolume vol) in
+    let w = head-within (readVolume vol) h in
+    volume-within v
+    (ap (λ (x : Head). leb (x .reserve) 65536) e ∙ w .0)
+    (ap (λ (x : Head). baseInRange (x .base)) e ∙ w .1)
+    ∙ (λ i.
+    sectionWithin 4 (n .alloc i)
+    && (sectionWithin 10 (n .lru i)
+    && (sectionWithin 11 (n .freespace i)
+    && (sectionWithin 12 (n .needDiscard i)
+    && (sectionWithin 13 (n .backpointers i) && (sectionWithin 14 (n .gens i) && (sectionWithin 64 (n .reserved i) && true)))))))

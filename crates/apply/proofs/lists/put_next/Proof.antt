@@ -1,0 +1,20 @@
+-- `put_next` meets its contract.
+use borrow.Author.Needs.{needs}
+use Rattle.apply.proofs.ResultLaws.{section-done}
+use Rattle.apply.proofs.lists.put_next.Statement.{statement}
+use Rattle.apply.proofs.lists.put_next.Tie as tie
+
+put-section-requires : tie.Need-put-section-requires
+put-section-requires c κs = search needs
+
+heavier-requires : tie.Need-heavier-requires
+heavier-requires c κs = search needs
+
+same-length : tie.Need-same-length
+same-length c = search needs
+
+returns : tie.Need-returns
+returns c = section-done (c .heavier .ensures) (c .before .before .before .put-section .ensures)
+
+pub put-next-spec : {M : Type 1} → statement M
+put-next-spec = tie.close (tie.spec put-section-requires heavier-requires same-length returns)

@@ -1,0 +1,30 @@
+-- Document 01, "Limits", of a section's keys as one number: 1 for each, and for one that passes a limit as much as too many.
+use Prim.Native.Nat.{ℕ, _+_}
+use mathlib.Core.Bool.{Bool, true, not, _&&_, _||_, cond}
+use mathlib.Core.List.{List, [], _∷_}
+use lib.ListN.{length}
+use lib.Dec.{leb, eqb}
+use Rattle.wire.specs.Keys.{Key}
+use Rattle.wire.specs.Kinds.{bucketInRange, runEndInRange}
+use Rattle.wire.specs.Positions.{bucketIn}
+use Rattle.wire.specs.declared.bpos.Bpos.{Bpos}
+use Rattle.calls.specs.Lists.{allOf}
+
+-- a key of type y at p is within the limits of section t
+unfoldable pub keyFits : ℕ → ℕ → Bpos → Bool
+keyFits t y p =
+    cond (eqb t 64) (bucketInRange (bucketIn p))
+    (cond (eqb t 4) (not (eqb (p .inode) 0) || bucketInRange (bucketIn p))
+    (cond (eqb t 12) (not (eqb y 25) || bucketInRange (bucketIn p))
+    (cond (eqb t 11) (not (eqb y 25 && eqb (p .inode) 0) || runEndInRange (bucketIn p)) true)))
+
+-- at most 4,096 keys, each within its limits
+unfoldable pub sectionWithin : ℕ → List Key → Bool
+sectionWithin t ks = leb (length ks) 4096 && allOf (λ k. keyFits t (k .type) (k .pos)) ks
+
+unfoldable pub weight : ℕ → ℕ → Bpos → ℕ
+weight t y p = cond (keyFits t y p) 1 4097
+
+unfoldable pub weighs : ℕ → List Key → ℕ
+weighs t [] = 0
+weighs t (k ∷ ks) = weight t (k .type) (k .pos) + weighs t ks

@@ -1,0 +1,76 @@
+// Field 1 of the next volume: root bits are set, all else is kept.
+ghost use mathlib.Core.Path.{_≡_};
+ghost use mathlib.Core.Bool.{true};
+ghost use Prim.Native.Nat.{_+_, _≤_, _<_};
+ghost use lib.ListN.{length, getD};
+ghost use Rattle.wire.specs.Fields.{fields};
+ghost use Rattle.wire.specs.Output.{Wrote};
+ghost use Rattle.calls.specs.Apply.{setRoots};
+ghost use Rattle.calls.specs.ChangeList.{changeLaidOut};
+ghost use Rattle.apply.specs.Roots.{withBit, withRoot, isRoot, rootsIn, NamesRoot, Rooted, afterField, frontBytes};
+use wire::emit;
+use wire::fields;
+use wire::fields::NextField;
+
+// A bit set, unless it is. `set_root` shows the bounds.
+fn with_bit(roots: u8, bit: u8) -> u8
+    requires { ⌜ (0 < bit) × (roots + bit < 256) ⌝ }
+    ensures { λ r. ⌜ r ≡ withBit roots bit ⌝ }
+{
+    if roots / bit % 2 == 0 {
+        return roots + bit;
+    }
+    roots
+}
+
+// The bit of a root set. The layout of the change list shows the id, that of the volume the bits.
+fn set_root(roots: u8, id: u8) -> u8
+    requires { ⌜ (roots < 8) × (isRoot id ≡ true) ⌝ }
+    ensures { λ r. ⌜ Rooted r (withRoot roots id) ⌝ }
+{
+    if id == 10 {
+        return with_bit(roots, 1);
+    }
+    if id == 12 {
+        return with_bit(roots, 2);
+    }
+    with_bit(roots, 4)
+}
+
+// What one field of a change list makes of the root bits. The layout of the change list shows what a field 70 holds.
+fn after_field(list: &[u8], roots: u8, tag: u8, start: usize) -> u8
+    requires { ⌜ (roots < 8) × NamesRoot (now list) tag start ⌝ }
+    ensures { λ r. ⌜ Rooted r (afterField (now (list .entry)) roots tag start) ⌝ }
+{
+    if tag != 70 {
+        return roots;
+    }
+    set_root(roots, list[start])
+}
+
+// The root bits after a change list, whose layout was tested, as the volume's was.
+fn roots_after(list: &[u8], roots: u8) -> u8
+    requires { ⌜ (roots < 8) × (changeLaidOut (now list) ≡ true) ⌝ }
+    ensures { λ r. ⌜ Rooted r (setRoots (rootsIn (fields (now (list .entry)))) roots) ⌝ }
+{
+    let mut at: usize = 0;
+    let mut r = roots;
+    loop {
+        let NextField::Found { tag, start, len } = fields::next_field(list, at) else {
+            return r;
+        };
+        r = after_field(list, r, tag, start);
+        at = start + len;
+    }
+}
+
+// Field 1: the volume's 42 bytes, with other root bits. The volume's layout shows the bound.
+pub fn put_front(out: &mut [u8], vol: &[u8], list: &[u8]) -> usize
+    requires { ⌜ (42 ≤ length (now vol)) × (getD (now vol) 9 0 < 8) × (changeLaidOut (now list) ≡ true) ⌝ }
+    ensures { λ r. ⌜ Wrote (now (out .entry)) 0 42 (frontBytes (now (vol .entry)) (now (list .entry))) (now (out .exit)) r ⌝ }
+{
+    let roots = roots_after(list, vol[9]);
+    let p = emit::put_bytes(out, 0, vol, 0, 9);
+    let p = emit::put_u8(out, p, roots);
+    emit::put_bytes(out, p, vol, 10, 32)
+}
