@@ -1,0 +1,106 @@
+/* Zerglaz: a bucket allocator for bcachefs volumes, by four calls on lists of bytes.
+ *
+ * A call reads a call list: a volume, and for a placement or a release its requests. It writes a
+ * change list. Apply reads a volume and a change list and writes the next volume.
+ *
+ * Every call has one outcome over any bytes, and its code is proved to have it:
+ * - Accepted: 0. The answer stands at the start of `out`, `*written` is its length, and the rest of
+ *   `out` is as it was.
+ * - Refused: a number of `enum zerglaz_refusal`, the first whose test fails in the order of
+ *   document 01. `*written` is 0 and all of `out` is as it was.
+ * What `*written` held before plays no part. No call allocates memory or keeps anything between calls.
+ *
+ * The caller's duties:
+ * - Each pointer is valid for its length and not null, also where the length is 0: lists for reading,
+ *   `out`, `scratch` and `written` for reading and writing. The length of `scratch` counts sums of four
+ *   bytes, and `scratch` and `written` are aligned as their types ask.
+ * - `out`, `scratch` and `written` overlap neither each other nor a list.
+ * - At least 512 KiB of stack are left for each call.
+ */
+#ifndef ZERGLAZ_H
+#define ZERGLAZ_H
+
+#include <stddef.h>
+#include <stdint.h>
+
+#ifdef __cplusplus
+extern "C" {
+#endif
+
+/* The sums that a release's scratch holds at least: one for each bucket number. */
+#define ZERGLAZ_SUMS 65536
+
+/* What a call answers. */
+enum zerglaz_refusal {
+    ZERGLAZ_ACCEPTED = 0,
+    /* release: the scratch has fewer than ZERGLAZ_SUMS sums */
+    ZERGLAZ_SCRATCH_TOO_SHORT = 1,
+    /* all: a list breaks its layout, names another call or holds another call's requests */
+    ZERGLAZ_BROKEN_LAYOUT = 2,
+    /* all: a limit is passed; in apply by the volume or by the result */
+    ZERGLAZ_LIMIT_PASSED = 3,
+    /* place, release: bucket sectors are 0 */
+    ZERGLAZ_NO_BUCKET_SECTORS = 4,
+    /* place: the checksum option is above 3 */
+    ZERGLAZ_UNKNOWN_CHECKSUM_OPTION = 5,
+    /* place: a compression kind is not 0, 2, 3, 4 or 5 */
+    ZERGLAZ_UNKNOWN_COMPRESSION = 6,
+    /* place: a compression kind other than 0 meets checksum option 0 */
+    ZERGLAZ_COMPRESSION_WITHOUT_CHECKSUM = 7,
+    /* place: block sectors do not divide both the bucket and 128 */
+    ZERGLAZ_BLOCK_DOES_NOT_DIVIDE = 8,
+    /* place: a piece's file or stored sectors are out of bounds, no blocks or not as its kind asks */
+    ZERGLAZ_BAD_PIECE = 9,
+    /* place: two freespace runs overlap */
+    ZERGLAZ_RUNS_OVERLAP = 10,
+    /* place: fewer buckets are free than are needed and kept back */
+    ZERGLAZ_TOO_FEW_FREE_BUCKETS = 11,
+    /* place: the walk reaches a run begun before bucket 0 */
+    ZERGLAZ_RUN_BEFORE_BUCKET_ZERO = 12,
+    /* place: the walk would take a bucket whose alloc key has a data type */
+    ZERGLAZ_FREE_BUCKET_IN_USE = 13,
+    /* release: a piece has 0 or over 128 sectors, or passes its bucket's end or bucket 65,535 */
+    ZERGLAZ_BAD_RELEASE = 14,
+    /* release: a bucket has no alloc key */
+    ZERGLAZ_NO_ALLOC_KEY = 15,
+    /* release: a bucket's alloc value is below 56 bytes */
+    ZERGLAZ_ALLOC_VALUE_TOO_SHORT = 16,
+    /* release: a bucket's dirty sectors exceed the bucket */
+    ZERGLAZ_TOO_MANY_DIRTY_SECTORS = 17,
+    /* release: more is freed of a bucket than it holds */
+    ZERGLAZ_FREES_MORE_THAN_HELD = 18,
+    /* release: an emptied bucket's generation record is too short for its byte */
+    ZERGLAZ_GENERATION_RECORD_TOO_SHORT = 19,
+    /* discard: the batch is 0 */
+    ZERGLAZ_NO_BATCH = 20,
+    /* all: the output is too short for the answer */
+    ZERGLAZ_OUTPUT_TOO_SHORT = 21
+};
+
+/* Chooses buckets for the pieces that the list asks to place, and writes the change list that places
+ * them. Answers 0, 2 to 13 or 21. */
+uint32_t zerglaz_place(const uint8_t *list, size_t list_len, uint8_t *out, size_t out_len,
+                       size_t *written);
+
+/* Writes the change list that gives back the sectors of the pieces that the list names, and empties
+ * the buckets that hold no more. Answers 0 to 4, 14 to 19 or 21.
+ * The scratch: with 1 all of it is as it was. With any other answer its first ZERGLAZ_SUMS sums are 0
+ * and the others are as they were; what it held before plays no part. */
+uint32_t zerglaz_release(const uint8_t *list, size_t list_len, uint32_t *scratch, size_t scratch_len,
+                         uint8_t *out, size_t out_len, size_t *written);
+
+/* Writes the change list that frees the emptied buckets which wait for their discard, in batches. With
+ * nothing to discard it has no bytes. Answers 0, 2, 3, 20 or 21. */
+uint32_t zerglaz_discard(const uint8_t *list, size_t list_len, uint8_t *out, size_t out_len,
+                         size_t *written);
+
+/* Writes the volume that a volume (a call list of any call, without requests) becomes by a change
+ * list. Answers 0, 2, 3 or 21. */
+uint32_t zerglaz_apply(const uint8_t *volume, size_t volume_len, const uint8_t *change,
+                       size_t change_len, uint8_t *out, size_t out_len, size_t *written);
+
+#ifdef __cplusplus
+}
+#endif
+
+#endif

@@ -1,0 +1,11 @@
+//! What the tests of this folder share.
+
+use lists::lent::Calls;
+
+/// The archive's four calls.
+pub const ARCHIVE: Calls = Calls {
+    place: zerglaz::ffi::place,
+    release: zerglaz::ffi::release,
+    discard: zerglaz::ffi::discard,
+    apply: zerglaz::ffi::apply,
+};

@@ -1,0 +1,309 @@
+//! Each of the four functions that `src/ffi.rs` and `include/zerglaz.h` declare, held to answers that
+//! are written out here by hand from document 01.
+
+mod common;
+
+use common::ARCHIVE;
+use lists::lent::Due;
+use zerglaz::{
+    key_type, Batch, Bucket, Call, CallList, ChangeList, Counters, DeviceSector, Head, Key, Piece,
+    Placed, Position, Refusal, Released, Root, Row, Tree, SUMS,
+};
+
+/// The bytes of words, each little-endian.
+fn words(words: &[u64]) -> Vec<u8> {
+    words.iter().flat_map(|word| word.to_le_bytes()).collect()
+}
+
+/// A key of a type and a value.
+fn key(key_type: u8, position: Position, value: Vec<u8>) -> Key {
+    Key {
+        value,
+        ..Key::new(key_type, position)
+    }
+}
+
+/// A row at offset 0.
+fn row(inode: u64, counters: Counters) -> Row {
+    Row {
+        inode,
+        offset: 0,
+        counters,
+    }
+}
+
+/// A list of a call with bucket sectors, checksum option 1, batch 1 and journal number 9.
+fn list(call: Call, bucket_sectors: u16) -> CallList {
+    CallList::new(Head {
+        call,
+        bucket_sectors,
+        block_sectors: 1,
+        checksum_option: 1,
+        batch: 1,
+        journal: 9,
+        inode: 1,
+        ..Head::default()
+    })
+}
+
+/// Hold a call to one batch, in outputs of every kind.
+fn hold(list: &CallList, batch: Batch) {
+    let answer = ChangeList {
+        batches: vec![batch],
+    };
+    let held = ARCHIVE.hold_rooms(list.head.call as u8, &list.to_bytes(), &answer.to_bytes());
+    assert_eq!(held, Ok(3));
+}
+
+/// The keys of P case 9: the extent, the bucket's alloc key, the run that is left, the backpointer.
+fn keys_of_place() -> Vec<(Tree, Key)> {
+    let mut extent = key(
+        key_type::EXTENT,
+        Position::new(1, 128),
+        words(&[0x500_fffe, 1]),
+    );
+    extent.position.snapshot = u32::MAX;
+    extent.size = 128;
+    let alloc = words(&[9, 0x0004_0000_0000_0023, 128, 1, 1, 0, 0, 0]);
+    let alloc = key(key_type::ALLOC_V4, Position::of_alloc(Bucket(0)), alloc);
+    let back = words(&[0x0004_0000, 128 | u64::from(u32::MAX) << 32, 128, 1]);
+    let at = Position::of_backpointer(DeviceSector(0));
+    vec![
+        (Tree::Extents, extent),
+        (Tree::Alloc, alloc),
+        (Tree::Freespace, Key::run(Bucket(1)..Bucket(33))),
+        (Tree::Backpointers, key(key_type::BACKPOINTER, at, back)),
+    ]
+}
+
+/// P case 9: one piece of 128 sectors fills bucket 0.
+#[test]
+fn place() {
+    let mut list = list(Call::Place, 128);
+    list.insert_run(Bucket(0)..Bucket(33));
+    list.pieces.push(Piece::plain(128, 0));
+    let batch = Batch {
+        keys: keys_of_place(),
+        taken: vec![Bucket(0)],
+        placed: vec![Placed {
+            first: DeviceSector(0),
+            stored_sectors: 128,
+            bucket: Bucket(0),
+            generation: 0,
+        }],
+        rows: vec![
+            row(0x0204_0101_0000_0000, Counters::One(128)),
+            row(0x0300_0000_0000_0000, Counters::Three([-1, 0, 0])),
+            row(0x0300_0400_0000_0000, Counters::Three([1, 128, 0])),
+            row(0x05ff_ffff_ff00_0000, Counters::Three([1, 56, 128])),
+            row(0x0801_0000_0000_0000, Counters::Three([1, 128, 128])),
+        ],
+        file_sectors: vec![128],
+        ..Batch::default()
+    };
+    hold(&list, batch);
+}
+
+/// P case 7: bucket 5 holds 96 sectors, and freeing 96 empties it.
+#[test]
+fn release() {
+    let mut list = list(Call::Release, 128);
+    let at = Position::of_alloc(Bucket(5));
+    let held = words(&[0, 0x0004_0303_0000_0023, 96, 1, 1, 0, 0, 0]);
+    list.insert(Tree::Alloc, key(key_type::ALLOC_V4, at, held));
+    let first = Bucket(5).first_sector(128);
+    list.released.push(Released { first, sectors: 96 });
+    let emptied = words(&[0, 0x0009_0404_0000_0021, 0, 1, 1, 0, 9, 0]);
+    let mut generations = vec![0; 256];
+    generations[5] = 4;
+    let lru = Position::new((1 << 61) + 1_610_612_736, 5);
+    let waits = Position::of_need_discard(9, Bucket(5));
+    let back = Position::of_backpointer(first);
+    let gens = Position::of_generations(Bucket(5));
+    hold(
+        &list,
+        Batch {
+            keys: vec![
+                (Tree::Alloc, key(key_type::ALLOC_V4, at, emptied)),
+                (Tree::Lru, Key::new(key_type::DELETED, lru)),
+                (Tree::NeedDiscard, Key::new(key_type::SET, waits)),
+                (Tree::Backpointers, Key::new(key_type::DELETED, back)),
+                (
+                    Tree::BucketGens,
+                    key(key_type::BUCKET_GENS, gens, generations),
+                ),
+            ],
+            roots: vec![Root::NeedDiscard, Root::BucketGens],
+            rows: vec![
+                row(0x0204_0101_0000_0000, Counters::One(-96)),
+                row(0x0300_0400_0000_0000, Counters::Three([-1, -96, -32])),
+                row(0x0300_0900_0000_0000, Counters::Three([1, 0, 0])),
+            ],
+            ..Batch::default()
+        },
+    );
+}
+
+/// The discard whose lines document 01 prints.
+#[test]
+fn discard() {
+    let mut list = list(Call::Discard, 8);
+    let at = Position::of_alloc(Bucket(5));
+    let waits = Position::of_need_discard(8, Bucket(5));
+    let before = words(&[7, 0x0009_0303_0000_0021, 0, 1, 1, 0, 8, 0]);
+    let after = words(&[0, 0x0000_0303_0000_0020, 0, 1, 1, 0, 0, 0]);
+    list.insert(Tree::Alloc, key(key_type::ALLOC_V4, at, before));
+    list.insert(Tree::NeedDiscard, Key::new(key_type::SET, waits));
+    hold(
+        &list,
+        Batch {
+            keys: vec![
+                (Tree::Alloc, key(key_type::ALLOC_V4, at, after)),
+                (Tree::Freespace, Key::run(Bucket(5)..Bucket(6))),
+                (Tree::NeedDiscard, Key::new(key_type::DELETED, waits)),
+            ],
+            rows: vec![
+                row(0x0300_0000_0000_0000, Counters::Three([1, 0, 0])),
+                row(0x0300_0900_0000_0000, Counters::Three([-1, 0, 0])),
+            ],
+            unreserved: vec![Bucket(5)],
+            ..Batch::default()
+        },
+    );
+}
+
+/// A change that puts, replaces and deletes keys, makes a root, and takes and gives back buckets.
+#[test]
+fn apply() {
+    let mut volume = list(Call::Discard, 8);
+    volume.insert_run(Bucket(0)..Bucket(20));
+    volume.insert_run(Bucket(30)..Bucket(40));
+    volume.reserve(Bucket(2));
+    let alloc = key(
+        key_type::ALLOC_V4,
+        Position::of_alloc(Bucket(9)),
+        vec![7; 64],
+    );
+    let deleted = Key::new(key_type::DELETED, Position::of_run(Bucket(20)));
+    let shorter = Key::run(Bucket(35)..Bucket(40));
+    let change = ChangeList {
+        batches: vec![Batch {
+            keys: vec![
+                (Tree::Alloc, alloc.clone()),
+                (Tree::Freespace, deleted),
+                (Tree::Freespace, shorter.clone()),
+            ],
+            roots: vec![Root::NeedDiscard],
+            taken: vec![Bucket(9)],
+            unreserved: vec![Bucket(2)],
+            ..Batch::default()
+        }],
+    };
+    let mut next = list(Call::Discard, 8);
+    next.insert(Tree::Alloc, alloc);
+    next.insert(Tree::Freespace, shorter);
+    next.head.roots.need_discard = true;
+    next.reserve(Bucket(9));
+    let (volume, change) = (volume.to_bytes(), change.to_bytes());
+    let held = ARCHIVE.hold_apply_rooms(&volume, &change, &next.to_bytes());
+    assert_eq!(held, Ok(3));
+}
+
+/// Each function refuses with its own numbers, through the crate's own calls too.
+#[test]
+fn refusals() {
+    let mut out = [7; 100];
+    let mut short = vec![3; SUMS - 1];
+    let mut scratch = vec![3; SUMS];
+    let empty = zerglaz::release(&[], &mut short, &mut out);
+    assert_eq!(empty, Err(Refusal::ScratchTooShort));
+    assert!(short.iter().all(|&sum| sum == 3));
+    let place = list(Call::Place, 0).to_bytes();
+    assert_eq!(
+        zerglaz::place(&place, &mut out),
+        Err(Refusal::NoBucketSectors)
+    );
+    let another = zerglaz::release(&place, &mut scratch, &mut out);
+    assert_eq!(another, Err(Refusal::BrokenLayout));
+    assert!(scratch.iter().all(|&sum| sum == 0));
+    let mut discard = list(Call::Discard, 8);
+    discard.head.batch = 0;
+    let discard = discard.to_bytes();
+    assert_eq!(zerglaz::discard(&discard, &mut out), Err(Refusal::NoBatch));
+    assert_eq!(
+        zerglaz::apply(&place, &[76], &mut out),
+        Err(Refusal::BrokenLayout)
+    );
+    let next = zerglaz::apply(&place, &[], &mut out[..41]);
+    assert_eq!(next, Err(Refusal::OutputTooShort));
+    assert_eq!(out, [7; 100]);
+}
+
+/// Empty slices may be lent for everything.
+#[test]
+fn empty_slices() {
+    for call in 1..=3 {
+        let number = if call == 2 { 1 } else { 2 };
+        let held = ARCHIVE.hold(call, &[], 0, 0, Due::refused(number));
+        assert_eq!(held, Ok(()));
+    }
+    assert_eq!(ARCHIVE.hold_apply(&[], &[], 0, Due::refused(2)), Ok(()));
+}
+
+/// The C header, its blanks made single.
+fn header() -> String {
+    let path = format!("{}/../include/zerglaz.h", env!("CARGO_MANIFEST_DIR"));
+    let text = std::fs::read_to_string(&path).expect("the header is there");
+    text.split_whitespace().collect::<Vec<_>>().join(" ")
+}
+
+/// A refusal's name in the header.
+fn c_name(refusal: Refusal) -> String {
+    let mut name = "ZERGLAZ".to_string();
+    for letter in format!("{refusal:?}").chars() {
+        if letter.is_uppercase() {
+            name.push('_');
+        }
+        name.push(letter.to_ascii_uppercase());
+    }
+    name
+}
+
+/// The header has each refusal by name and number, and no other number.
+#[test]
+fn header_names_the_refusals() {
+    let header = header();
+    let list = header.split("enum zerglaz_refusal {").nth(1);
+    let list = list
+        .and_then(|rest| rest.split('}').next())
+        .expect("the enum");
+    let numbers = list.matches(" = ").count();
+    assert_eq!(numbers, 1 + Refusal::ALL.len());
+    assert!(list.contains("ZERGLAZ_ACCEPTED = 0,"));
+    for refusal in Refusal::ALL {
+        let (name, number) = (c_name(refusal), refusal.number());
+        let end = if number == 21 { " " } else { "," };
+        assert!(list.contains(&format!(" {name} = {number}{end}")), "{name}");
+    }
+    assert!(header.contains(&format!("#define ZERGLAZ_SUMS {SUMS} ")));
+}
+
+/// The header has the declarations that `src/ffi.rs` has.
+#[test]
+fn header_declares_the_calls() {
+    let header = header();
+    let answer = "uint8_t *out, size_t out_len, size_t *written);";
+    let list = "const uint8_t *list, size_t list_len";
+    let declarations = [
+        format!("uint32_t zerglaz_place({list}, {answer}"),
+        format!("uint32_t zerglaz_release({list}, uint32_t *scratch, size_t scratch_len, {answer}"),
+        format!("uint32_t zerglaz_discard({list}, {answer}"),
+        format!(
+            "uint32_t zerglaz_apply(const uint8_t *volume, size_t volume_len, \
+             const uint8_t *change, size_t change_len, {answer}"
+        ),
+    ];
+    for declaration in declarations {
+        assert!(header.contains(&declaration), "{declaration}");
+    }
+}

@@ -1,0 +1,75 @@
+//! Random histories through the archive: each number is the model's, each answer is applied by the
+//! archive and by the model with the same bytes, and demand 3 is counted on the volume after each step.
+
+mod common;
+
+use common::ARCHIVE;
+use lists::apply::apply;
+use lists::call_list::{CallList, RELEASE};
+use lists::history::{History, Tally};
+use lists::lent::Due;
+use lists::model::{verdict, SUMS};
+use lists::rng::Rng;
+
+/// How many histories, and how many steps each has.
+const HISTORIES: u64 = 80;
+const STEPS: u64 = 50;
+
+/// A call with a scratch and an output of some length: the change list, or none where it refuses.
+fn call(rng: &mut Rng, call: u8, list: &[u8]) -> Option<Vec<u8>> {
+    let scratch = if rng.one_in(20) { SUMS - 1 } else { SUMS + 3 };
+    let room = rng.pick(&[1 << 20, 1 << 20, 1 << 20, 400]);
+    let mut out = vec![0; room];
+    let answer = match call {
+        1 => zerglaz::place(list, &mut out),
+        RELEASE => zerglaz::release(list, &mut vec![9; scratch], &mut out),
+        _ => zerglaz::discard(list, &mut out),
+    };
+    let number = answer.map_or_else(|refusal| refusal.number(), |_| 0);
+    assert_eq!(number, verdict(call, list, scratch, room));
+    out.truncate(answer.ok()?);
+    hold_apply(list, &out);
+    Some(out)
+}
+
+/// The archive's apply gives the model's next volume, or its number.
+fn hold_apply(list: &[u8], change: &[u8]) {
+    let volume = CallList::read(list).expect("a call list").volume().bytes();
+    let (number, next) = apply(&volume, change, usize::MAX);
+    let due = Due {
+        number,
+        bytes: &next,
+    };
+    let held = ARCHIVE.hold_apply(&volume, change, next.len() + 9, due);
+    held.unwrap_or_else(|why| panic!("apply: {why}"));
+}
+
+#[test]
+fn demand_3() {
+    let mut sum = Tally::default();
+    for seed in 0..HISTORIES {
+        let mut history = History::new(seed);
+        let mut rng = Rng::new(seed);
+        for step in 0..STEPS {
+            let made = history.step(&mut |byte, list| call(&mut rng, byte, list));
+            made.unwrap_or_else(|why| panic!("history {seed}, step {step}: {why}"));
+        }
+        sum.add(&history.tally);
+    }
+    println!("{HISTORIES} histories of {STEPS} steps: {sum:?}");
+    assert!(sum.placed > 300 && sum.released > 300 && sum.discarded > 300 && sum.refused > 300);
+    assert!(sum.highest_generation > 0);
+}
+
+/// One long history, in which buckets come round often.
+#[test]
+fn a_long_history() {
+    let mut history = History::new(7);
+    let mut rng = Rng::new(7);
+    for step in 0..1_500 {
+        let made = history.step(&mut |byte, list| call(&mut rng, byte, list));
+        made.unwrap_or_else(|why| panic!("step {step}: {why}"));
+    }
+    println!("1,500 steps: {:?}", history.tally);
+    assert!(history.tally.placed > 0 && history.tally.discarded > 0);
+}
