@@ -1,0 +1,72 @@
+//! The examples of the folder `examples`: their lists, and what is shown of them.
+
+use bucketlines::examples::examples;
+use bucketlines::program::{in_repository, printed};
+use bucketlines::{due, hex_text};
+use std::process::Command;
+
+/// A file of the folder.
+fn stored(name: &str) -> String {
+    let path = in_repository("examples").join(name);
+    std::fs::read_to_string(path).expect(name)
+}
+
+/// Each stored list is the one that the builders make, and there is no other.
+#[test]
+fn lists() {
+    let mut names = Vec::new();
+    for example in examples() {
+        let (name, list) = (format!("{}.hex", example.name), example.list.to_bytes());
+        assert_eq!(stored(&name), hex_text::text(example.title, &list));
+        assert_eq!(hex_text::bytes(&stored(&name)), list, "{name}");
+        names.push(name);
+    }
+    let folder = std::fs::read_dir(in_repository("examples")).expect("examples");
+    let files = folder.map(|file| file.expect("a file").file_name());
+    let files = files.map(|name| name.into_string().expect("a plain name"));
+    let mut found: Vec<String> = files.filter(|name| name.ends_with(".hex")).collect();
+    found.sort();
+    assert_eq!(found, names);
+}
+
+/// The program prints what is due for each: four are accepted, the others refused 18 and 11.
+#[test]
+fn lines() {
+    let mut numbers = Vec::new();
+    for example in examples() {
+        let list = example.list.to_bytes();
+        assert_eq!(printed(&list), due::lines(&list), "{}", example.name);
+        numbers.push(due::number(&list));
+    }
+    assert_eq!(numbers, [0, 0, 0, 0, 18, 11]);
+}
+
+/// What `examples/run` prints is the stored text.
+#[test]
+fn shown() {
+    let mut run = Command::new("bash");
+    let output = run.arg(in_repository("examples/run")).output();
+    let output = output.expect("examples/run");
+    assert!(output.status.success() && output.stderr.is_empty());
+    assert_eq!(String::from_utf8_lossy(&output.stdout), stored("shown.txt"));
+}
+
+/// Each line of the program stands in the stored text with its meaning under it; of a value no more
+/// than eight words.
+#[test]
+fn every_line_is_explained() {
+    let shown = stored("shown.txt");
+    let mut rest = shown.lines();
+    for example in examples() {
+        let heading = format!("== {}.hex: {}", example.name, example.title);
+        assert_eq!(rest.next(), Some(&heading[..]));
+        for line in printed(&example.list.to_bytes()).lines() {
+            let words: Vec<&str> = line.split(' ').take(13).collect();
+            assert!(rest.next().is_some_and(|l| l.starts_with(&words.join(" "))));
+            let meaning = rest.next().expect("a meaning");
+            assert!(meaning.starts_with("    ") && meaning.len() > 12, "{line}");
+        }
+        assert_eq!(rest.next(), Some(""));
+    }
+    assert_eq!(rest.next(), None);
+}
