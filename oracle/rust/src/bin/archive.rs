@@ -1,19 +1,20 @@
 //! archive N [SEED]: the archive's four calls beside the model and the Rust's functions. N lists and
 //! N / 4 damaged ones of each call, 2 N applies and N / 20 histories. Every number is the model's,
 //! every answer the Rust's, every next volume the model's, in outputs of every length and with guards
-//! around them. Prints counts and disagreements; a number that is met too seldom is a failure too.
+//! around them. Prints counts and disagreements; a number that is met too seldom is a failure too, and
+//! so are two neighbouring numbers that no one list meets.
 
 use lists::apply::apply;
 use lists::call_list::{CallList, RELEASE};
 use lists::candidate::{nth, Candidate, Room};
 use lists::changes::{applied, Applied};
 use lists::edges::{apply_edges, edges};
-use lists::generate::Size;
+use lists::generate::{self, Size};
 use lists::history::{History, Tally};
 use lists::lent::{Calls, Due};
 use lists::model::{verdict, SUMS};
 use lists::rng::Rng;
-use lists::spoil::{damage, numbers};
+use lists::spoil::{damage, numbers, spoil};
 use lists::vectors::hex;
 use oracle::compare::shrink;
 use oracle::{run, Outcome};
@@ -33,6 +34,8 @@ const APPLY: u8 = 4;
 const NAMES: [&str; 5] = ["", "place", "release", "discard", "apply"];
 /// How often each number of each call is met at least.
 const LEAST: u64 = 200;
+/// How many seeds are tried for a list that meets two numbers.
+const TRIES: u64 = 10_000;
 /// How many disagreements are shown.
 const SHOWN: u64 = 20;
 /// The seed where none is given.
@@ -60,7 +63,8 @@ fn main() -> ExitCode {
         counts.lists(call, lists, seed);
     }
     counts.applies(2 * lists, seed);
-    let seldom = counts.print();
+    let apart: u64 = (1..=3).map(|call| counts.neighbours(call, seed)).sum();
+    let seldom = counts.print() + apart;
     counts.histories(lists / 20, seed);
     println!("disagreements: {}", counts.wrong);
     ExitCode::from(u8::from(counts.wrong + seldom > 0))
@@ -80,6 +84,22 @@ impl Counts {
             let list = damage(&mut rng, &nth(call, 2 * i, !seed).list);
             self.list(&lent(call, list, Room::Over(50)));
         }
+    }
+
+    /// Hold a list that meets two neighbouring numbers at once, for each two; how many have none.
+    fn neighbours(&mut self, call: u8, seed: u64) -> u64 {
+        let mut none = 0;
+        for pair in numbers(call).windows(2) {
+            let mut tries = (0..TRIES).map(|i| both(call, pair[0], pair[1], seed.wrapping_add(i)));
+            match tries.find_map(|found| found) {
+                Some(candidate) => drop(self.list(&candidate)),
+                None => {
+                    none += 1;
+                    println!("{}: no list meets {pair:?}", NAMES[usize::from(call)]);
+                }
+            }
+        }
+        none
     }
 
     /// Hold one call, and count its number.
@@ -247,6 +267,32 @@ fn lent(call: u8, list: Vec<u8>, room: Room) -> Candidate {
         scratch: if call == RELEASE { SUMS } else { 0 },
         room,
     }
+}
+
+/// A list that is refused by `later`, and once `first` is spoilt too by `first`, if this seed gives one.
+fn both(call: u8, first: u32, later: u32, seed: u64) -> Option<Candidate> {
+    let mut rng = Rng::new(seed);
+    let mut l = generate::list(&mut rng, call, Size::Small);
+    spoil(&mut rng, &mut l, later);
+    let mut list = l.bytes();
+    if later == 2 {
+        list = damage(&mut rng, &list);
+    }
+    let out = if later == 21 { 0 } else { usize::MAX };
+    if verdict(call, &list, SUMS, out) != later {
+        return None;
+    }
+    spoil(&mut rng, &mut l, first);
+    match first {
+        1 => (),
+        2 => list = damage(&mut rng, &list),
+        _ => list = l.bytes(),
+    }
+    let scratch = if first == 1 { 0 } else { SUMS };
+    (verdict(call, &list, scratch, out) == first).then(|| Candidate {
+        scratch,
+        ..lent(call, list, Room::Under(usize::MAX))
+    })
 }
 
 /// A candidate with another list.
