@@ -3,21 +3,34 @@ ghost use mathlib.Core.Path.{_≡_};
 ghost use lib.ListN.{length};
 ghost use Rattle.calls.specs.Answers.{apply, made, outcome};
 ghost use Rattle.reader.specs.Readings.{volumeRefusal};
+ghost use Rattle.reader.specs.Table.{Fits};
 use crate::lists;
 use reader::call;
 use reader::call::Reading;
 use reader::change;
 
-// Refusal 2 or 3 of a volume, or 0.
-fn volume_refusal(volume: &[u8]) -> u32
+// Refusal 2 or 3 of a volume, or 0, by a table that is long enough.
+fn refusal_by(volume: &[u8], index: &mut [u32]) -> u32
+    requires { ⌜ Fits (now volume) (now index) ⌝ }
     ensures { λ r. ⌜ r ≡ volumeRefusal (now (volume .entry)) ⌝ }
 {
-    let mut index = [0u32; 29696];
-    let reading = call::read_volume(volume, &mut index);
+    let reading = call::read_volume(volume, index);
     let Reading::Refused(n) = reading else {
         return 0;
     };
     n
+}
+
+// Refusal 2 or 3 of a volume, or 0.
+fn volume_refusal(volume: &[u8]) -> u32
+    ensures { λ r. ⌜ r ≡ volumeRefusal (now (volume .entry)) ⌝ }
+{
+    if volume.len() <= 3072 {
+        let mut short = [0u32; 1024];
+        return refusal_by(volume, &mut short);
+    }
+    let mut index = [0u32; 29696];
+    refusal_by(volume, &mut index)
 }
 
 // Apply: for any volume, change list and output, the number, the length and the output that the definition gives.

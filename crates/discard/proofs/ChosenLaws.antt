@@ -16,7 +16,7 @@ use Rattle.calls.specs.Lists.{those, isNone}
 use Rattle.calls.specs.Limits.{atInode0}
 use Rattle.calls.specs.Discard.{waitingKey, genTaken, isDiscarded}
 use Rattle.calls.proofs.BoolLaws.{parts}
-use Rattle.calls.proofs.AllLaws.{all-imp, all-chosen}
+use Rattle.calls.proofs.AllLaws.{all-imp, all-chosen, those-length}
 use Rattle.discard.specs.Offsets.{sizeAt, keyFrom, keysFrom, bucketFrom, Kept, AllocKept, FreedKept}
 use Rattle.discard.specs.Chosen.{isFreed, freedFrom, ifChosen}
 use Rattle.discard.proofs.OffsetLaws.{value-size, value-get}
@@ -102,6 +102,10 @@ freed-kept {s} needs a =
       valued = omega (arith, value-size (h .1 .kept), leb-true 56 (length (k .value)) (q .0));
     })
     (all-chosen (isFreed s needs) a)
+
+-- no more are chosen than there are
+pub freed-few : (s needs alloc : List ℕ) {l : List ℕ} {n : ℕ} → l ≡ freedFrom s needs alloc → length alloc ≤ n → length l ≤ n
+freed-few s needs alloc e h = omega (arith, ap length e, those-length (isFreed s needs) alloc)
 
 -- an offset behind n others
 pub put-chosen : (freed : List ℕ) (n o : ℕ) {c : Bool} → n < length freed → c ≡ true → take (n + 1) (set freed n o) ≡ take n freed ++ ifChosen c o

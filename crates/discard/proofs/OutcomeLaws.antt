@@ -25,8 +25,8 @@ use Rattle.calls.proofs.KeyFitsLaws.{list-within}
 use Rattle.reader.specs.Located.{KeyAt, KeysAt}
 use Rattle.reader.specs.Readings.{callRefusal, ListRead}
 use Rattle.reader.specs.declared.head.Head.{Head}
-use Rattle.reader.specs.declared.table.Counts.{Counts}
-use Rattle.reader.proofs.PartsLaws.{passed, read-on, read-refused, alloc-part, need-discard-part}
+use Rattle.reader.specs.declared.table.Ends.{Ends}
+use Rattle.reader.proofs.PartsLaws.{passed, read-on, read-refused, between, alloc-part, need-discard-part}
 use Rattle.discard.specs.Offsets.{sizeAt, keyFrom, keysFrom, Kept, AllocKept, NeedKept}
 use Rattle.discard.specs.Chosen.{needTrees, freedFrom}
 use Rattle.discard.specs.Emitted.{batchesFrom, changesFrom}
@@ -200,14 +200,13 @@ module _ (s : List ℕ) (room : ℕ) where
     discard-after b = read-past ∙ answer-next batch20 [] bytes room (rw (ne-eqb (readVolume s .head .batch) 0 b))
 
 -- a list that was read, with a batch that is not 0
-module _ (s index : List ℕ) (size : length index ≡ 29696) (h : Head) (c : Counts) (z : 0 ≡ callRefusal 3 s) (q : ListRead 3 s index h c) where
-  pub read-ready : (h .batch ≡ 0 → ⊥) → Ready s (take (c .alloc) index) (take (12288 + c .«need_discard» - 12288) (drop 12288 index)) h
+module _ (s index : List ℕ) (h : Head) (e : Ends) (z : 0 ≡ callRefusal 3 s) (q : ListRead 3 s index h e) where
+  pub read-ready : (h .batch ≡ 0 → ⊥) → Ready s (take (e .alloc) index) (between (e .freespace) (e .«need_discard») index) h
   read-ready b =
-      let e : 12288 + c .«need_discard» - 12288 ≡ c .«need_discard» = omega arith in
       record {
         headed = q .head;
-        allocAt = alloc-part 3 s index size h c z q .1;
-        needsAt = rw e (need-discard-part 3 s index size h c z q .1);
+        allocAt = alloc-part 3 s index h e z q .1;
+        needsAt = need-discard-part 3 s index h e z q .1;
         within = list-within (readCall s) (passed 3 s z .within) .0;
         batched = b;
       }

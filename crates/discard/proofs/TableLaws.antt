@@ -1,14 +1,16 @@
 -- The table by bucket: each need-discard key that is noted is the last so far of its bucket. Assumes nothing.
 use Prim.Native.Nat.{ℕ, _+_, _-_, _<_}
 use mathlib.Core.Path.{_≡_, refl, sym, _∙_}
-use mathlib.Core.Bool.{Bool, true, false, not, _&&_, cond}
+use mathlib.Core.Bool.{Bool, true, false, not, _&&_, cond, and-true, and-false}
 use mathlib.Core.List.{List, [], _∷_, _++_, map-append}
 use mathlib.Core.Option.{Option, none, some}
 use native.Mathlib.Omega.{arith}
 use native.Mathlib.Numerals.{add-one}
+use lib.Dec.{eqb}
 use lib.ListN.{length, getD, set, take, replicate, length-set, getD-replicate}
 use lib.Seq.{getD-set-same, getD-set-other, take-suc, take-length}
 use borrow.Author.Tests.{eqb-true, eqb-false, eq-eqb, ne-eqb}
+use Rattle.wire.specs.Bytes.{All}
 use Rattle.wire.specs.Keys.{Key}
 use Rattle.wire.specs.Kinds.{sameBucket}
 use Rattle.wire.specs.Positions.{bucketIn}
@@ -16,15 +18,11 @@ use Rattle.wire.specs.declared.kinds.Bucket.{Bucket}
 use Rattle.calls.specs.Limits.{isSet}
 use Rattle.calls.specs.Lists.{isNone}
 use Rattle.calls.specs.Discard.{waitingKey}
-use Rattle.discard.specs.Offsets.{keyFrom, keysFrom, bucketFrom}
-use Rattle.discard.specs.Table.{waitsOf, Entry, Entries, noted}
+use Rattle.discard.specs.Offsets.{keyFrom, keysFrom, bucketFrom, NeedKept}
+use Rattle.discard.specs.Table.{waitsOf, names, Entry, Entries, Tabled, noted}
 use Rattle.discard.specs.declared.waiting.Waits.{Waits}
 use Rattle.discard.specs.declared.waiting.Waits.the-variants.{At, Not}
 use Rattle.wire.specs.declared.bpos.Bpos.{Bpos}
-
--- a key names a bucket
-abbrev names : Key → Bucket → Bool
-names k b = isSet k && sameBucket (bucketIn (k .pos)) b
 
 -- one key more: the last that names a bucket stands
 pub waiting-more : (ks : List Key) (k : Key) (b : Bucket) → waitingKey (ks ++ k ∷ []) b ≡ cond (names k b) (some k) (waitingKey ks b)
@@ -112,6 +110,38 @@ noted-entries s needs table i h l t b m = rw (keys-more s needs i h) (noted-entr
 pub all-entries : (s needs table : List ℕ) (i : ℕ) → i ≡ length needs → Entries s needs (keysFrom s (take i needs)) table
     → Entries s needs (keysFrom s needs) table
 all-entries s needs table i e t = rw (e, take-length needs) at t
+
+-- the key at place i is searched: the last so far that names a bucket has its entry
+module _ (s needs : List ℕ) (b : Bucket) where
+  pub search-none : Entry s needs (keysFrom s (take 0 needs)) b 0
+  unfolding waitingKey
+  search-none = record { unnamed = λ z. refl; named = λ z. absurd (omega arith) }
+
+  module _ (i : ℕ) (h : i < length needs) {e : ℕ} (n : Entry s needs (keysFrom s (take i needs)) b e) {t : Bool}
+      (p : t ≡ names (keyFrom s (getD needs i 0)) b) where
+    more : waitingKey (keysFrom s (take (i + 1) needs)) b ≡ cond t (some (keyFrom s (getD needs i 0))) (waitingKey (keysFrom s (take i needs)) b)
+    more = rw (keys-more s needs i h, p) (waiting-more (keysFrom s (take i needs)) (keyFrom s (getD needs i 0)) b)
+
+    pub search-found : t ≡ true → Entry s needs (keysFrom s (take (i + 1) needs)) b (i + 1)
+    search-found q = entry-new i h refl (more ∙ rw q)
+
+    pub search-past : t ≡ false → Entry s needs (keysFrom s (take (i + 1) needs)) b e
+    search-past q = entry-kept n refl (more ∙ rw q)
+
+  pub search-all : {e : ℕ} (i : ℕ) → i ≡ length needs → Entry s needs (keysFrom s (take i needs)) b e → Entry s needs (keysFrom s needs) b e
+  search-all i e n = rw (e, take-length needs) at n
+
+-- a table that has not an entry for each bucket
+pub unfilled : {s needs table : List ℕ} → All (NeedKept s) needs → length table < 65536 → Tabled s needs table
+unfilled k h = record { kept = k; entries = λ l. absurd (omega arith) }
+
+-- whether a key names a bucket, by its own bucket and its type
+module _ (s : List ℕ) (o : ℕ) (b : Bucket) {d : Bucket} {t : Bool} (e : d ≡ bucketFrom s o) (p : t ≡ sameBucket d b) where
+  pub names-this : {k : ℕ} → t ≡ true → k ≡ keyFrom s o .type → eqb k 25 ≡ names (keyFrom s o) b
+  names-this q f = rw (f, sym e, sym p ∙ q) (sym (and-true (isSet (keyFrom s o))))
+
+  pub names-other : t ≡ false → false ≡ names (keyFrom s o) b
+  names-other q = rw (sym e, sym p ∙ q) (sym (and-false (isSet (keyFrom s o))))
 
 -- what an entry tells of its bucket
 module _ {s needs : List ℕ} {ks : List Key} {b : Bucket} {e : ℕ} (n : Entry s needs ks b e) where

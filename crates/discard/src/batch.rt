@@ -85,15 +85,8 @@ fn put_deletion(out: &mut [u8], at: usize, tree: u8, pos: Bpos) -> usize
     )
 }
 
-// The deletion of the need-discard key that stands for the bucket at an offset. `note_waiting` fills the table.
-fn put_waiting(
-    out: &mut [u8],
-    at: usize,
-    s: &[u8],
-    o: u32,
-    needs: &[u32],
-    table: &[u16; 65536],
-) -> usize
+// The deletion of the need-discard key that stands for the bucket at an offset. `discard_lists` chooses the table, here and below.
+fn put_waiting(out: &mut [u8], at: usize, s: &[u8], o: u32, needs: &[u32], table: &[u16]) -> usize
     requires { ⌜ FreedKept (now s) o × Tabled (now s) (now needs) (now table) ⌝ }
     ensures { λ r. ⌜ Emitted (now (out .entry)) at (deletionBytes (now (s .entry)) (now (needs .entry)) o) (now (out .exit)) r ⌝ }
 {
@@ -110,7 +103,7 @@ fn put_deletions(
     s: &[u8],
     freed: &[u32],
     needs: &[u32],
-    table: &[u16; 65536],
+    table: &[u16],
 ) -> usize
     requires { ⌜ All (FreedKept (now s)) (now freed) × Tabled (now s) (now needs) (now table) ⌝ }
     ensures { λ r. ⌜ Emitted (now (out .entry)) at (each (deletionBytes (now (s .entry)) (now (needs .entry))) (now (freed .entry))) (now (out .exit)) r ⌝ }
@@ -161,7 +154,7 @@ pub fn discard_buckets(
     s: &[u8],
     freed: &[u32],
     needs: &[u32],
-    table: &[u16; 65536],
+    table: &[u16],
 ) -> usize
     requires { ⌜ All (FreedKept (now s)) (now freed) × (0 < length (now freed)) × (length (now freed) ≤ 4096) × Tabled (now s) (now needs) (now table) ⌝ }
     ensures { λ r. ⌜ Emitted (now (out .entry)) at (batchBytes (now (s .entry)) (now (needs .entry)) (now (freed .entry))) (now (out .exit)) r ⌝ }

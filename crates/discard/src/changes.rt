@@ -29,7 +29,7 @@ fn batch_end(a: usize, n: usize, size: u32) -> usize
     a + k
 }
 
-// The batches, in alloc order. Refusal 20 shows that a batch has a key, `freed_keys`, `note_waiting` and the limits the rest.
+// The batches, in alloc order. Refusal 20 shows that a batch has a key, `freed_keys`, `discard_lists` and the limits the rest.
 pub fn discard_freed(
     out: &mut [u8],
     at: usize,
@@ -37,7 +37,7 @@ pub fn discard_freed(
     size: u32,
     freed: &[u32],
     needs: &[u32],
-    table: &[u16; 65536],
+    table: &[u16],
 ) -> usize
     requires { ⌜ (0 < size) × All (FreedKept (now s)) (now freed) × (length (now freed) ≤ 4096) × Tabled (now s) (now needs) (now table) ⌝ }
     ensures { λ r. ⌜ Emitted (now (out .entry)) at (changesFrom (now (s .entry)) (now (needs .entry)) size (now (freed .entry))) (now (out .exit)) r ⌝ }
@@ -60,7 +60,7 @@ fn write_changes(
     size: u32,
     freed: &[u32],
     needs: &[u32],
-    table: &[u16; 65536],
+    table: &[u16],
 ) -> u32
     requires { ⌜ (0 < size) × All (FreedKept (now s)) (now freed) × (length (now freed) ≤ 4096) × Tabled (now s) (now needs) (now table) ⌝ }
     ensures { λ r. ⌜ made r (now (written .exit)) (now (out .exit)) ≡ outcome (answer [] (changesFrom (now (s .entry)) (now (needs .entry)) size (now (freed .entry))) (length (now (out .entry)))) (now (out .entry)) ⌝ }
@@ -76,8 +76,47 @@ fn write_changes(
     0
 }
 
-// The answer to a discard whose list passed refusals 2, 3 and 20, which the reader and its caller show.
-pub fn discard_lists(
+// The answer to a discard, with room for the offsets of its alloc keys. `discard_lists` shows what is required, here and below.
+fn discard_into(
+    freed: &mut [u32],
+    s: &[u8],
+    head: Head,
+    alloc: &[u32],
+    needs: &[u32],
+    table: &[u16],
+    out: &mut [u8],
+    written: &mut usize,
+) -> u32
+    requires { ⌜ Ready (now s) (now alloc) (now needs) head × Tabled (now s) (now needs) (now table) × (length (now alloc) ≤ length (now freed)) ⌝ }
+    ensures { λ r. ⌜ made r (now (written .exit)) (now (out .exit)) ≡ outcome (answer [] (changeBytes (discardBatches (readVolume (now (s .entry))))) (length (now (out .entry)))) (now (out .entry)) ⌝ }
+{
+    let n = freed::freed_keys(freed, s, alloc, needs, table);
+    write_changes(out, written, s, head.batch, &freed[..n], needs, table)
+}
+
+// The answer to a discard, with its table: little room is cleared where the alloc keys are few.
+fn discard_tabled(
+    s: &[u8],
+    head: Head,
+    alloc: &[u32],
+    needs: &[u32],
+    table: &[u16],
+    out: &mut [u8],
+    written: &mut usize,
+) -> u32
+    requires { ⌜ Ready (now s) (now alloc) (now needs) head × Tabled (now s) (now needs) (now table) ⌝ }
+    ensures { λ r. ⌜ made r (now (written .exit)) (now (out .exit)) ≡ outcome (answer [] (changeBytes (discardBatches (readVolume (now (s .entry))))) (length (now (out .entry)))) (now (out .entry)) ⌝ }
+{
+    if alloc.len() <= 64 {
+        let mut freed = [0u32; 64];
+        return discard_into(&mut freed, s, head, alloc, needs, table, out, written);
+    }
+    let mut freed = [0u32; 4096];
+    discard_into(&mut freed, s, head, alloc, needs, table, out, written)
+}
+
+// The answer to a discard, with a filled table.
+fn discard_many(
     s: &[u8],
     head: Head,
     alloc: &[u32],
@@ -90,7 +129,27 @@ pub fn discard_lists(
 {
     let mut table = [0u16; 65536];
     waiting::note_waiting(&mut table, s, needs);
-    let mut freed = [0u32; 4096];
-    let n = freed::freed_keys(&mut freed, s, alloc, needs, &table);
-    write_changes(out, written, s, head.batch, &freed[..n], needs, &table)
+    discard_tabled(s, head, alloc, needs, &table, out, written)
+}
+
+// The answer to a discard whose list passed refusals 2, 3 and 20, which the reader and its caller show. A table of one entry stands for none.
+pub fn discard_lists(
+    s: &[u8],
+    head: Head,
+    alloc: &[u32],
+    needs: &[u32],
+    out: &mut [u8],
+    written: &mut usize,
+) -> u32
+    requires { ⌜ Ready (now s) (now alloc) (now needs) head ⌝ }
+    ensures { λ r. ⌜ made r (now (written .exit)) (now (out .exit)) ≡ outcome (answer [] (changeBytes (discardBatches (readVolume (now (s .entry))))) (length (now (out .entry)))) (now (out .entry)) ⌝ }
+{
+    if 64 < alloc.len() {
+        return discard_many(s, head, alloc, needs, out, written);
+    }
+    if 16 < needs.len() {
+        return discard_many(s, head, alloc, needs, out, written);
+    }
+    let table = [0u16; 1];
+    discard_tabled(s, head, alloc, needs, &table, out, written)
 }

@@ -26,7 +26,7 @@ pub fn gen_taken(s: &[u8], at: usize) -> bool
 }
 
 // Whether a need-discard key names a bucket.
-fn is_waiting(s: &[u8], needs: &[u32], table: &[u16; 65536], b: Bucket) -> bool
+fn is_waiting(s: &[u8], needs: &[u32], table: &[u16], b: Bucket) -> bool
     requires { ⌜ Tabled (now s) (now needs) (now table) × (b .0 < 65536) ⌝ }
     ensures { λ r. ⌜ r ≡ not (isNone (waitingKey (keysFrom (now (s .entry)) (now (needs .entry))) b)) ⌝ }
 {
@@ -38,7 +38,7 @@ fn is_waiting(s: &[u8], needs: &[u32], table: &[u16; 65536], b: Bucket) -> bool
 }
 
 // Whether the alloc key at an offset is discarded.
-fn is_discarded(s: &[u8], o: u32, needs: &[u32], table: &[u16; 65536]) -> bool
+fn is_discarded(s: &[u8], o: u32, needs: &[u32], table: &[u16]) -> bool
     requires { ⌜ AllocKept (now s) o × Tabled (now s) (now needs) (now table) ⌝ }
     ensures { λ r. ⌜ r ≡ isFreed (now (s .entry)) (now (needs .entry)) o ⌝ }
 {
@@ -75,13 +75,7 @@ fn add_if(freed: &mut [u32], n: usize, o: u32, chosen: bool) -> usize
 }
 
 // The offsets of the alloc keys that are discarded, and how many they are. The limits show the bound.
-pub fn freed_keys(
-    freed: &mut [u32],
-    s: &[u8],
-    alloc: &[u32],
-    needs: &[u32],
-    table: &[u16; 65536],
-) -> usize
+pub fn freed_keys(freed: &mut [u32], s: &[u8], alloc: &[u32], needs: &[u32], table: &[u16]) -> usize
     requires { ⌜ All (AllocKept (now s)) (now alloc) × (length (now alloc) ≤ length (now freed)) × Tabled (now s) (now needs) (now table) ⌝ }
     ensures { λ r. ⌜ (r ≤ length (now (freed .exit))) × (take r (now (freed .exit)) ≡ freedFrom (now (s .entry)) (now (needs .entry)) (now (alloc .entry))) ⌝ }
 {

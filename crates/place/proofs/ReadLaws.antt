@@ -20,8 +20,8 @@ use Rattle.calls.proofs.KeyFitsLaws.{list-within}
 use Rattle.reader.specs.Located.{KeysAt}
 use Rattle.reader.specs.Readings.{callRefusal, ListRead}
 use Rattle.reader.specs.declared.head.Head.{Head}
-use Rattle.reader.specs.declared.table.Counts.{Counts}
-use Rattle.reader.proofs.PartsLaws.{passed, read-on, read-refused, alloc-part, freespace-part, gens-part, reserved-part, pieces-part}
+use Rattle.reader.specs.declared.table.Ends.{Ends}
+use Rattle.reader.proofs.PartsLaws.{passed, read-on, read-refused, between, Part, alloc-part, freespace-part, gens-part, reserved-part, pieces-part}
 use Rattle.choose.proofs.CheckedLaws.{checked}
 use Rattle.place.specs.Called.{Called}
 use Rattle.place.specs.Change.{placement}
@@ -36,33 +36,42 @@ base-in v h =
     let e = parts (allOf bucketInRange (v .reserved)) _ (d .1) in
     parts (leb (v .head .reserve) 65536) (baseInRange (v .head .base)) (e .1) .1
 
-module _ (s index : List ℕ) (size : length index ≡ 29696) (h : Head) (c : Counts) (z : 0 ≡ callRefusal 1 s) (q : ListRead 1 s index h c) where
-  -- the counts are as the table has room
-  pub counts-low : (c .alloc ≤ 4096) × (c .freespace ≤ 4096) × (c .gens ≤ 4096) × (c .reserved ≤ 4096) × (c .requests ≤ 1024)
-  counts-low =
-      (alloc-part 1 s index size h c z q .0, freespace-part 1 s index size h c z q .0, gens-part 1 s index size h c z q .0, reserved-part 1 s index size h c z q .0, pieces-part s index size h c z q .0)
+module _ (s index : List ℕ) (h : Head) (e : Ends) (z : 0 ≡ callRefusal 1 s) (q : ListRead 1 s index h e) where
+  -- the parts of the table that are lent
+  pub record Lent : Type 0 where
+    pub alloc : Part 0 (e .alloc) 4096 index
+    pub runs : Part (e .lru) (e .freespace) 4096 index
+    pub gens : Part (e .backpointers) (e .gens) 4096 index
+    pub reserved : Part (e .gens) (e .reserved) 4096 index
+    pub pieces : Part (e .reserved) (e .requests) 1024 index
 
-  pub called : Called s h (take (c .alloc) index) (take (8192 + c .freespace - 8192) (drop 8192 index))
-      (take (24576 + c .reserved - 24576) (drop 24576 index)) (take (28672 + c .requests - 28672) (drop 28672 index))
+  pub lent : Lent
+  lent =
+      record {
+        alloc = alloc-part 1 s index h e z q .0;
+        runs = freespace-part 1 s index h e z q .0;
+        gens = gens-part 1 s index h e z q .0;
+        reserved = reserved-part 1 s index h e z q .0;
+        pieces = pieces-part s index h e z q .0;
+      }
+
+  pub called : Called s h (take (e .alloc) index) (between (e .lru) (e .freespace) index) (between (e .gens) (e .reserved) index) (between (e .reserved) (e .requests) index)
   called =
-      let runs : 8192 + c .freespace - 8192 ≡ c .freespace = omega arith in
-      let reserved : 24576 + c .reserved - 24576 ≡ c .reserved = omega arith in
-      let pieces : 28672 + c .requests - 28672 ≡ c .requests = omega arith in
       let p = passed 1 s z in
       let w = list-within (readCall s) (p .within) .0 in
       record {
         checked = checked 1 s (p .laid) (p .within);
         head = q .head;
-        alloc = alloc-part 1 s index size h c z q .1;
-        runs = rw runs (freespace-part 1 s index size h c z q .1);
-        reserved = rw reserved (reserved-part 1 s index size h c z q .1);
-        pieces = rw pieces (pieces-part s index size h c z q .1);
-        few = omega (arith, length-take (28672 + c .requests - 28672) (drop 28672 index), pieces-part s index size h c z q .0);
+        alloc = alloc-part 1 s index h e z q .1;
+        runs = freespace-part 1 s index h e z q .1;
+        reserved = reserved-part 1 s index h e z q .1;
+        pieces = pieces-part s index h e z q .1;
+        few = omega (arith, length-take (e .requests - e .reserved) (drop (e .reserved) index), pieces-part s index h e z q .0 .few);
         base = ap (λ (x : calls.Head). baseInRange (x .base)) (q .head) ∙ base-in (readVolume s) w;
       }
 
-  pub gens-called : KeysAt s (take (20480 + c .gens - 20480) (drop 20480 index)) (readVolume s .trees .gens)
-  gens-called = let gens : 20480 + c .gens - 20480 ≡ c .gens = omega arith in rw gens (gens-part 1 s index size h c z q .1)
+  pub gens-called : KeysAt s (between (e .backpointers) (e .gens) index) (readVolume s .trees .gens)
+  gens-called = gens-part 1 s index h e z q .1
 
 module _ (s : List ℕ) (room : ℕ) where
   abbrev bytes : List ℕ

@@ -9,6 +9,7 @@ ghost use Rattle.calls.specs.Clock.{clockOf};
 ghost use Rattle.calls.specs.Place.{placeTests};
 ghost use Rattle.reader.specs.Located.{KeysAt};
 ghost use Rattle.reader.specs.Readings.{callRefusal, ListRead};
+ghost use Rattle.reader.specs.Table.{Fits};
 ghost use Rattle.place.specs.Called.{Called};
 ghost use Rattle.place.specs.Change.{placement};
 ghost use Rattle.place.specs.Choice.{PlanFor};
@@ -22,7 +23,7 @@ use choose::take::Taken;
 use reader::call;
 use reader::call::Reading;
 use reader::head::Head;
-use reader::table::Counts;
+use reader::table::Ends;
 
 // A run into one byte tells the length; then 21, or the run into the output. Planning shows what is required, here and below.
 fn write_change(
@@ -144,31 +145,43 @@ fn place_lists(
 fn place_read(
     list: &[u8],
     h: Head,
-    counts: Counts,
-    index: &[u32; 29696],
+    ends: Ends,
+    places: &[u32],
     out: &mut [u8],
     written: &mut usize,
 ) -> u32
-    requires { ⌜ (0 ≡ callRefusal 1 (now list)) × ListRead 1 (now list) (now index) h counts × (now written ≡ 0) ⌝ }
+    requires { ⌜ (0 ≡ callRefusal 1 (now list)) × ListRead 1 (now list) (now places) h ends × (now written ≡ 0) ⌝ }
     ensures { λ r. ⌜ made r (now (written .exit)) (now (out .exit)) ≡ outcome (answers.place (now (list .entry)) (length (now (out .entry)))) (now (out .entry)) ⌝ }
 {
-    let places: &[u32] = index;
-    let alloc = counts.alloc;
-    let runs = 8192 + counts.freespace;
-    let gens = 20480 + counts.gens;
-    let reserved = 24576 + counts.reserved;
-    let pieces = 28672 + counts.requests;
+    let alloc = ends.alloc;
+    let lru = ends.lru;
+    let freespace = ends.freespace;
+    let backpointers = ends.backpointers;
+    let gens = ends.gens;
+    let reserved = ends.reserved;
+    let requests = ends.requests;
     place_lists(
         list,
         h,
         &places[..alloc],
-        &places[8192..runs],
-        &places[20480..gens],
-        &places[24576..reserved],
-        &places[28672..pieces],
+        &places[lru..freespace],
+        &places[backpointers..gens],
+        &places[gens..reserved],
+        &places[reserved..requests],
         out,
         written,
     )
+}
+
+// The answer, by a table that is long enough.
+fn place_by(list: &[u8], index: &mut [u32], out: &mut [u8], written: &mut usize) -> u32
+    requires { ⌜ Fits (now list) (now index) × (now written ≡ 0) ⌝ }
+    ensures { λ r. ⌜ made r (now (written .exit)) (now (out .exit)) ≡ outcome (answers.place (now (list .entry)) (length (now (out .entry)))) (now (out .entry)) ⌝ }
+{
+    match call::read_call(list, 1, index) {
+        Reading::Refused(number) => number,
+        Reading::Read(h, ends) => place_read(list, h, ends, index, out, written),
+    }
 }
 
 // Place: for any list and any output, the number, the length and the output that the definition gives.
@@ -176,9 +189,10 @@ pub fn place(list: &[u8], out: &mut [u8], written: &mut usize) -> u32
     ensures { λ r. ⌜ made r (now (written .exit)) (now (out .exit)) ≡ outcome (answers.place (now (list .entry)) (length (now (out .entry)))) (now (out .entry)) ⌝ }
 {
     *written = 0;
-    let mut index = [0u32; 29696];
-    match call::read_call(list, 1, &mut index) {
-        Reading::Refused(number) => number,
-        Reading::Read(h, counts) => place_read(list, h, counts, &index, out, written),
+    if list.len() <= 3072 {
+        let mut short = [0u32; 1024];
+        return place_by(list, &mut short, out, written);
     }
+    let mut index = [0u32; 29696];
+    place_by(list, &mut index, out, written)
 }

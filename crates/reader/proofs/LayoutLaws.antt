@@ -128,7 +128,7 @@ follows-up f g h =
     (⊎-elim (λ k. omega (arith, ltb-true (f .tag) (g .tag) k)) (λ k. omega (arith, eqb-true (f .tag) (g .tag) (and-left _ _ k)))
     (or-cases (ltb (f .tag) (g .tag)) _ h))
 
-follows-up-all : (fs : List Field) → inOrder follows fs ≡ true → tagsAscend fs ≡ true
+pub follows-up-all : (fs : List Field) → inOrder follows fs ≡ true → tagsAscend fs ≡ true
 unfolding tagsAscend
 follows-up-all fs h = order-map follows (λ f g. leb (f .tag) (g .tag)) follows-up fs h
 

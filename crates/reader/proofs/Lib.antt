@@ -10,6 +10,7 @@ pub mod OfferedLaws
 pub mod OrderingLaws
 pub mod PieceLaws
 pub mod PlaceLaws
+pub mod RankLaws
 pub mod ReadingLaws
 pub mod ShapeLaws
 pub mod SlotLaws

@@ -1,5 +1,5 @@
--- The parts of a call's list that was read: as many offsets as each count says, and what they find. Assumes nothing.
-use Prim.Native.Nat.{ℕ, _+_, _≤_, _<_}
+-- The parts of a call's list that was read: the offsets between two ends, and what they find. Assumes nothing.
+use Prim.Native.Nat.{ℕ, _+_, _-_, _≤_, _<_}
 use native.Mathlib.Omega.{arith}
 use mathlib.Core.Path.{_≡_, refl, sym, ap, _∙_}
 use mathlib.Core.Bool.{Bool, true, false}
@@ -21,7 +21,7 @@ use Rattle.reader.specs.Table.{Tabled}
 use Rattle.reader.specs.Readings.{callRefusal, listRefusal, ListRead}
 use Rattle.reader.specs.Located.{KeysAt, BucketsAt, PiecesAt, FreedsAt}
 use Rattle.reader.specs.declared.head.Head.{Head}
-use Rattle.reader.specs.declared.table.Counts.{Counts}
+use Rattle.reader.specs.declared.table.Ends.{Ends}
 use Rattle.reader.proofs.OfferedLaws.{call-kept, limits-kept}
 use Rattle.reader.proofs.LocatedLaws.{keys-located, buckets-located, pieces-located, freeds-located}
 
@@ -100,70 +100,102 @@ few-in c h =
       reserved = leb-true (length (v .reserved)) 4096 (reserved .0);
     }
 
-module _ (call : ℕ) (s index : List ℕ) (size : length index ≡ 29696) (h : Head) (c : Counts) (z : 0 ≡ callRefusal call s) (q : ListRead call s index h c) where
+-- the offsets from one end to the next
+abbrev pub between : ℕ → ℕ → List ℕ → List ℕ
+between from to index = take (to - from) (drop from index)
+
+-- a part of the table within it
+pub record Part (from to most : ℕ) (index : List ℕ) : Type 0 where
+  pub forth : from ≤ to
+  pub within : to ≤ length index
+  pub few : to - from ≤ most
+
+module _ (call : ℕ) (s index : List ℕ) (h : Head) (c : Ends) (z : 0 ≡ callRefusal call s) (q : ListRead call s index h c) where
   kept : 0 ≡ listRefusal call false s
   kept = call-kept call s z
 
   few : Few (readCall s)
   few = few-in (readCall s) (limits-kept call false s kept)
 
-  -- a part of the table, of as many offsets as are counted
-  counted : (n t base : ℕ) → 1 < t → t ≤ 14 → base ≤ 20480 → n ≡ length (bodies t (fields s)) → length (map keyOf (bodies t (fields s))) ≤ 4096
-      → Tabled s index base (bodies t (fields s)) → (n ≤ 4096) × KeysAt s (take n (drop base index)) (map keyOf (bodies t (fields s)))
-  counted n t base l m low e short tab =
-      let w : n ≤ 4096 = omega (arith, e, short, length-map (bodies t (fields s)) keyOf) in
-      (w, rw e (keys-located call false s kept index base t l m (omega (arith, e, w, size)) tab))
+  -- a part of the table, of as many offsets as bodies
+  counted : (from to t : ℕ) → 1 < t → t ≤ 14 → to ≡ from + length (bodies t (fields s)) → to ≤ length index → length (map keyOf (bodies t (fields s))) ≤ 4096
+      → Tabled s index from (bodies t (fields s)) → Part from to 4096 index × KeysAt s (between from to index) (map keyOf (bodies t (fields s)))
+  counted from to t l m e low short tab =
+      let w : to - from ≡ length (bodies t (fields s)) = omega arith in (
+        record { forth = omega arith; within = low; few = omega (arith, w, short, length-map (bodies t (fields s)) keyOf) },
+        rw w (keys-located call false s kept index from t l m (omega (arith, e, low)) tab),
+      )
 
   -- trees 4, 11, 12 and 14
-  pub alloc-part : (c .alloc ≤ 4096) × KeysAt s (take (c .alloc) index) (readVolume s .trees .alloc)
+  pub alloc-part : Part 0 (c .alloc) 4096 index × KeysAt s (take (c .alloc) index) (readVolume s .trees .alloc)
   unfolding callListOf treesOf
-  alloc-part = counted (c .alloc) 4 0 (omega arith) (omega arith) (omega arith) (q .counts .alloc) (few .alloc) (q .table .alloc)
+  alloc-part =
+      let e = q .ends in
+      let r =
+      counted 0 (c .alloc) 4 (omega arith) (omega arith) (omega (arith, e .alloc))
+      (omega (arith, e .lru, e .freespace, e .needDiscard, e .backpointers, e .gens, e .reserved, e .requests, e .within))
+      (few .alloc) (q .table .alloc) in
+      let n : c .alloc - 0 ≡ c .alloc = omega arith in
+      (r .0, rw n at (r .1))
 
-  pub freespace-part : (c .freespace ≤ 4096) × KeysAt s (take (c .freespace) (drop 8192 index)) (readVolume s .trees .freespace)
+  pub freespace-part : Part (c .lru) (c .freespace) 4096 index × KeysAt s (between (c .lru) (c .freespace) index) (readVolume s .trees .freespace)
   unfolding callListOf treesOf
   freespace-part =
-      counted (c .freespace) 11 8192 (omega arith) (omega arith) (omega arith) (q .counts .freespace)
+      let e = q .ends in
+      counted (c .lru) (c .freespace) 11 (omega arith) (omega arith) (e .freespace)
+      (omega (arith, e .needDiscard, e .backpointers, e .gens, e .reserved, e .requests, e .within))
       (few .freespace) (q .table .freespace)
 
-  pub need-discard-part : (c .«need_discard» ≤ 4096) × KeysAt s (take (c .«need_discard») (drop 12288 index)) (readVolume s .trees .needDiscard)
+  pub need-discard-part : Part (c .freespace) (c .«need_discard») 4096 index × KeysAt s (between (c .freespace) (c .«need_discard») index) (readVolume s .trees .needDiscard)
   unfolding callListOf treesOf
   need-discard-part =
-      counted (c .«need_discard») 12 12288 (omega arith) (omega arith) (omega arith) (q .counts .needDiscard)
+      let e = q .ends in
+      counted (c .freespace) (c .«need_discard») 12 (omega arith) (omega arith) (e .needDiscard)
+      (omega (arith, e .backpointers, e .gens, e .reserved, e .requests, e .within))
       (few .needDiscard) (q .table .needDiscard)
 
-  pub gens-part : (c .gens ≤ 4096) × KeysAt s (take (c .gens) (drop 20480 index)) (readVolume s .trees .gens)
+  pub gens-part : Part (c .backpointers) (c .gens) 4096 index × KeysAt s (between (c .backpointers) (c .gens) index) (readVolume s .trees .gens)
   unfolding callListOf treesOf
   gens-part =
-      counted (c .gens) 14 20480 (omega arith) (omega arith) (omega arith) (q .counts .gens)
+      let e = q .ends in
+      counted (c .backpointers) (c .gens) 14 (omega arith) (omega arith) (e .gens)
+      (omega (arith, e .reserved, e .requests, e .within))
       (few .gens) (q .table .gens)
 
   -- the reserved buckets
-  pub reserved-part : (c .reserved ≤ 4096) × BucketsAt s (take (c .reserved) (drop 24576 index)) (readVolume s .reserved)
+  pub reserved-part : Part (c .gens) (c .reserved) 4096 index × BucketsAt s (between (c .gens) (c .reserved) index) (readVolume s .reserved)
   unfolding callListOf
   reserved-part =
       let bs = bodies 64 (fields s) in
-      let e = q .counts .reserved in
-      let w : c .reserved ≤ 4096 = omega (arith, e, few .reserved, length-map bs bucketRead) in
-      (w, rw e (buckets-located call false s kept index 24576 (omega (arith, e, w, size)) (q .table .reserved)))
+      let e = q .ends in
+      let w : c .reserved - c .gens ≡ length bs = omega (arith, e .reserved) in
+      let m : c .reserved ≤ length index = omega (arith, e .requests, e .within) in (
+        record { forth = omega (arith, e .reserved); within = m; few = omega (arith, w, few .reserved, length-map bs bucketRead) },
+        rw w (buckets-located call false s kept index (c .gens) (omega (arith, e .reserved, m)) (q .table .reserved)),
+      )
 
 -- the requests of a placement
-module _ (s index : List ℕ) (size : length index ≡ 29696) (h : Head) (c : Counts) (z : 0 ≡ callRefusal 1 s) (q : ListRead 1 s index h c) where
-  pub pieces-part : (c .requests ≤ 1024) × PiecesAt s (take (c .requests) (drop 28672 index)) (readCall s .pieces)
+module _ (s index : List ℕ) (h : Head) (c : Ends) (z : 0 ≡ callRefusal 1 s) (q : ListRead 1 s index h c) where
+  pub pieces-part : Part (c .reserved) (c .requests) 1024 index × PiecesAt s (between (c .reserved) (c .requests) index) (readCall s .pieces)
   unfolding callListOf
   pieces-part =
       let bs = bodies 65 (fields s) in
-      let e : c .requests ≡ length bs = q .counts .requests in
+      let e : c .requests ≡ c .reserved + length bs = q .ends .requests in
       let few = list-within (readCall s) (limits-kept 1 false s (call-kept 1 s z)) .1 in
-      let w : c .requests ≤ 1024 = omega (arith, e, few, length-map bs pieceOf) in
-      (w, rw e (pieces-located 1 false s (call-kept 1 s z) index 28672 (omega (arith, e, w, size)) (q .table .requests)))
+      let w : c .requests - c .reserved ≡ length bs = omega arith in (
+        record { forth = omega arith; within = q .ends .within; few = omega (arith, w, few, length-map bs pieceOf) },
+        rw w (pieces-located 1 false s (call-kept 1 s z) index (c .reserved) (omega (arith, e, q .ends .within)) (q .table .requests)),
+      )
 
 -- the requests of a release
-module _ (s index : List ℕ) (size : length index ≡ 29696) (h : Head) (c : Counts) (z : 0 ≡ callRefusal 2 s) (q : ListRead 2 s index h c) where
-  pub freeds-part : (c .requests ≤ 1024) × FreedsAt s (take (c .requests) (drop 28672 index)) (readCall s .releases)
+module _ (s index : List ℕ) (h : Head) (c : Ends) (z : 0 ≡ callRefusal 2 s) (q : ListRead 2 s index h c) where
+  pub freeds-part : Part (c .reserved) (c .requests) 1024 index × FreedsAt s (between (c .reserved) (c .requests) index) (readCall s .releases)
   unfolding callListOf
   freeds-part =
       let bs = bodies 66 (fields s) in
-      let e : c .requests ≡ length bs = q .counts .requests in
+      let e : c .requests ≡ c .reserved + length bs = q .ends .requests in
       let few = list-within (readCall s) (limits-kept 2 false s (call-kept 2 s z)) .2 in
-      let w : c .requests ≤ 1024 = omega (arith, e, few, length-map bs freedOf) in
-      (w, rw e (freeds-located 2 false s (call-kept 2 s z) index 28672 (omega (arith, e, w, size)) (q .table .requests)))
+      let w : c .requests - c .reserved ≡ length bs = omega arith in (
+        record { forth = omega arith; within = q .ends .within; few = omega (arith, w, few, length-map bs freedOf) },
+        rw w (freeds-located 2 false s (call-kept 2 s z) index (c .reserved) (omega (arith, e, q .ends .within)) (q .table .requests)),
+      )

@@ -1,6 +1,7 @@
 -- The pass over a call list: how it starts, what one more field changes, and what it finds in the end.
-use Prim.Native.Nat.{ℕ, _+_, _*_, _≤_, _<_}
+use Prim.Native.Nat.{ℕ, suc, _+_, _*_, _≤_, _<_}
 use mathlib.Core.Path.{_≡_, refl, sym, _∙_, ap}
+use mathlib.Core.Logic.{inl, inr, ⊎-elim}
 use mathlib.Core.List.{List, [], _∷_, _++_}
 use mathlib.Core.Bool.{Bool, true, false, not, _&&_, _||_, cond, and-false, and-assoc}
 use lib.ListN.{length, take, drop, getD, set, length-set, drop-of-length-le}
@@ -17,16 +18,17 @@ use Rattle.calls.specs.CallList.{Head, headOf, headOk, bodies, firstBody, callL
 use Rattle.calls.specs.Limits.{listWithin}
 use Rattle.calls.specs.Refusals.{test, verdict}
 use Rattle.reader.specs.CallFields.{restShapes, callFieldOk, startsOk, fieldFrom, leastOf, follows, headWithin, fieldWithin}
-use Rattle.reader.specs.Table.{slotOf, mostOf, room, Passed, Indexed, Counted, countsIn, requestBodies, Tabled}
+use Rattle.reader.specs.Table.{slotOf, mostOf, Fits, Free, room, Passed, endOf, Indexed, Ended, endsIn, requestBodies, Tabled}
 use Rattle.reader.specs.Readings.{listRefusal}
 use Rattle.reader.proofs.BoolLaws.{apart, and-left, and-right, fails}
-use Rattle.reader.proofs.ListLaws.{all-true, all-map, bodies-here, bodies-other}
+use Rattle.reader.proofs.ListLaws.{all-true, all-map, order-tail, bodies-here, bodies-other}
 use Rattle.reader.proofs.LayoutLaws.{Listed, listed, listed-above, laidFields, laid-is, laid-none}
-use Rattle.reader.proofs.SlotLaws.{inSlot, AllListed, slot-at, slot-alloc, slot-lru, slot-freespace, slot-need-discard, slot-backpointers, slot-gens, slot-reserved, slot-requests, no-pieces, no-releases}
+use Rattle.reader.proofs.SlotLaws.{inSlot, AllListed, slot-at, slot-alloc, slot-lru, slot-freespace, slot-need-discard, slot-backpointers, slot-gens, slot-reserved, slot-requests, slot-below, no-pieces, no-releases}
 use Rattle.reader.proofs.LimitLaws.{Within, within-parts, parts-within, fields-within, within-alloc, within-run, within-waiting, within-reserved, few-at}
 use Rattle.reader.proofs.PlaceLaws.{within-cut, follows-cut, listed-least, listed-most, here-at}
 use Rattle.reader.proofs.TableLaws.{room-true, room-false}
-use Rattle.reader.proofs.NotingLaws.{Noting, noting-none, noting-more, place-fits, row-full, field-over, row-counted, row-tabled, all-within}
+use Rattle.reader.proofs.NotingLaws.{Noting, end-most, noting-none, noting-more, place-fits, ends-fit, table-free, rank-full, field-over, rank-counted, all-here, all-within}
+use Rattle.reader.proofs.RankLaws.{Ranked, ranked, fewer, rank-at, rank-inside, counted-fewer}
 
 -- the first field
 
@@ -145,12 +147,13 @@ not-started s call any h = broken s call any (go (fields s) h)
 -- the loop's invariant
 
 -- what is known of the limits: one is passed, if the layout is right to the end; or none was yet
-abbrev pub Limits : List ℕ → ℕ → ℕ → List ℕ → List ℕ → Bool → Type 0
-Limits s call at counts index true = AllListed call (fields (drop 42 s)) → listWithin (callListOf (fields s)) ≡ false
-Limits s call at counts index false =
-    Noting s (fields (drop 42 s)) at counts index × (headWithin (headOf (take 39 (drop 3 s))) ≡ true)
+abbrev pub Limits : List ℕ → ℕ → ℕ → ℕ → List ℕ → List ℕ → Bool → Type 0
+Limits s call at m counts index true = AllListed call (fields (drop 42 s)) → listWithin (callListOf (fields s)) ≡ false
+Limits s call at m counts index false =
+    Noting s (fields (drop 42 s)) at m counts index × (headWithin (headOf (take 39 (drop 3 s))) ≡ true)
 
-pub record Going (s : List ℕ) (call : ℕ) (any : Bool) (at last before : ℕ) (over : Bool) (counts index : List ℕ) : Type 0 where
+-- m fields were passed
+pub record Going (s : List ℕ) (call : ℕ) (any : Bool) (at m last before : ℕ) (over : Bool) (counts index : List ℕ) : Type 0 where
   pub open1 : Opened s call any
   pub walked : Walked s at
   pub len : ℕ
@@ -159,8 +162,9 @@ pub record Going (s : List ℕ) (call : ℕ) (any : Bool) (at last before : ℕ)
   pub order : inOrder follows (fieldAt s last before len ∷ fields (drop at s)) ≡ inOrder follows (fields s)
   pub fine : allOf (callFieldOk call) (fields (drop at s)) ≡ allOf (callFieldOk call) (fields (drop 42 s))
   pub width : length counts ≡ 8
-  pub size : length index ≡ 29696
-  pub limits : Limits s call at counts index over
+  pub fits : Fits s index
+  pub many : 42 + 3 * m ≤ at
+  pub limits : Limits s call at m counts index over
 
 -- the head's limits
 head-of : (s : List ℕ) (call : ℕ) (any : Bool) → Opened s call any → firstBody (bodies 1 (fields s)) ≡ take 39 (drop 3 s)
@@ -176,9 +180,9 @@ over-head s call any o h =
     (λ k. ap (λ (b : List ℕ). headWithin (headOf b)) (sym (head-of s call any o)) ∙ within-parts (fields s) k .head) h
 
 pub going-start :
-    (s : List ℕ) (call : ℕ) (any : Bool) (index : List ℕ) (r : Bool) → Opened s call any → length index ≡ 29696
+    (s : List ℕ) (call : ℕ) (any : Bool) (index : List ℕ) (r : Bool) → Opened s call any → Fits s index
     → r ≡ headWithin (headOf (take 39 (drop 3 s)))
-    → Going s call any 42 1 3 (not r) (0 ∷ 0 ∷ 0 ∷ 0 ∷ 0 ∷ 0 ∷ 0 ∷ 0 ∷ []) index
+    → Going s call any 42 0 1 3 (not r) (0 ∷ 0 ∷ 0 ∷ 0 ∷ 0 ∷ 0 ∷ 0 ∷ 0 ∷ []) index
 going-start s call any index r o z e =
     record {
       open1 = o;
@@ -189,13 +193,14 @@ going-start s call any index r o z e =
       order = ap (inOrder follows) (sym (o .first .here));
       fine = refl;
       width = refl;
-      size = z;
+      fits = z;
+      many = omega arith;
       limits = begin r e;
     }
   where
     begin :
         (r : Bool) → r ≡ headWithin (headOf (take 39 (drop 3 s)))
-        → Limits s call 42 (0 ∷ 0 ∷ 0 ∷ 0 ∷ 0 ∷ 0 ∷ 0 ∷ 0 ∷ []) index (not r)
+        → Limits s call 42 0 (0 ∷ 0 ∷ 0 ∷ 0 ∷ 0 ∷ 0 ∷ 0 ∷ 0 ∷ []) index (not r)
     begin true e = (noting-none s index, sym e)
     begin false e = λ l. over-head s call any o (sym e)
 
@@ -230,8 +235,8 @@ after-first s call any o t h =
     ap (bodies t) (o .first .here) ∙ bodies-other t (fieldAt s 1 3 39) (fields (drop 42 s)) (λ e. omega arith)
 
 module _
-    (s : List ℕ) (call : ℕ) (any : Bool) (at last before : ℕ) (over : Bool) (counts index : List ℕ)
-    (g : Going s call any at last before over counts index) where
+    (s : List ℕ) (call : ℕ) (any : Bool) (at m last before : ℕ) (over : Bool) (counts index : List ℕ)
+    (g : Going s call any at m last before over counts index) where
   pub last-within : before + leastOf last ≤ length s
   last-within = omega (arith, g .inside, g .least)
 
@@ -283,10 +288,10 @@ module _ (s : List ℕ) (call : ℕ) (any : Bool) (o : Opened s call any) where
   over-field : allOf fieldWithin (fields (drop 42 s)) ≡ false → listWithin (callListOf (fields s)) ≡ false
   over-field h = fails _ _ (λ k. rest-within (fields-within (fields s) (within-parts (fields s) k))) h
 
-  over-row :
+  over-rank :
       (t n : ℕ) → Listed call t n → AllListed call (fields (drop 42 s))
       → mostOf (slotOf t) < length (inSlot (slotOf t) (fields (drop 42 s))) → listWithin (callListOf (fields s)) ≡ false
-  over-row t n l r h =
+  over-rank t n l r h =
       refute (listWithin (callListOf (fields s)))
       (λ k.
       omega (arith, few-at (fields s) (within-parts (fields s) k) l, ap length (after-first s call any o t (listed-above l)), ap length (slot-at l (fields (drop 42 s)) r)))
@@ -297,9 +302,14 @@ set-length : (r : Bool) (xs : List ℕ) (i v : ℕ) → length (cond r xs (set x
 set-length true xs i v = refl
 set-length false xs i v = length-set xs i v
 
+pub passed-length :
+    {s : List ℕ} {over : Bool} {t b m : ℕ} {counts counts′ index index′ : List ℕ} {r : Bool}
+    → Passed s over t b m counts counts′ index index′ r → length index′ ≡ length index
+passed-length {b = b} {m = m} {index = index} {r = r} p = ap length (p .placed) ∙ set-length r index m b
+
 module _
-    (s : List ℕ) (call : ℕ) (any : Bool) (at last before : ℕ) (over : Bool) (counts index : List ℕ)
-    (g : Going s call any at last before over counts index) (t b n : ℕ) (e : stepOf at (drop at s) ≡ Found t b n)
+    (s : List ℕ) (call : ℕ) (any : Bool) (at m last before : ℕ) (over : Bool) (counts index : List ℕ)
+    (g : Going s call any at m last before over counts index) (t b n : ℕ) (e : stepOf at (drop at s) ≡ Found t b n)
     (ok : callFieldOk call (fieldAt s t b n) ≡ true) where
   f : FieldAt s at t b n
   f = field-at s at t b n e
@@ -310,32 +320,46 @@ module _
   here-within : (q : Bool) → q ≡ fieldWithin (fieldFrom s t b) → fieldWithin (fieldAt s t b n) ≡ q
   here-within q h = within-cut s b n t (listed-least l) ∙ sym h
 
+  -- an entry for it, where it is noted
+  entry-free : (o : Bool) → o ≡ false → Limits s call at m counts index o → Free counts (slotOf t) m index
+  entry-free true z w = apart z
+  entry-free false z w =
+      λ h.
+      ⊎-elim
+      (λ l. omega (arith, table-free s (fields (drop 42 s)) at m counts index (g .width) (w .0) (slotOf t) (slot-below t) h))
+      (λ l. omega (arith, g .many, f .on, f .within))
+      (g .fits)
+
+  pub next-free : over ≡ false → Free counts (slotOf t) m index
+  next-free z = entry-free over z (g .limits)
+
   limits-next :
-      (o p q : Bool) → p ≡ fieldWithin (fieldFrom s t b) → q ≡ room counts (slotOf t) b → Limits s call at counts index o
-      → Limits s call (b + n)
+      (o p q : Bool) → p ≡ fieldWithin (fieldFrom s t b) → q ≡ room counts (slotOf t) b → Limits s call at m counts index o
+      → Limits s call (b + n) (m + 1)
       (cond (o || (not p || not q)) counts (set counts (slotOf t) (getD counts (slotOf t) 0 + 1)))
-      (cond (o || (not p || not q)) index (set index (slotOf t * 4096 + getD counts (slotOf t) 0) b))
+      (cond (o || (not p || not q)) index (set index m b))
       (o || (not p || not q))
   limits-next true p q hp hq w = w
   limits-next false false q hp hq w =
       λ r.
       over-field s call any (g .open1)
-      (field-over s (fields (drop 42 s)) at counts index (g .width) (w .0) t b n f (here-within false hp))
+      (field-over s (fields (drop 42 s)) at m counts index (g .width) (w .0) t b n f (here-within false hp))
   limits-next false true false hp hq w =
       λ r.
-      over-row s call any (g .open1) t n l r
-      (row-full s (fields (drop 42 s)) at counts index (g .width) (w .0) t b n f
+      over-rank s call any (g .open1) t n l r
+      (rank-full s (fields (drop 42 s)) at m counts index (g .width) (w .0) t b n f
       (room-false counts (slotOf t) b
-      (omega (arith, f .on, place-fits s (fields (drop 42 s)) at counts index (g .width) (w .0))) hq))
+      (omega (arith, f .on, place-fits s (fields (drop 42 s)) at m counts index (g .width) (w .0))) hq))
   limits-next false true true hp hq w = (
-    noting-more s (fields (drop 42 s)) at counts index (g .width) (w .0) t b n f (g .size) (here-at s at t b n e f)
+    noting-more s (fields (drop 42 s)) at m counts index (g .width) (w .0) t b n f
+        (entry-free false refl w (room-true counts (slotOf t) b hq)) (here-at s at t b n e f)
         (listed-most l) (here-within true hp) (room-true counts (slotOf t) b hq),
     w .1,
   )
 
   pub goes-on :
       (counts′ index′ : List ℕ) (r : Bool) → follows (fieldFrom s last before) (fieldFrom s t b) ≡ true
-      → Passed s over t b counts counts′ index index′ r → Going s call any (b + n) t b r counts′ index′
+      → Passed s over t b m counts counts′ index index′ r → Going s call any (b + n) (m + 1) t b r counts′ index′
   unfolding allOf
   goes-on counts′ index′ r h p =
       record {
@@ -344,10 +368,13 @@ module _
         len = n;
         inside = f .within;
         least = listed-least l;
-        order = simp h at (order-here s call any at last before over counts index g t b n f ok);
+        order = simp h at (order-here s call any at m last before over counts index g t b n f ok);
         fine = simp ok at (ap (allOf (callFieldOk call)) (sym (f .here)) ∙ g .fine);
         width = ap length (p .counted) ∙ set-length r counts (slotOf t) _ ∙ g .width;
-        size = ap length (p .placed) ∙ set-length r index _ b ∙ g .size;
+        fits =
+            let z = passed-length p in
+            ⊎-elim (λ l. inl (omega arith)) (λ l. inr (omega arith)) (g .fits);
+        many = omega (arith, g .many, f .on);
         limits =
             rw (p .counted, p .placed, p .answer)
             (limits-next over (fieldWithin (fieldFrom s t b)) (room counts (slotOf t) b) refl refl (g .limits));
@@ -356,8 +383,8 @@ module _
 -- the end of the list
 
 module _
-    (s : List ℕ) (call : ℕ) (any : Bool) (at last before : ℕ) (over : Bool) (counts index : List ℕ)
-    (g : Going s call any at last before over counts index) (e : length s ≤ at) where
+    (s : List ℕ) (call : ℕ) (any : Bool) (at m last before : ℕ) (over : Bool) (counts index : List ℕ)
+    (g : Going s call any at m last before over counts index) (e : length s ≤ at) where
   nothing-left : drop at s ≡ []
   nothing-left = drop-of-length-le s {i = at} e
 
@@ -372,6 +399,10 @@ module _
   to-the-end : whole s ≡ true
   to-the-end = whole-end s at (g .walked) (omega (arith, g .walked .within))
 
+  rest-ordered : inOrder follows (fields (drop 42 s)) ≡ true
+  rest-ordered =
+      order-tail follows (fieldAt s 1 3 39) (fields (drop 42 s)) (ap (inOrder follows) (sym (g .open1 .first .here)) ∙ all-ordered)
+
   all-laid : laidFields call any (fields s) ≡ true
   all-laid = laid-here s call any (g .open1) ∙ simp (all-fine, all-ordered)
 
@@ -381,26 +412,29 @@ module _
   pub ends-over : over ≡ true → RefusedBy 3 s call any
   ends-over h = passed-by s call any to-the-end all-laid (limit over h (g .limits))
     where
-      limit : (o : Bool) → o ≡ true → Limits s call at counts index o → listWithin (callListOf (fields s)) ≡ false
+      limit : (o : Bool) → o ≡ true → Limits s call at m counts index o → listWithin (callListOf (fields s)) ≡ false
       limit true z w = w rest
       limit false z w = apart (sym z)
 
   module _ (h : over ≡ false) where
-    noted : Noting s (fields (drop 42 s)) at counts index × (headWithin (headOf (take 39 (drop 3 s))) ≡ true)
+    noted : Noting s (fields (drop 42 s)) at m counts index × (headWithin (headOf (take 39 (drop 3 s))) ≡ true)
     noted = none-passed over h (g .limits)
       where
         none-passed :
-            (o : Bool) → o ≡ false → Limits s call at counts index o
-            → Noting s (fields (drop 42 s)) at counts index × (headWithin (headOf (take 39 (drop 3 s))) ≡ true)
+            (o : Bool) → o ≡ false → Limits s call at m counts index o
+            → Noting s (fields (drop 42 s)) at m counts index × (headWithin (headOf (take 39 (drop 3 s))) ≡ true)
         none-passed true z w = apart z
         none-passed false z w = w
 
-    -- a row's bodies, in the whole list
-    row-bodies : (k t : ℕ) → 1 < t → inSlot k (fields (drop 42 s)) ≡ bodies t (fields (drop 42 s)) → inSlot k (fields (drop 42 s)) ≡ bodies t (fields s)
-    row-bodies k t l z = z ∙ sym (after-first s call any (g .open1) t l)
+    pub ends-table : endOf counts 8 ≤ 29696
+    ends-table = ends-fit s (fields (drop 42 s)) at m counts index (g .width) (noted .0)
 
-    row-requests : inSlot 7 (fields (drop 42 s)) ≡ requestBodies call (fields s)
-    row-requests =
+    -- a rank's bodies, in the whole list
+    rank-bodies : (k t : ℕ) → 1 < t → inSlot k (fields (drop 42 s)) ≡ bodies t (fields (drop 42 s)) → inSlot k (fields (drop 42 s)) ≡ bodies t (fields s)
+    rank-bodies k t l z = z ∙ sym (after-first s call any (g .open1) t l)
+
+    rank-requests : inSlot 7 (fields (drop 42 s)) ≡ requestBodies call (fields s)
+    rank-requests =
         slot-requests call (fields (drop 42 s)) rest
         ∙ sym
         (λ i.
@@ -408,73 +442,95 @@ module _
         (cond (eqb call 2) (after-first s call any (g .open1) 66 (omega arith) i) []))
 
     count-is : (k : ℕ) (bs : List (List ℕ)) → k < 8 → inSlot k (fields (drop 42 s)) ≡ bs → getD counts k 0 ≡ length bs
-    count-is k bs l z = row-counted s (fields (drop 42 s)) at counts index (noted .0) e k l ∙ ap length z
+    count-is k bs l z = rank-counted s (fields (drop 42 s)) at m counts index (noted .0) e k l ∙ ap length z
 
     few-is : (k : ℕ) (bs : List (List ℕ)) → k < 8 → inSlot k (fields (drop 42 s)) ≡ bs → length bs ≤ mostOf k
     few-is k bs l z = omega (arith, count-is k bs l z, noted .0 .few k l)
 
-    table-is : (k base : ℕ) (bs : List (List ℕ)) → k < 8 → k * 4096 ≡ base → inSlot k (fields (drop 42 s)) ≡ bs → Tabled s index base bs
-    table-is k base bs l m z = rw z at (row-tabled s (fields (drop 42 s)) at counts index (noted .0) e k base l m)
+    -- the places of a rank stand after those of the ranks below
+    in-rank : (k : ℕ) → k < 8 → Tabled s index (endOf counts k) (inSlot k (fields (drop 42 s)))
+    in-rank k l i h =
+        let fs = fields (drop 42 s) in
+        let base : endOf counts k ≡ fewer k fs = counted-fewer counts fs (rank-counted s fs at m counts index (noted .0) e) k (omega arith) in
+        let r = rest-ranked in
+        rw (base, ← rank-at r k i h) (all-here s fs at m counts index (noted .0) e (fewer k fs + i) (rank-inside fs k i h))
+      where
+        rest-ranked : Ranked (fields (drop 42 s))
+        rest-ranked = ranked call (fields (drop 42 s)) rest-ordered rest
+
+    table-is : (k : ℕ) (bs : List (List ℕ)) → k < 8 → inSlot k (fields (drop 42 s)) ≡ bs → Tabled s index (endOf counts k) bs
+    table-is k bs l z = rw z at (in-rank k l)
+
+    -- where a rank ends
+    end-is : (k : ℕ) (bs : List (List ℕ)) → k < 8 → inSlot k (fields (drop 42 s)) ≡ bs → endOf counts (suc k) ≡ endOf counts k + length bs
+    unfolding endOf
+    end-is k bs l z = ap (λ (x : ℕ). endOf counts k + x) (count-is k bs l z)
 
     alloc : inSlot 0 (fields (drop 42 s)) ≡ bodies 4 (fields s)
-    alloc = row-bodies 0 4 (omega arith) (slot-alloc call (fields (drop 42 s)) rest)
+    alloc = rank-bodies 0 4 (omega arith) (slot-alloc call (fields (drop 42 s)) rest)
 
     lru : inSlot 1 (fields (drop 42 s)) ≡ bodies 10 (fields s)
-    lru = row-bodies 1 10 (omega arith) (slot-lru call (fields (drop 42 s)) rest)
+    lru = rank-bodies 1 10 (omega arith) (slot-lru call (fields (drop 42 s)) rest)
 
     freespace : inSlot 2 (fields (drop 42 s)) ≡ bodies 11 (fields s)
-    freespace = row-bodies 2 11 (omega arith) (slot-freespace call (fields (drop 42 s)) rest)
+    freespace = rank-bodies 2 11 (omega arith) (slot-freespace call (fields (drop 42 s)) rest)
 
     needDiscard : inSlot 3 (fields (drop 42 s)) ≡ bodies 12 (fields s)
-    needDiscard = row-bodies 3 12 (omega arith) (slot-need-discard call (fields (drop 42 s)) rest)
+    needDiscard = rank-bodies 3 12 (omega arith) (slot-need-discard call (fields (drop 42 s)) rest)
 
     backpointers : inSlot 4 (fields (drop 42 s)) ≡ bodies 13 (fields s)
-    backpointers = row-bodies 4 13 (omega arith) (slot-backpointers call (fields (drop 42 s)) rest)
+    backpointers = rank-bodies 4 13 (omega arith) (slot-backpointers call (fields (drop 42 s)) rest)
 
     gens : inSlot 5 (fields (drop 42 s)) ≡ bodies 14 (fields s)
-    gens = row-bodies 5 14 (omega arith) (slot-gens call (fields (drop 42 s)) rest)
+    gens = rank-bodies 5 14 (omega arith) (slot-gens call (fields (drop 42 s)) rest)
 
     reserved : inSlot 6 (fields (drop 42 s)) ≡ bodies 64 (fields s)
-    reserved = row-bodies 6 64 (omega arith) (slot-reserved call (fields (drop 42 s)) rest)
+    reserved = rank-bodies 6 64 (omega arith) (slot-reserved call (fields (drop 42 s)) rest)
 
-    pub ends-counted : Counted call s (countsIn counts)
-    ends-counted =
+    first-end : endOf counts 1 ≡ length (bodies 4 (fields s))
+    unfolding endOf
+    first-end = omega (arith, count-is 0 (bodies 4 (fields s)) (omega arith) alloc)
+
+    pub ends-ended : Ended call s index (endsIn counts)
+    ends-ended =
         record {
-          alloc = count-is 0 _ (omega arith) alloc;
-          lru = count-is 1 _ (omega arith) lru;
-          freespace = count-is 2 _ (omega arith) freespace;
-          needDiscard = count-is 3 _ (omega arith) needDiscard;
-          backpointers = count-is 4 _ (omega arith) backpointers;
-          gens = count-is 5 _ (omega arith) gens;
-          reserved = count-is 6 _ (omega arith) reserved;
-          requests = count-is 7 _ (omega arith) row-requests;
+          alloc = first-end;
+          lru = end-is 1 _ (omega arith) lru;
+          freespace = end-is 2 _ (omega arith) freespace;
+          needDiscard = end-is 3 _ (omega arith) needDiscard;
+          backpointers = end-is 4 _ (omega arith) backpointers;
+          gens = end-is 5 _ (omega arith) gens;
+          reserved = end-is 6 _ (omega arith) reserved;
+          requests = end-is 7 _ (omega arith) rank-requests;
+          within = omega (arith, end-most counts (g .width), noted .0 .all, noted .0 .inside);
         }
 
-    pub ends-indexed : Indexed call s index
+    pub ends-indexed : Indexed call s index (endsIn counts)
+    unfolding endOf
     ends-indexed =
         record {
-          alloc = table-is 0 0 _ (omega arith) refl alloc;
-          lru = table-is 1 4096 _ (omega arith) refl lru;
-          freespace = table-is 2 8192 _ (omega arith) refl freespace;
-          needDiscard = table-is 3 12288 _ (omega arith) refl needDiscard;
-          backpointers = table-is 4 16384 _ (omega arith) refl backpointers;
-          gens = table-is 5 20480 _ (omega arith) refl gens;
-          reserved = table-is 6 24576 _ (omega arith) refl reserved;
-          requests = table-is 7 28672 _ (omega arith) refl row-requests;
+          alloc = table-is 0 _ (omega arith) alloc;
+          lru = table-is 1 _ (omega arith) lru;
+          freespace = table-is 2 _ (omega arith) freespace;
+          needDiscard = table-is 3 _ (omega arith) needDiscard;
+          backpointers = table-is 4 _ (omega arith) backpointers;
+          gens = table-is 5 _ (omega arith) gens;
+          reserved = table-is 6 _ (omega arith) reserved;
+          requests = table-is 7 _ (omega arith) rank-requests;
         }
 
     fields-ok : allOf fieldWithin (fields s) ≡ true
     unfolding allOf fieldWithin
     fields-ok =
         ap (allOf fieldWithin) (g .open1 .first .here)
-        ∙ all-within s (fields (drop 42 s)) at counts index (noted .0) e
+        ∙ all-within s (fields (drop 42 s)) at m counts index (noted .0) e
 
     -- the requests of the call are within their limit, and the other call's are none
     pieces-few : length (bodies 65 (fields s)) ≤ 1024
     pieces-few = go (eqb call 1) refl
       where
         go : (p : Bool) → eqb call 1 ≡ p → length (bodies 65 (fields s)) ≤ 1024
-        go true x = few-is 7 (bodies 65 (fields s)) (omega arith) (row-requests ∙ simp x)
+        go true x = few-is 7 (bodies 65 (fields s)) (omega arith) (rank-requests ∙ simp x)
         go false x =
             omega (arith, ap length (after-first s call any (g .open1) 65 (omega arith) ∙ no-pieces call (fields (drop 42 s)) rest (eqb-false call 1 x)))
 
@@ -483,7 +539,7 @@ module _
       where
         go : (p : Bool) → eqb call 2 ≡ p → length (bodies 66 (fields s)) ≤ 1024
         go true x =
-            few-is 7 (bodies 66 (fields s)) (omega arith) (row-requests ∙ simp (ne-eqb call 1 (λ z. omega (arith, eqb-true call 2 x)), x))
+            few-is 7 (bodies 66 (fields s)) (omega arith) (rank-requests ∙ simp (ne-eqb call 1 (λ z. omega (arith, eqb-true call 2 x)), x))
         go false x =
             omega (arith, ap length (after-first s call any (g .open1) 66 (omega arith) ∙ no-releases call (fields (drop 42 s)) rest (eqb-false call 2 x)))
 

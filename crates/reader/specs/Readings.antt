@@ -1,4 +1,4 @@
--- The answers of the readers: refusals 2 and 3, or the head, the counts and the table.
+-- The answers of the readers: refusals 2 and 3, or the head and the table.
 use Prim.Native.Nat.{ℕ, _<_}
 use mathlib.Core.Path.{_≡_}
 use mathlib.Core.List.{List, [], _∷_, _++_}
@@ -9,9 +9,9 @@ use Rattle.calls.specs.CallList.{callListOf, laidOut, volumeShapes, requestShap
 use Rattle.calls.specs.Limits.{volumeWithin, listWithin}
 use Rattle.calls.specs.Refusals.{test, verdict}
 use Rattle.reader.specs.Heads.{headIn}
-use Rattle.reader.specs.Table.{Indexed, Counted}
+use Rattle.reader.specs.Table.{Indexed, Ended}
 use Rattle.reader.specs.declared.head.Head.{Head}
-use Rattle.reader.specs.declared.table.Counts.{Counts}
+use Rattle.reader.specs.declared.table.Ends.{Ends}
 use Rattle.reader.specs.declared.call.Reading.{Reading}
 use Rattle.reader.specs.declared.call.Reading.the-variants.{Refused, Read}
 
@@ -31,13 +31,13 @@ listRefusal call any s =
     ∷ test 3 (listWithin (callListOf (fields s)))
     ∷ [])
 
--- a list that was read: its head, its counts and its table
-pub record ListRead (call : ℕ) (s index : List ℕ) (h : Head) (c : Counts) : Type 0 where
+-- a list that was read: its head and its table
+pub record ListRead (call : ℕ) (s index : List ℕ) (h : Head) (e : Ends) : Type 0 where
   pub head : headIn h ≡ callListOf (fields s) .volume .head
-  pub counts : Counted call s c
-  pub table : Indexed call s index
+  pub ends : Ended call s index e
+  pub table : Indexed call s index e
 
 -- the refusal's number, or 0 and the list
 abbrev pub Answered : ℕ → ℕ → List ℕ → List ℕ → Reading → Type 0
 Answered number call s index (Refused n) = (n ≡ number) × (0 < number)
-Answered number call s index (Read h c) = (0 ≡ number) × ListRead call s index h c
+Answered number call s index (Read h e) = (0 ≡ number) × ListRead call s index h e

@@ -5,21 +5,21 @@ ghost use Prim.Native.Nat.{_+_, _≤_};
 ghost use lib.ListN.{length};
 ghost use Rattle.wire.specs.Fields.{fields};
 ghost use Rattle.reader.specs.CallFields.{startsOk, leastOf};
-ghost use Rattle.reader.specs.Table.{Passed};
+ghost use Rattle.reader.specs.Table.{slotOf, Free, Passed, Fits};
 ghost use Rattle.reader.specs.Readings.{callRefusal, volumeRefusal, listRefusal, Answered};
 use crate::head;
 use crate::head::Head;
 use crate::limits;
 use crate::order;
 use crate::table;
-use crate::table::Counts;
+use crate::table::Ends;
 use wire::fields;
 use wire::fields::NextField;
 
-// What a list is read as: refused with a number, or its head and how many fields of each tag it has.
+// What a list is read as: refused with a number, or its head and where the places of each tag end in the table.
 pub enum Reading {
     Refused(u32),
-    Read(Head, Counts),
+    Read(Head, Ends),
 }
 
 // Whether a list starts with field 1, of this call or of any.
@@ -45,17 +45,18 @@ fn starts(s: &[u8], call: u8, any: bool) -> bool
     first.call == call
 }
 
-// Whether a limit is passed, now or before: else the field's place is noted. The length that its tag asks shows the bound.
+// Whether a limit is passed, now or before: else the field's place is noted behind n others. The length that its tag asks shows the bound.
 fn passes(
     s: &[u8],
     over: bool,
     tag: u8,
     start: usize,
+    n: usize,
     counts: &mut [usize; 8],
     index: &mut [u32],
 ) -> bool
-    requires { ⌜ (start + leastOf tag ≤ length (now s)) × (length (now index) ≡ 29696) ⌝ }
-    ensures { λ r. ⌜ Passed (now (s .entry)) over tag start (now (counts .entry)) (now (counts .exit)) (now (index .entry)) (now (index .exit)) r ⌝ }
+    requires { ⌜ (start + leastOf tag ≤ length (now s)) × (over ≡ false → Free (now counts) (slotOf tag) n (now index)) ⌝ }
+    ensures { λ r. ⌜ Passed (now (s .entry)) over tag start n (now (counts .entry)) (now (counts .exit)) (now (index .entry)) (now (index .exit)) r ⌝ }
 {
     if over {
         return true;
@@ -63,13 +64,13 @@ fn passes(
     if !limits::field_within(s, tag, start) {
         return true;
     }
-    let noted = table::note(counts, index, table::slot_of(tag), start);
+    let noted = table::note(counts, index, table::slot_of(tag), n, start);
     !noted
 }
 
 // A list of a call, or with `any` of whatever call its head names. The table that is lent shows the bound.
 fn read_list(s: &[u8], call: u8, any: bool, index: &mut [u32]) -> Reading
-    requires { ⌜ length (now index) ≡ 29696 ⌝ }
+    requires { ⌜ Fits (now s) (now index) ⌝ }
     ensures { λ r. ⌜ Answered (listRefusal call any (now (s .entry))) call (now (s .entry)) (now (index .exit)) r ⌝ }
 {
     if !starts(s, call, any) {
@@ -81,6 +82,7 @@ fn read_list(s: &[u8], call: u8, any: bool, index: &mut [u32]) -> Reading
     let mut last: u8 = 1;
     let mut before: usize = 3;
     let mut at: usize = 42;
+    let mut n: usize = 0;
     while at < s.len() {
         let NextField::Found { tag, start, len } = fields::next_field(s, at) else {
             return Reading::Refused(2);
@@ -91,26 +93,29 @@ fn read_list(s: &[u8], call: u8, any: bool, index: &mut [u32]) -> Reading
         if !order::follows(s, last, before, tag, start) {
             return Reading::Refused(2);
         }
-        over = passes(s, over, tag, start, &mut counts, index);
+        over = passes(s, over, tag, start, n, &mut counts, index);
         last = tag;
         before = start;
         at = start + len;
+        n += 1;
     }
     if over {
         return Reading::Refused(3);
     }
-    Reading::Read(first, table::counts_of(counts))
+    Reading::Read(first, table::ends_of(counts))
 }
 
-// Reads a call's list: refusal 2, then 3, else its head, its counts and the table of its fields.
-pub fn read_call(s: &[u8], call: u8, index: &mut [u32; 29696]) -> Reading
+// Reads a call's list: refusal 2, then 3, else its head and the table of its fields.
+pub fn read_call(s: &[u8], call: u8, index: &mut [u32]) -> Reading
+    requires { ⌜ Fits (now s) (now index) ⌝ }
     ensures { λ r. ⌜ Answered (callRefusal call (now (s .entry))) call (now (s .entry)) (now (index .exit)) r ⌝ }
 {
     read_list(s, call, false, index)
 }
 
 // Reads a volume in the same way: a list of any call, without requests.
-pub fn read_volume(s: &[u8], index: &mut [u32; 29696]) -> Reading
+pub fn read_volume(s: &[u8], index: &mut [u32]) -> Reading
+    requires { ⌜ Fits (now s) (now index) ⌝ }
     ensures { λ r. ⌜ Answered (volumeRefusal (now (s .entry))) 0 (now (s .entry)) (now (index .exit)) r ⌝ }
 {
     read_list(s, 0, true, index)

@@ -1,19 +1,19 @@
 -- The buckets whose sum is not 0 are those that requests name. Assumes nothing.
 use mathlib.Core.Path.{_≡_, refl, sym, ap, _∙_}
 use mathlib.Core.Bool.{Bool, true, false, _&&_, _||_}
-use Prim.Native.Nat.{ℕ, zero, suc, _+_, _-_, _≤_, _<_, compare, Ordering, Ordering·lt, Ordering·eq, Ordering·gt}
+use Prim.Native.Nat.{ℕ, zero, suc, _+_, _≤_, _<_, compare, Ordering, Ordering·lt, Ordering·eq, Ordering·gt}
 use native.Mathlib.Numerals.{add-one}
 use native.Mathlib.Omega.{arith}
-use mathlib.Core.List.{List, [], _∷_, _++_, map, append-nil}
-use lib.ListN.{length, getD, set, take}
+use mathlib.Core.List.{List, [], _∷_, _++_, map, append-nil, append-assoc, map-append}
+use lib.ListN.{length, set, take, length-append}
 use lib.Seq.{take-suc-set, append-snoc}
 use lib.Dec.{ltb, eqb}
-use borrow.Author.Tests.{lt-ltb, le-ltb, ltb-true, ltb-false, eqb-true, eqb-false, eq-eqb, ne-eqb}
+use borrow.Author.Tests.{lt-ltb, ltb-true, ltb-false, eqb-true, eqb-false, eq-eqb, ne-eqb}
 use Rattle.wire.specs.Kinds.{sameBucket, bucketOf, bucketsFrom, noBucket}
 use Rattle.wire.specs.declared.kinds.Bucket.{Bucket}
 use Rattle.wire.proofs.OrderLaws.{use-lt, use-eq, use-gt}
 use Rattle.calls.specs.CallList.{Freed}
-use Rattle.calls.specs.Lists.{allOf, anyOf, those}
+use Rattle.calls.specs.Lists.{allOf, anyOf}
 use Rattle.calls.specs.Buckets.{insertBucket, insertBuckets}
 use Rattle.calls.specs.Freespace.{isIn}
 use Rattle.calls.specs.Release.{freedOk, freedBuckets}
@@ -22,7 +22,7 @@ use Rattle.calls.proofs.BoolLaws.{clash}
 use Rattle.calls.proofs.BucketLaws.{isIn-those}
 use Rattle.calls.proofs.ReleaseLaws.{named-freed, named-range}
 use Rattle.calls.proofs.View.{bucket}
-use Rattle.release.specs.Summing.{Sums, sumOf, summedBuckets, Listed}
+use Rattle.release.specs.Summing.{Sums, sumOf, summedBuckets, Listed, Appended}
 
 -- ---- ascending lists with the same buckets are the same
 up-below : (n : ℕ) (l : List Bucket) → Up n l → (b : Bucket) → b .0 < n → isIn l b ≡ false
@@ -126,29 +126,33 @@ module _ (sectors : ℕ) (rs : List Freed) (sums : List ℕ) (s : Sums sectors r
       up-same 0 (summedBuckets sums) (freedBuckets sectors rs)
       (up-those (λ (c : Bucket). ltb 0 (sumOf sums c)) 0 (bucketsFrom 65536 noBucket) (up-from 65536 0)) (freed-up sectors rs) same-in
 
--- ---- the pass that finds them
--- the buckets from one on whose sum is not 0
-abbrev pub restOf : List ℕ → ℕ → List Bucket
-restOf sums i = those (λ b. ltb 0 (sumOf sums b)) (bucketsFrom (65536 - i) (bucket i))
-
 -- ---- buckets of a list are picked out, with an amount each
 -- one more is listed
 listed-more : {A : Type 0} (xs : List A) (n : ℕ) (x : A) (ys : List A) {all : List A} → n < length xs → take n xs ++ (x ∷ ys) ≡ all
     → take (n + 1) (set xs n x) ++ ys ≡ all
 listed-more xs n x ys h e = rw (add-one, take-suc-set xs n x h, append-snoc (take n xs) x ys) e
 
--- On the way: n are listed, and `rest` is left.
-pub record Picking (all rest : List Bucket) (amount : Bucket → ℕ) (buckets amounts : List ℕ) (n : ℕ) : Type 0 where
-  pub count : n + length rest ≡ length all
-  pub named : take n buckets ++ map (λ b. b .0) rest ≡ map (λ b. b .0) all
-  pub summed : take n amounts ++ map amount rest ≡ map amount all
+-- more are listed
+listed-many : {A : Type 0} (xs : List A) (n : ℕ) (xs′ : List A) (r : ℕ) (ys zs : List A) {all : List A} → take r xs′ ≡ take n xs ++ ys
+    → take n xs ++ (ys ++ zs) ≡ all → take r xs′ ++ zs ≡ all
+listed-many xs n xs′ r ys zs h e = rw (h, append-assoc (take n xs) ys zs) e
+
+-- On the way: after the first n₀, n are listed, and `rest` is left.
+pub record Appending (all rest : List Bucket) (amount : Bucket → ℕ) (buckets₀ amounts₀ : List ℕ) (n₀ : ℕ) (buckets amounts : List ℕ) (n : ℕ) : Type 0 where
+  pub count : n + length rest ≡ n₀ + length all
+  pub named : take n buckets ++ map (λ b. b .0) rest ≡ take n₀ buckets₀ ++ map (λ b. b .0) all
+  pub summed : take n amounts ++ map amount rest ≡ take n₀ amounts₀ ++ map amount all
+
+-- the same from the first one on
+abbrev pub Picking : List Bucket → List Bucket → (Bucket → ℕ) → List ℕ → List ℕ → ℕ → Type 0
+Picking all rest amount buckets amounts n = Appending all rest amount [] [] 0 buckets amounts n
 
 pub pick-starts : (all : List Bucket) (amount : Bucket → ℕ) (buckets amounts : List ℕ) → Picking all all amount buckets amounts 0
-pick-starts all amount buckets amounts = record { count = omega arith; named = refl; summed = refl }
+pick-starts all amount buckets amounts = record { count = refl; named = refl; summed = refl }
 
-module _ {all rest : List Bucket} {amount : Bucket → ℕ} {buckets amounts : List ℕ} {n : ℕ} (p : Picking all rest amount buckets amounts n) where
+module _ {all rest : List Bucket} {amount : Bucket → ℕ} {buckets₀ amounts₀ : List ℕ} {n₀ : ℕ} {buckets amounts : List ℕ} {n : ℕ} (p : Appending all rest amount buckets₀ amounts₀ n₀ buckets amounts n) where
   pub pick-hit : {b : Bucket} {next : List Bucket} → rest ≡ b ∷ next → n < length buckets → n < length amounts
-      → Picking all next amount (set buckets n (b .0)) (set amounts n (amount b)) (n + 1)
+      → Appending all next amount buckets₀ amounts₀ n₀ (set buckets n (b .0)) (set amounts n (amount b)) (n + 1)
   pick-hit {b} {next} e l m =
       record {
         count = omega (arith, p .count, ap length e);
@@ -156,57 +160,26 @@ module _ {all rest : List Bucket} {amount : Bucket → ℕ} {buckets amounts : L
         summed = listed-more amounts n (amount b) (map amount next) m (rw e at (p .summed));
       }
 
-  pub pick-miss : {next : List Bucket} → rest ≡ next → Picking all next amount buckets amounts n
+  pub pick-miss : {next : List Bucket} → rest ≡ next → Appending all next amount buckets₀ amounts₀ n₀ buckets amounts n
   pick-miss e = record { count = omega (arith, p .count, ap length e); named = rw e at (p .named); summed = rw e at (p .summed) }
 
-  pub pick-ends : rest ≡ [] → Listed all amount buckets amounts n
-  pick-ends e =
+  pub pick-many : {bs next : List Bucket} {buckets′ amounts′ : List ℕ} {r : ℕ} → rest ≡ bs ++ next → Appended bs amount buckets amounts n buckets′ amounts′ r
+      → Appending all next amount buckets₀ amounts₀ n₀ buckets′ amounts′ r
+  pick-many {bs} {next} {buckets′} {amounts′} {r} e a =
+      record {
+        count = omega (arith, p .count, ap length e, length-append bs next, a .count);
+        named = listed-many buckets n buckets′ r (map (λ (c : Bucket). c .0) bs) (map (λ (c : Bucket). c .0) next) (a .named) (rw (e, map-append (λ (c : Bucket). c .0) bs next) at (p .named));
+        summed = listed-many amounts n amounts′ r (map amount bs) (map amount next) (a .summed) (rw (e, map-append amount bs next) at (p .summed));
+      }
+
+  pub pick-appends : rest ≡ [] → Appended all amount buckets₀ amounts₀ n₀ buckets amounts n
+  pick-appends e =
       record {
         count = omega (arith, p .count, ap length e);
         named = sym (append-nil (take n buckets)) ∙ (rw e at (p .named));
         summed = sym (append-nil (take n amounts)) ∙ (rw e at (p .summed));
       }
 
--- The pass over the sums on its way: n buckets below i are listed, and `restOf` is left.
-pub record Finding (sums buckets amounts : List ℕ) (n i : ℕ) : Type 0 where
-  pub low : i ≤ 65536
-  pub picking : Picking (summedBuckets sums) (restOf sums i) (sumOf sums) buckets amounts n
-
-from-next : (n i : ℕ) → i < n → bucketsFrom (n - i) (bucket i) ≡ bucket i ∷ bucketsFrom (n - (i + 1)) (bucket (i + 1))
-unfolding bucketsFrom
-from-next n i h = let e : n - i ≡ suc (n - (i + 1)) = omega arith in rw e
-
-from-none : (n i : ℕ) → n ≤ i → bucketsFrom (n - i) (bucket i) ≡ []
-unfolding bucketsFrom
-from-none n i h = let e : n - i ≡ 0 = omega arith in rw e
-
-rest-hit : (sums : List ℕ) (i : ℕ) → i < 65536 → 0 < getD sums i 0 → restOf sums i ≡ bucket i ∷ restOf sums (i + 1)
-unfolding those
-rest-hit sums i h k = rw (from-next 65536 i h, lt-ltb 0 (getD sums i 0) k)
-
-rest-miss : (sums : List ℕ) (i : ℕ) → i < 65536 → getD sums i 0 ≤ 0 → restOf sums i ≡ restOf sums (i + 1)
-unfolding those
-rest-miss sums i h k = rw (from-next 65536 i h, le-ltb 0 (getD sums i 0) k)
-
-rest-none : (sums : List ℕ) (i : ℕ) → 65536 ≤ i → restOf sums i ≡ []
-unfolding those
-rest-none sums i h = rw (from-none 65536 i h)
-
-pub find-starts : (sums buckets amounts : List ℕ) → Finding sums buckets amounts 0 0
-unfolding summedBuckets
-find-starts sums buckets amounts = record { low = omega arith; picking = pick-starts (summedBuckets sums) (sumOf sums) buckets amounts }
-
-module _ {sums buckets amounts : List ℕ} {n i : ℕ} (f : Finding sums buckets amounts n i) where
-  -- there is room for one more
-  pub find-room : i < 65536 → 0 < getD sums i 0 → n < length (summedBuckets sums)
-  find-room h k = omega (arith, f .picking .count, ap length (rest-hit sums i h k))
-
-  pub find-hit : i < 65536 → 0 < getD sums i 0 → n < length buckets → n < length amounts
-      → Finding sums (set buckets n i) (set amounts n (getD sums i 0)) (n + 1) (i + 1)
-  find-hit h k l m = record { low = omega arith; picking = pick-hit (f .picking) (rest-hit sums i h k) l m }
-
-  pub find-miss : i < 65536 → getD sums i 0 ≤ 0 → Finding sums buckets amounts n (i + 1)
-  find-miss h k = record { low = omega arith; picking = pick-miss (f .picking) (rest-miss sums i h k) }
-
-  pub find-ends : 65536 ≤ i → Listed (summedBuckets sums) (sumOf sums) buckets amounts n
-  find-ends h = pick-ends (f .picking) (rest-none sums i h)
+pub pick-ends : {all rest : List Bucket} {amount : Bucket → ℕ} {buckets amounts : List ℕ} {n : ℕ} → Picking all rest amount buckets amounts n → rest ≡ []
+    → Listed all amount buckets amounts n
+pick-ends p e = let a = pick-appends p e in record { count = omega (arith, a .count); named = a .named; summed = a .summed }

@@ -1,6 +1,7 @@
 pub mod FreedLaws
 pub mod SumLaws
 pub mod FoundLaws
+pub mod TakeLaws
 pub mod LocatedLaws
 pub mod PlaceLaws
 pub mod RecordLaws

@@ -27,8 +27,8 @@ use Rattle.reader.specs.Heads.{headIn}
 use Rattle.reader.specs.Located.{KeyAt, noKey, KeysAt, FreedAt, noFreed, FreedsAt}
 use Rattle.reader.specs.Readings.{callRefusal, ListRead}
 use Rattle.reader.specs.declared.head.Head.{Head}
-use Rattle.reader.specs.declared.table.Counts.{Counts}
-use Rattle.reader.proofs.PartsLaws.{passed, read-on, read-refused, alloc-part, gens-part, freeds-part}
+use Rattle.reader.specs.declared.table.Ends.{Ends}
+use Rattle.reader.proofs.PartsLaws.{passed, read-on, read-refused, between, Part, alloc-part, gens-part, freeds-part}
 use Rattle.release.specs.Freeds.{freedsIn, Requested}
 use Rattle.release.specs.Located.{keyFound, keysIn, Keyed}
 use Rattle.release.specs.Outcomes.{volumeOf}
@@ -170,33 +170,27 @@ module _ (l m : List ℕ) (h : 65536 ≤ length l) (e : m ≡ replicate 65536 0 
       ∙ sym (scratch-long l h)
 
 -- ---- a list that was read
--- an end past a base, less the base
-back-from : (b n : ℕ) → b + n - b ≡ n
-back-from b n = omega arith
-
-module _ {s index : List ℕ} {h : Head} {c : Counts} (q : ListRead 2 s index h c) (z : 0 ≡ callRefusal 2 s) (size : length index ≡ 29696) where
+module _ {s index : List ℕ} {h : Head} {e : Ends} (q : ListRead 2 s index h e) (z : 0 ≡ callRefusal 2 s) where
   abbrev allocs : List ℕ
-  allocs = take (c .alloc) index
+  allocs = take (e .alloc) index
 
   abbrev records : List ℕ
-  records = take (20480 + c .gens - 20480) (drop 20480 index)
+  records = between (e .backpointers) (e .gens) index
 
   abbrev requests : List ℕ
-  requests = take (28672 + c .requests - 28672) (drop 28672 index)
+  requests = between (e .reserved) (e .requests) index
 
-  pub counts-low : (c .alloc ≤ 4096) × (c .gens ≤ 4096) × (c .requests ≤ 1024)
-  counts-low = (alloc-part 2 s index size h c z q .0, gens-part 2 s index size h c z q .0, freeds-part s index size h c z q .0)
+  pub parts-within : Part 0 (e .alloc) 4096 index × Part (e .backpointers) (e .gens) 4096 index × Part (e .reserved) (e .requests) 1024 index
+  parts-within = (alloc-part 2 s index h e z q .0, gens-part 2 s index h e z q .0, freeds-part s index h e z q .0)
 
   allocs-at : KeysAt s allocs (readVolume s .trees .alloc)
-  allocs-at = alloc-part 2 s index size h c z q .1
+  allocs-at = alloc-part 2 s index h e z q .1
 
   records-at : KeysAt s records (readVolume s .trees .gens)
-  records-at =
-      subst (λ (n : ℕ). KeysAt s (take n (drop 20480 index)) (readVolume s .trees .gens)) (sym (back-from 20480 (c .gens))) (gens-part 2 s index size h c z q .1)
+  records-at = gens-part 2 s index h e z q .1
 
   requests-at : FreedsAt s requests (readCall s .releases)
-  requests-at =
-      subst (λ (n : ℕ). FreedsAt s (take n (drop 28672 index)) (readCall s .releases)) (sym (back-from 28672 (c .requests))) (freeds-part s index size h c z q .1)
+  requests-at = freeds-part s index h e z q .1
 
   -- what `release_lists` requires
   pub parts-keyed : Keyed s allocs × (keysOk (keysIn s allocs) ≡ true) × Keyed s records × (keysOk (keysIn s records) ≡ true)
@@ -210,13 +204,13 @@ module _ {s index : List ℕ} {h : Head} {c : Counts} (q : ListRead 2 s index h 
   parts-requested = requested requests-at
 
   pub parts-few : length requests ≤ 1024
-  parts-few = omega (arith, length-take (28672 + c .requests - 28672) (drop 28672 index), counts-low .2)
+  parts-few = omega (arith, length-take (e .requests - e .reserved) (drop (e .reserved) index), parts-within .2 .few)
 
   -- its outcome is the call's
   pub parts-outcome : (n : ℕ) → 65536 ≤ n → (out : List ℕ) {after : List ℕ} {written number : ℕ}
       → made number written after ≡ outcome (answerOf (headIn h) (keysIn s allocs) (keysIn s records) (freedsIn s requests) (length out)) out
       → made number written after ≡ outcome (release s n (length out)) out
-  parts-outcome n l out e = e ∙ ap (λ (a : Answer). outcome a out) (parts-answer s n (length out) {h = h} l z (q .head) allocs-at records-at requests-at)
+  parts-outcome n l out p = p ∙ ap (λ (a : Answer). outcome a out) (parts-answer s n (length out) {h = h} l z (q .head) allocs-at records-at requests-at)
 
 -- ---- the outcome of a call that refusals 1 to 3 stop
 pub short-outcome : (s : List ℕ) (n : ℕ) (out : List ℕ) → n < 65536 → made 1 0 out ≡ outcome (release s n (length out)) out

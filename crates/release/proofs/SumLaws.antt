@@ -1,11 +1,12 @@
 -- The sums in the scratch while requests are added up. Assumes nothing.
 use mathlib.Core.Path.{_≡_, refl, sym, ap, _∙_}
 use mathlib.Core.Bool.{Bool, true, false, cond}
-use Prim.Native.Nat.{ℕ, suc, _+_, _*_, _≤_, _<_}
+use Prim.Native.Nat.{ℕ, suc, _+_, _*_, _/_, _≤_, _<_}
 use native.Mathlib.Omega.{arith}
 use mathlib.Core.List.{List, [], _∷_, _++_}
 use lib.ListN.{length, getD, set, drop, replicate, length-set, length-replicate, replicate-append-replicate}
 use lib.Seq.{getD-set-same, getD-set-other, drop-set-lt, set-at, append-snoc}
+use lib.Dec.{eqb}
 use borrow.Author.Tests.{eqb-true, eqb-false}
 use Rattle.wire.specs.Kinds.{sameBucket, bucketOf}
 use Rattle.wire.specs.declared.kinds.Bucket.{Bucket}
@@ -15,7 +16,7 @@ use Rattle.calls.specs.Lists.{allOf, total}
 use Rattle.calls.specs.Release.{freedOk, freedIn}
 use Rattle.calls.proofs.BoolLaws.{parts}
 use Rattle.calls.proofs.View.{bucket}
-use Rattle.release.specs.Summing.{Cleared, Sums}
+use Rattle.release.specs.Summing.{Cleared, Sums, Marked}
 use Rattle.release.proofs.FreedLaws.{within}
 
 -- a turn of the clearing loop
@@ -92,3 +93,20 @@ module _ {sectors : ℕ} {rs rest : List Freed} {before sums : List ℕ} (a : Ad
   pub add-ends : 65536 ≤ length before → rest ≡ [] → Sums sectors rs sums × (drop 65536 sums ≡ drop 65536 before)
   add-ends l e =
       (record { long = omega (arith, a .size); at = λ b h. omega (arith, a .at b h, freed-none sectors (bucket b) e) }, a .kept)
+
+-- ---- the marks of the groups
+pub marked-starts : (sums marks : List ℕ) → Cleared sums → Marked sums marks
+marked-starts sums marks z = record { zero = λ b h e. z .zero b h }
+
+-- a group is marked whose bucket gets a new sum
+pub marked-turn : {sums marks : List ℕ} → Marked sums marks → (k x : ℕ) → k / 64 < length marks → Marked (set sums k x) (set marks (k / 64) 1)
+marked-turn {sums} {marks} m k x l = record { zero = λ b h e. go b h e (eqb (b / 64) (k / 64)) refl }
+  where
+    go : (b : ℕ) → b < 65536 → getD (set marks (k / 64) 1) (b / 64) 0 ≡ 0 → (t : Bool) → eqb (b / 64) (k / 64) ≡ t → getD (set sums k x) b 0 ≡ 0
+    go b h e true u =
+        let q : getD (set marks (k / 64) 1) (k / 64) 0 ≡ 0 = ap (λ (i : ℕ). getD (set marks (k / 64) 1) i 0) (sym (eqb-true (b / 64) (k / 64) u)) ∙ e in
+        absurd (omega (arith, q, getD-set-same marks (k / 64) 1 0 l))
+    go b h e false u =
+        let d : b / 64 ≡ k / 64 → ⊥ = eqb-false (b / 64) (k / 64) u in
+        let c : b ≡ k → ⊥ = λ z. d (ap (λ (i : ℕ). i / 64) z) in
+        getD-set-other sums k b x 0 c ∙ m .zero b h (sym (getD-set-other marks (k / 64) (b / 64) 1 0 d) ∙ e)

@@ -47,7 +47,7 @@ fn place_here(s: &[u8], offsets: &[u32], i: usize, p: Bpos) -> u32
     0
 }
 
-// The place of each bucket's alloc key. `find_freed` shows that buckets ascend.
+// The place of each bucket's alloc key. `take_freed` shows that buckets ascend.
 pub fn find_allocs(s: &[u8], alloc: &[u32], buckets: &[u32], places: &mut [u32])
     requires { ⌜ Keyed (now s) (now alloc) × (keysOk (keysIn (now s) (now alloc)) ≡ true) ⌝ }
     requires { ⌜ (inOrder bucketBelow (bucketsIn (now buckets)) ≡ true) × (length (now buckets) ≤ length (now places)) ⌝ }

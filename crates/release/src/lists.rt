@@ -214,10 +214,9 @@ fn sum_up(
     requires { ⌜ (allOf (freedOk sectors) (freedsIn (now s) (now requests)) ≡ true) × (length (now requests) ≤ length (now buckets)) × (length (now amounts) ≡ length (now buckets)) ⌝ }
     ensures { λ r. ⌜ Listed (freedBuckets sectors (freedsIn (now (s .entry)) (now (requests .entry)))) (freedIn sectors (freedsIn (now (s .entry)) (now (requests .entry)))) (now (buckets .exit)) (now (amounts .exit)) r × (now (scratch .exit) ≡ replicate 65536 0 ++ drop 65536 (now (scratch .entry))) ⌝ }
 {
-    sums::add_up(s, requests, sectors, scratch);
-    let n = sums::find_freed(scratch, buckets, amounts);
-    sums::clear(scratch);
-    n
+    let mut marks = [0u8; 1024];
+    sums::add_up(s, requests, sectors, scratch, &mut marks);
+    sums::take_freed(scratch, &marks, buckets, amounts)
 }
 
 // The answer after refusals 1 to 3, and the scratch, which comes cleared. The reader shows what is required.

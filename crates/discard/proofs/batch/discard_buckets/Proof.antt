@@ -30,7 +30,7 @@ same-length c = search needs
 
 returns : tie.Need-returns
 returns c =
-    let a = c .before .before .before .before .before .before .before .before .before .before .before .before .before .before .before .before .before .before .before .before .before .before .before .before .before .before .before .before .args in
+    let a = c .before .before .before .before .before .before .before .before .before .before .before .before .before .before .before .before .before .before .before .before .before .before .before .before .before .before .before .before .before .args in
     let w = then (c .before .before .before .before .before .before .before .before .before .before .before .before .before .before .before .before .before .before .before .before .before .before .put-alloc-keys .ensures) (c .before .before .before .before .before .before .before .before .before .before .before .before .before .before .before .before .before .before .put-runs .ensures) in
     let w = then (then w (c .before .before .before .before .before .before .before .before .before .before .before .before .before .before .put-deletions .ensures)) (c .before .before .before .before .before .before .before .before .before .before .put-rows .ensures) in
     emitted (batch-is (now (a .s)) (now (a .needs)) (now (a .freed))) (then (then w (c .before .before .before .before .before .before .put-unreserved .ensures)) (c .before .before .put-head .ensures))

@@ -25,7 +25,7 @@ shared-slice-read-put-waiting : tie.Need-shared-slice-read-put-waiting Inv-loop 
 shared-slice-read-put-waiting c = omega arith
 
 put-waiting-requires : tie.Need-put-waiting-requires Inv-loop μ-loop
-put-waiting-requires c κs = (all-at (c .before .before .before .before .before .before .before .before .pre .0) (c .before .before .before .loop .i) (omega arith), c .before .before .before .before .before .before .before .before .pre .1)
+put-waiting-requires c κs = (all-at (c .before .before .before .before .before .before .before .before .before .pre .0) (c .before .before .before .loop .i) (omega arith), c .before .before .before .before .before .before .before .before .before .pre .1)
 
 add-i : tie.Need-add-i Inv-loop μ-loop
 add-i c = omega arith

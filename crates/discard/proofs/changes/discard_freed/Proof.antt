@@ -15,7 +15,7 @@ abbrev μ-loop : tie.MeasureT-loop
 μ-loop out₀ at s size freed needs table p₀ a₀ out p a = length freed - a
 
 loop-holds : tie.Need-loop-holds Inv-loop μ-loop
-loop-holds c = let b = c .before .before .before .before .args in (omega arith, batches-none (now (b .s)) (now (b .needs)) (b .size) (now (b .freed)) (omega arith))
+loop-holds c = let b = c .before .before .before .before .before .args in (omega arith, batches-none (now (b .s)) (now (b .needs)) (b .size) (now (b .freed)) (omega arith))
 
 batch-end-requires : tie.Need-batch-end-requires Inv-loop μ-loop
 batch-end-requires c κs = omega arith
@@ -34,7 +34,7 @@ part-discard-buckets-end c = omega (arith, c .before .batch-end .ensures)
 
 discard-buckets-requires : tie.Need-discard-buckets-requires Inv-loop μ-loop
 discard-buckets-requires c κs =
-    let b = c .before .before .before .before .before .before .before .before .before in
+    let b = c .before .before .before .before .before .before .before .before .before .before in
     let a = c .before .before .before .before .loop .a in
     let k = c .before .before .batch-end .result - a in
     let e = c .before .before .batch-end .ensures in
@@ -42,11 +42,11 @@ discard-buckets-requires c κs =
     (part-all a k (b .pre .1), omega (arith, n, e, b .pre .0), omega (arith, n, e, b .pre .2), b .pre .3)
 
 loop-less : tie.Need-loop-less Inv-loop μ-loop
-loop-less c = omega (arith, c .before .before .before .before .before .batch-end .ensures, c .before .before .before .before .before .before .before .before .before .before .before .before .pre .0)
+loop-less c = omega (arith, c .before .before .before .before .before .batch-end .ensures, c .before .before .before .before .before .before .before .before .before .before .before .before .before .pre .0)
 
 loop-again : tie.Need-loop-again Inv-loop μ-loop
 loop-again c =
-    let b = c .before .before .before .before .before .before .before .before .before .before .before .before in
+    let b = c .before .before .before .before .before .before .before .before .before .before .before .before .before in
     let l = c .before .before .before .before .before .before .before .loop in
     let e = c .before .before .before .before .before .batch-end .ensures in
     (omega (arith, e), batches-more (now (b .args .s)) (now (b .args .needs)) (b .args .size) (now (b .args .freed)) (l .a) (l .inv .1) (b .pre .0) (omega arith) e (c .before .before .discard-buckets .ensures))
@@ -56,7 +56,7 @@ same-length c = part-length (c .before .loop .inv .1)
 
 returns : tie.Need-returns Inv-loop μ-loop
 returns c =
-    let b = c .before .before .before .before .before .before .args in
+    let b = c .before .before .before .before .before .before .before .args in
     let l = c .before .loop in
     batches-all (now (b .s)) (now (b .needs)) (b .size) (now (b .freed)) (l .a) (l .inv .1) (omega arith)
 

@@ -18,7 +18,7 @@ discard-freed-requires c κs = search needs
 
 returns : tie.Need-returns
 returns c =
-    let a = c .before .before .before .before .before .before .before .before .args in
+    let a = c .before .before .before .before .before .before .before .before .before .args in
     let d = c .before .before .discard-freed .ensures in
     let bytes = changesFrom (now (a .s)) (now (a .needs)) (a .size) (now (a .freed)) in
     refused 21 (now (a .out)) (answer-short bytes (length (now (a .out))) (short (now (a .out)) d (omega arith) (c .if1 .taken))) refl
@@ -31,7 +31,7 @@ same-length c = search needs
 
 returns-2 : tie.Need-returns-2
 returns-2 c =
-    let a = c .before .before .before .before .before .before .before .before .before .before .before .before .args in
+    let a = c .before .before .before .before .before .before .before .before .before .before .before .before .before .args in
     let d = c .before .before .before .before .before .before .discard-freed .ensures in
     let f = fits (now (a .out)) d (omega arith) (c .before .before .before .before .if1 .left) in
     let bytes = changesFrom (now (a .s)) (now (a .needs)) (a .size) (now (a .freed)) in

@@ -1,33 +1,30 @@
--- `discard::discard` meets its contract. Assumes nothing.
-use mathlib.Core.Path.{refl}
-use denote.Ref.{now}
-use lib.ListN.{length}
-use Rattle.calls.proofs.OutcomeLaws.{refused}
-use Rattle.discard.proofs.OutcomeLaws.{discard-refused}
+-- `discard::discard` meets its contract: a list of at most 3,072 bytes has at most 1,024 fields. Assumes nothing.
+use native.Mathlib.Omega.{arith}
+use mathlib.Core.Logic.{inl, inr}
 use borrow.Author.Needs.{needs}
 use Rattle.discard.proofs.discard.discard.Statement.{statement}
 use Rattle.discard.proofs.discard.discard.Tie as tie
 
-read-call-requires : tie.Need-read-call-requires
-read-call-requires c κs = search needs
+slice-aggregate-discard-by : tie.Need-slice-aggregate-discard-by
+slice-aggregate-discard-by c = search needs
 
-enum-known-reading : tie.Need-enum-known-reading
-enum-known-reading c = search needs
-
-enum-known-reading-2 : tie.Need-enum-known-reading-2
-enum-known-reading-2 c = search needs
-
-discard-read-requires : tie.Need-discard-read-requires
-discard-read-requires c κs = rw (c .before .before .before .before .reading2 .given .1) at (c .before .before .before .before .before .before .read-call .ensures)
-
-returns : tie.Need-returns
-returns c =
-    let b = c .before .before .before .before .before .before .before .args in
-    let a = rw (c .before .reading .given .1) at (c .before .before .before .read-call .ensures) in
-    refused (c .before .reading .given .0 .0) (now (b .out)) (discard-refused (now (b .list)) (length (now (b .out))) (a .0) (a .1)) refl
+discard-by-requires : tie.Need-discard-by-requires
+discard-by-requires c κs = inr (omega arith)
 
 same-length : tie.Need-same-length
 same-length c = search needs
+
+returns : tie.Need-returns
+returns c = search needs
+
+slice-aggregate-discard-by-2 : tie.Need-slice-aggregate-discard-by-2
+slice-aggregate-discard-by-2 c = search needs
+
+discard-by-requires-2 : tie.Need-discard-by-requires-2
+discard-by-requires-2 c κs = inl (omega arith)
+
+same-length-2 : tie.Need-same-length-2
+same-length-2 c = search needs
 
 returns-2 : tie.Need-returns-2
 returns-2 c = search needs
@@ -36,10 +33,11 @@ pub discard-spec : {M : Type 1} → statement M
 discard-spec =
     tie.close
     (tie.spec
-    read-call-requires
-    enum-known-reading
-    enum-known-reading-2
-    discard-read-requires
-    returns
+    slice-aggregate-discard-by
+    discard-by-requires
     same-length
+    returns
+    slice-aggregate-discard-by-2
+    discard-by-requires-2
+    same-length-2
     returns-2)

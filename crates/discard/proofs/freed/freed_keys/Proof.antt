@@ -18,7 +18,7 @@ abbrev μ-loop : tie.MeasureT-loop
 μ-loop freed₀ s alloc needs table n₀ i₀ freed n i = length alloc - i
 
 loop-holds : tie.Need-loop-holds Inv-loop μ-loop
-loop-holds c = let a = c .before .before .before .before .args in (omega arith, omega arith, refl, chosen-none (now (a .s)) (now (a .needs)) (now (a .alloc)) (now (a .freed)))
+loop-holds c = let a = c .before .before .before .before .before .args in (omega arith, omega arith, refl, chosen-none (now (a .s)) (now (a .needs)) (now (a .alloc)) (now (a .freed)))
 
 mul-o : tie.Need-mul-o Inv-loop μ-loop
 mul-o c = omega arith
@@ -27,7 +27,7 @@ shared-slice-read-o : tie.Need-shared-slice-read-o Inv-loop μ-loop
 shared-slice-read-o c = omega arith
 
 is-discarded-requires : tie.Need-is-discarded-requires Inv-loop μ-loop
-is-discarded-requires c κs = (all-at (c .before .before .before .before .before .before .before .before .pre .0) (c .before .before .before .loop .i) (omega arith), c .before .before .before .before .before .before .before .before .pre .2)
+is-discarded-requires c κs = (all-at (c .before .before .before .before .before .before .before .before .before .pre .0) (c .before .before .before .loop .i) (omega arith), c .before .before .before .before .before .before .before .before .before .pre .2)
 
 add-if-requires : tie.Need-add-if-requires Inv-loop μ-loop
 add-if-requires c κs = omega arith
@@ -40,7 +40,7 @@ loop-less c = omega arith
 
 loop-again : tie.Need-loop-again Inv-loop μ-loop
 loop-again c =
-    let a = c .before .before .before .before .before .before .before .before .before .before .before .before .args in
+    let a = c .before .before .before .before .before .before .before .before .before .before .before .before .before .args in
     let l = c .before .before .before .before .before .before .before .loop in
     (omega arith, omega arith, c .before .before .add-if .kept .0 ∙ l .inv .2, chosen-more (now (a .s)) (now (a .needs)) (now (a .alloc)) (l .i) (omega arith) (c .before .before .before .is-discarded .ensures) (l .inv .3) (c .before .before .add-if .ensures .1))
 
@@ -49,7 +49,7 @@ same-length c = c .before .loop .inv .2
 
 returns : tie.Need-returns Inv-loop μ-loop
 returns c =
-    let a = c .before .before .before .before .before .before .args in
+    let a = c .before .before .before .before .before .before .before .args in
     let l = c .before .loop in
     (omega arith, chosen-all (now (a .s)) (now (a .needs)) (now (a .alloc)) (l .i) (omega arith) (l .inv .3))
 

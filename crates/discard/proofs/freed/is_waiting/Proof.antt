@@ -15,7 +15,7 @@ enum-told c = search needs
 
 returns : tie.Need-returns
 returns c =
-    let a = c .before .before .before .before .before .args in
+    let a = c .before .before .before .before .before .before .args in
     not-waiting (waitingKey (keysFrom (now (a .s)) (now (a .needs))) (a .b)) (c .before .before .waiting-at .ensures) (c .enum-told .given .1)
 
 enum-told-2 : tie.Need-enum-told-2
@@ -23,7 +23,7 @@ enum-told-2 c = search needs
 
 returns-2 : tie.Need-returns-2
 returns-2 c =
-    let a = c .before .before .before .before .before .args in
+    let a = c .before .before .before .before .before .before .args in
     is-waiting (waitingKey (keysFrom (now (a .s)) (now (a .needs))) (a .b)) (c .before .before .waiting-at .ensures) (c .enum-told2 .given .1)
 
 pub is-waiting-spec : {M : Type 1} → statement M

@@ -46,7 +46,7 @@ returns : tie.Need-returns Inv-loop μ-loop
 returns c =
     let a = c .before .before .before .before .args in
     let l = c .before .loop in
-    record { kept = c .before .before .before .before .pre .0; entries = all-entries (now (a .s)) (now (a .needs)) (l .table) (l .i) (omega arith) (l .inv .2) }
+    (l .inv .1, record { kept = c .before .before .before .before .pre .0; entries = λ z. all-entries (now (a .s)) (now (a .needs)) (l .table) (l .i) (omega arith) (l .inv .2) })
 
 pub note-waiting-spec : {M : Type 1} → statement M
 note-waiting-spec =

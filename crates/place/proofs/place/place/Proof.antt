@@ -1,35 +1,31 @@
--- `place::place` meets its contract. Assumes nothing.
+-- `place::place` meets its contract: a list of at most 3,072 bytes has at most 1,024 fields. Assumes nothing.
+use native.Mathlib.Omega.{arith}
 use mathlib.Core.Path.{refl}
-use denote.Ref.{now}
-use lib.ListN.{length}
-use Rattle.calls.proofs.OutcomeLaws.{refused}
-use Rattle.place.proofs.ReadLaws.{place-refused}
+use mathlib.Core.Logic.{inl, inr}
 use borrow.Author.Needs.{needs}
 use Rattle.place.proofs.place.place.Statement.{statement}
 use Rattle.place.proofs.place.place.Tie as tie
 
-read-call-requires : tie.Need-read-call-requires
-read-call-requires c κs = search needs
+slice-aggregate-place-by : tie.Need-slice-aggregate-place-by
+slice-aggregate-place-by c = search needs
 
-enum-known-number : tie.Need-enum-known-number
-enum-known-number c = search needs
-
-enum-known-h : tie.Need-enum-known-h
-enum-known-h c = search needs
-
-place-read-requires : tie.Need-place-read-requires
-place-read-requires c κs =
-    let a = rw (c .before .before .before .before .h .given .1) at (c .before .before .before .before .before .before .read-call .ensures) in
-    (a .0, a .1, refl)
-
-returns : tie.Need-returns
-returns c =
-    let b = c .before .before .before .before .before .before .before .args in
-    let a = rw (c .before .number .given .1) at (c .before .before .before .read-call .ensures) in
-    refused (c .before .number .given .0 .0) (now (b .out)) (place-refused (now (b .list)) (length (now (b .out))) (a .0) (a .1)) refl
+place-by-requires : tie.Need-place-by-requires
+place-by-requires c κs = (inr (omega arith), refl)
 
 same-length : tie.Need-same-length
 same-length c = search needs
+
+returns : tie.Need-returns
+returns c = search needs
+
+slice-aggregate-place-by-2 : tie.Need-slice-aggregate-place-by-2
+slice-aggregate-place-by-2 c = search needs
+
+place-by-requires-2 : tie.Need-place-by-requires-2
+place-by-requires-2 c κs = (inl (omega arith), refl)
+
+same-length-2 : tie.Need-same-length-2
+same-length-2 c = search needs
 
 returns-2 : tie.Need-returns-2
 returns-2 c = search needs
@@ -38,10 +34,11 @@ pub place-spec : {M : Type 1} → statement M
 place-spec =
     tie.close
     (tie.spec
-    read-call-requires
-    enum-known-number
-    enum-known-h
-    place-read-requires
-    returns
+    slice-aggregate-place-by
+    place-by-requires
     same-length
+    returns
+    slice-aggregate-place-by-2
+    place-by-requires-2
+    same-length-2
     returns-2)

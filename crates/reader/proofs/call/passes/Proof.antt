@@ -17,14 +17,15 @@ field-within-requires c κs = search needs
 returns-2 : tie.Need-returns-2
 returns-2 c =
     let a = c .before .before .before .before .before .args in
-    passed-limit (now (a .s)) (a .over) (a .tag) (a .start) (now (a .counts)) (now (a .index)) (c .before .before .if1 .left)
+    passed-limit (now (a .s)) (a .over) (a .tag) (a .start) (a .n) (now (a .counts)) (now (a .index)) (c .before .before .if1 .left)
     (sym (c .before .field-within .ensures) ∙ not-true _ (c .if2 .taken))
 
 slot-of-requires : tie.Need-slot-of-requires
 slot-of-requires c κs = search needs
 
 note-requires : tie.Need-note-requires
-note-requires c κs = (rw (c .slot-of .ensures) (slot-below _), c .before .before .before .before .before .before .before .before .pre .1)
+note-requires c κs =
+    (rw (c .slot-of .ensures) (slot-below _), rw (c .slot-of .ensures) (c .before .before .before .before .before .before .before .before .pre .1 (c .before .before .before .before .before .if1 .left)))
 
 same-length : tie.Need-same-length
 same-length c = search needs
@@ -32,7 +33,7 @@ same-length c = search needs
 returns-3 : tie.Need-returns-3
 returns-3 c =
     let a = c .before .before .before .before .before .before .before .before .before .before .before .args in
-    passed-noted (now (a .s)) (a .over) (a .tag) (a .start) (now (a .counts)) _ (now (a .index)) _ _ _
+    passed-noted (now (a .s)) (a .over) (a .tag) (a .start) (a .n) (now (a .counts)) _ (now (a .index)) _ _ _
     (c .before .before .before .before .before .before .before .before .if1 .left)
     (sym (c .before .before .before .before .before .before .before .field-within .ensures) ∙ not-false _ (c .before .before .before .before .before .before .if2 .left))
     (c .before .before .before .slot-of .ensures)

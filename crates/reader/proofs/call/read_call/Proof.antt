@@ -11,10 +11,13 @@ use Rattle.reader.proofs.call.read_call.Tie as tie
 read-list-requires : tie.Need-read-list-requires
 read-list-requires c κs = search needs
 
+same-length : tie.Need-same-length
+same-length c = search needs
+
 returns : tie.Need-returns
 returns c =
-    let a = c .before .before .before .args in
-    subst (λ (n : ℕ). Answered n (a .call) (now (a .s)) (c .read-list .last .1 .1 .1 .0) (c .read-list .result)) (call-refusal (a .call) (now (a .s))) (c .read-list .ensures)
+    let a = c .before .before .before .before .before .before .args in
+    subst (λ (n : ℕ). Answered n (a .call) (now (a .s)) (c .before .before .read-list .last .1 .1 .1 .0) (c .before .before .read-list .result)) (call-refusal (a .call) (now (a .s))) (c .before .before .read-list .ensures)
 
 pub read-call-spec : {M : Type 1} → statement M
-read-call-spec = tie.close (tie.spec read-list-requires returns)
+read-call-spec = tie.close (tie.spec read-list-requires same-length returns)

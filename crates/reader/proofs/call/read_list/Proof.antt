@@ -1,6 +1,6 @@
 -- `read_list` meets its contract. The loop's invariant: what is left of the list decides its layout, and no limit was passed yet or one was.
 use Prim.Native.Nat.{_-_}
-use mathlib.Core.Path.{_≡_, sym, _∙_, ap}
+use mathlib.Core.Path.{_≡_, refl, sym, _∙_, ap}
 use native.Mathlib.Omega.{arith}
 use mathlib.Core.Bool.{true}
 use denote.Ref.{now}
@@ -10,16 +10,16 @@ use Rattle.wire.specs.Fields.{fieldAt, stepOf}
 use Rattle.wire.specs.declared.fields.NextField.the-variants.{Found}
 use Rattle.wire.proofs.FieldLaws.{FieldAt, field-at}
 use Rattle.reader.specs.CallFields.{callFieldOk, headWithin}
-use Rattle.reader.proofs.ReadingLaws.{Opened, opened, not-started, Going, going-start, breaks, bad, back, last-within, next-within, goes-on, ends-over, ends-accepted, ends-counted, ends-indexed, ends-headed}
+use Rattle.reader.proofs.ReadingLaws.{Opened, ends-table, next-free, passed-length, opened, not-started, Going, going-start, breaks, bad, back, last-within, next-within, goes-on, ends-over, ends-accepted, ends-ended, ends-indexed, ends-headed}
 use Rattle.reader.proofs.call.read_list.Statement.{statement}
 use Rattle.reader.proofs.call.read_list.Tie as tie
 
 abbrev Inv-loop : tie.InvT-loop
-Inv-loop s call any index₀ first over₀ counts₀ last₀ before₀ at₀ index over counts last before at =
-    Going s call any at last before over counts index
+Inv-loop s call any index₀ first over₀ counts₀ last₀ before₀ at₀ n₀ index over counts last before at n =
+    Going s call any at n last before over counts index × (length index ≡ length index₀)
 
 abbrev μ-loop : tie.MeasureT-loop
-μ-loop s call any index₀ first over₀ counts₀ last₀ before₀ at₀ index over counts last before at = length s - at
+μ-loop s call any index₀ first over₀ counts₀ last₀ before₀ at₀ n₀ index over counts last before at n = length s - at
 
 starts-requires : tie.Need-starts-requires Inv-loop μ-loop
 starts-requires c κs = tt
@@ -38,12 +38,14 @@ head-within-requires : tie.Need-head-within-requires Inv-loop μ-loop
 head-within-requires c κs = tt
 
 loop-holds : tie.Need-loop-holds Inv-loop μ-loop
-loop-holds c =
-    going-start _ _ _ _ _ (first (c .before .before)) (c .before .before .before .before .before .before .pre)
-    (c .head-within .ensures ∙ ap headWithin (c .before .read-head .ensures))
+loop-holds c = (
+  going-start _ _ _ _ _ (first (c .before .before)) (c .before .before .before .before .before .before .pre)
+      (c .head-within .ensures ∙ ap headWithin (c .before .read-head .ensures)),
+  refl,
+)
 
 next-field-requires : tie.Need-next-field-requires Inv-loop μ-loop
-next-field-requires c κs = c .before .loop .inv .walked .within
+next-field-requires c κs = c .before .loop .inv .0 .walked .within
 
 enum-known-tag : tie.Need-enum-known-tag Inv-loop μ-loop
 enum-known-tag c = c .match .keys1
@@ -52,11 +54,11 @@ enum-told : tie.Need-enum-told Inv-loop μ-loop
 enum-told c = c .match .keys2
 
 same-length : tie.Need-same-length Inv-loop μ-loop
-same-length c = c .before .before .before .before .loop .inv .size ∙ sym (c .before .before .before .before .before .before .before .before .before .before .before .pre)
+same-length c = c .before .before .before .before .loop .inv .1
 
 returns-2 : tie.Need-returns-2 Inv-loop μ-loop
 returns-2 c =
-    breaks _ _ _ _ _ _ _ _ _ (c .before .before .before .before .loop .inv) (sym (c .before .before .next-field .ensures) ∙ c .enum-told .given .1)
+    breaks _ _ _ _ _ _ _ _ _ _ (c .before .before .before .before .loop .inv .0) (sym (c .before .before .next-field .ensures) ∙ c .enum-told .given .1)
     (c .before .before .before .loop-test .taken)
 
 -- the field that the turn is at
@@ -78,11 +80,11 @@ field-ok-requires : tie.Need-field-ok-requires Inv-loop μ-loop
 field-ok-requires c κs = took c .within
 
 same-length-2 : tie.Need-same-length-2 Inv-loop μ-loop
-same-length-2 c = c .before .before .before .before .before .before .before .loop .inv .size ∙ sym (c .before .before .before .before .before .before .before .before .before .before .before .before .before .before .pre)
+same-length-2 c = c .before .before .before .before .before .before .before .loop .inv .1
 
 returns-3 : tie.Need-returns-3 Inv-loop μ-loop
 returns-3 c =
-    bad _ _ _ _ _ _ _ _ _ (c .before .before .before .before .before .before .before .loop .inv) _ _ _ (took (c .before .before))
+    bad _ _ _ _ _ _ _ _ _ _ (c .before .before .before .before .before .before .before .loop .inv .0) _ _ _ (took (c .before .before))
     (sym (c .before .field-ok .ensures) ∙ not-true _ (c .if2 .taken))
 
 -- it may stand in the list
@@ -95,24 +97,27 @@ fine c = sym (c .before .field-ok .ensures) ∙ not-false _ (c .if2 .left)
 
 follows-requires : tie.Need-follows-requires Inv-loop μ-loop
 follows-requires c κs =
-    let g = c .before .before .before .before .before .before .before .loop .inv in
-    (last-within _ _ _ _ _ _ _ _ _ g, next-within _ _ _ _ _ _ _ _ _ g _ _ _ (took (c .before .before)) (fine c))
+    let g = c .before .before .before .before .before .before .before .loop .inv .0 in
+    (last-within _ _ _ _ _ _ _ _ _ _ g, next-within _ _ _ _ _ _ _ _ _ _ g _ _ _ (took (c .before .before)) (fine c))
 
 same-length-3 : tie.Need-same-length-3 Inv-loop μ-loop
-same-length-3 c = c .before .before .before .before .before .before .before .before .before .loop .inv .size ∙ sym (c .before .before .before .before .before .before .before .before .before .before .before .before .before .before .before .before .pre)
+same-length-3 c = c .before .before .before .before .before .before .before .before .before .loop .inv .1
 
 returns-4 : tie.Need-returns-4 Inv-loop μ-loop
 returns-4 c =
-    back _ _ _ _ _ _ _ _ _ (c .before .before .before .before .before .before .before .before .before .loop .inv) _ _ _ (took (c .before .before .before .before)) (fine (c .before .before))
+    back _ _ _ _ _ _ _ _ _ _ (c .before .before .before .before .before .before .before .before .before .loop .inv .0) _ _ _ (took (c .before .before .before .before)) (fine (c .before .before))
     (sym (c .before .follows .ensures) ∙ not-true _ (c .if3 .taken))
 
 passes-requires : tie.Need-passes-requires Inv-loop μ-loop
 passes-requires c κs =
-    let g = c .before .before .before .before .before .before .before .before .before .before .before .loop .inv in
-    (next-within _ _ _ _ _ _ _ _ _ g _ _ _ (took (c .before .before .before .before .before .before)) (fine (c .before .before .before .before)), g .size)
+    let g = c .before .before .before .before .before .before .before .before .before .before .before .loop .inv .0 in
+    (next-within _ _ _ _ _ _ _ _ _ _ g _ _ _ (took (c .before .before .before .before .before .before)) (fine (c .before .before .before .before)), next-free _ _ _ _ _ _ _ _ _ _ g _ _ _ (step (c .before .before .before .before .before .before)) (fine (c .before .before .before .before)))
 
 add-at : tie.Need-add-at Inv-loop μ-loop
 add-at c = omega (arith, took (c .before .before .before .before .before .before .before .before .before) .within, c .before .before .before .before .before .before .before .before .before .before .before .before .before .before .before .before .before .before .before .before .before .good .0 .0)
+
+add-n : tie.Need-add-n Inv-loop μ-loop
+add-n c = omega (arith, c .before .before .before .before .before .before .before .before .before .before .before .before .before .before .loop .inv .0 .many, took (c .before .before .before .before .before .before .before .before .before) .within, c .before .before .before .before .before .before .before .before .before .before .before .before .before .before .before .before .before .before .before .before .before .good .0 .0)
 
 loop-less : tie.Need-loop-less Inv-loop μ-loop
 loop-less c =
@@ -120,33 +125,37 @@ loop-less c =
     omega (arith, f .within, f .on, c .before .before .before .before .before .before .before .before .before .before .before .before .before .loop-test .taken)
 
 loop-again : tie.Need-loop-again Inv-loop μ-loop
-loop-again c =
-    goes-on _ _ _ _ _ _ _ _ _ (c .before .before .before .before .before .before .before .before .before .before .before .before .before .before .loop .inv) _ _ _ (step (c .before .before .before .before .before .before .before .before .before)) (fine (c .before .before .before .before .before .before .before)) _ _ _
-    (sym (c .before .before .before .before .before .before .follows .ensures) ∙ not-false _ (c .before .before .before .before .before .if3 .left))
-    (c .before .before .passes .ensures)
+loop-again c = (
+  goes-on _ _ _ _ _ _ _ _ _ _ (c .before .before .before .before .before .before .before .before .before .before .before .before .before .before .loop .inv .0) _ _ _ (step (c .before .before .before .before .before .before .before .before .before)) (fine (c .before .before .before .before .before .before .before)) _ _ _
+      (sym (c .before .before .before .before .before .before .follows .ensures) ∙ not-false _ (c .before .before .before .before .before .if3 .left))
+      (c .before .before .passes .ensures),
+  passed-length (c .before .before .passes .ensures) ∙ c .before .before .before .before .before .before .before .before .before .before .before .before .before .before .loop .inv .1,
+)
 
 same-length-4 : tie.Need-same-length-4 Inv-loop μ-loop
-same-length-4 c = c .before .before .loop .inv .size ∙ sym (c .before .before .before .before .before .before .before .before .before .pre)
+same-length-4 c = c .before .before .loop .inv .1
 
 returns-5 : tie.Need-returns-5 Inv-loop μ-loop
-returns-5 c = ends-over _ _ _ _ _ _ _ _ _ (c .before .before .loop .inv) (c .before .loop-test .left) (c .if4 .taken)
+returns-5 c = ends-over _ _ _ _ _ _ _ _ _ _ (c .before .before .loop .inv .0) (c .before .loop-test .left) (c .if4 .taken)
 
-counts-of-requires : tie.Need-counts-of-requires Inv-loop μ-loop
-counts-of-requires c κs = tt
+ends-of-requires : tie.Need-ends-of-requires Inv-loop μ-loop
+ends-of-requires c κs =
+    let g = c .before .before .loop .inv .0 in
+    ends-table _ _ _ _ _ _ _ _ _ _ g (c .before .loop-test .left) (c .if4 .left)
 
 same-length-5 : tie.Need-same-length-5 Inv-loop μ-loop
-same-length-5 c = c .before .before .before .loop .inv .size ∙ sym (c .before .before .before .before .before .before .before .before .before .before .pre)
+same-length-5 c = c .before .before .before .loop .inv .1
 
 returns-6 : tie.Need-returns-6 Inv-loop μ-loop
 returns-6 c =
-    let g = c .before .before .before .loop .inv in
+    let g = c .before .before .before .loop .inv .0 in
     let e = c .before .before .loop-test .left in
     let h = c .before .if4 .left in (
-      ends-accepted _ _ _ _ _ _ _ _ _ g e h,
+      ends-accepted _ _ _ _ _ _ _ _ _ _ g e h,
       record {
-        head = c .before .before .before .before .before .read-head .ensures ∙ sym (ends-headed _ _ _ _ _ _ _ _ _ g e h);
-        counts = rw (c .counts-of .ensures) (ends-counted _ _ _ _ _ _ _ _ _ g e h);
-        table = ends-indexed _ _ _ _ _ _ _ _ _ g e h;
+        head = c .before .before .before .before .before .read-head .ensures ∙ sym (ends-headed _ _ _ _ _ _ _ _ _ _ g e h);
+        ends = rw (c .ends-of .ensures) (ends-ended _ _ _ _ _ _ _ _ _ _ g e h);
+        table = rw (c .ends-of .ensures) (ends-indexed _ _ _ _ _ _ _ _ _ _ g e h);
       },
     )
 
@@ -174,10 +183,11 @@ read-list-spec =
     returns-4
     passes-requires
     add-at
+    add-n
     loop-less
     loop-again
     same-length-4
     returns-5
-    counts-of-requires
+    ends-of-requires
     same-length-5
     returns-6)

@@ -15,16 +15,14 @@ use Rattle.release.proofs.lists.sum_up.Tie as tie
 add-up-requires : tie.Need-add-up-requires
 add-up-requires c κs = search needs
 
-find-freed-requires : tie.Need-find-freed-requires
-find-freed-requires c κs =
-    let a = c .before .before .before .before .before .before .before .before .before .before .before .before in
-    let u = c .before .before .before .before .before .add-up .ensures .0 in
+take-freed-requires : tie.Need-take-freed-requires
+take-freed-requires c κs =
+    let k = c .before .before .before .before .before .before in
+    let a = k .before .before .before .before .before .before .before .before in
+    let u = k .add-up .ensures in
     let rs = freedsIn (a .args .s .now) (a .args .requests .now) in
-    let e = ap length (found-freed (a .args .sectors) rs _ u (a .pre .1 .0)) in
-    (u .long, omega (arith, e, named-few (a .args .sectors) rs, a .pre .0 .0 .count, a .pre .1 .1), a .pre .1 .2)
-
-clear-requires : tie.Need-clear-requires
-clear-requires c κs = search needs
+    let e = ap length (found-freed (a .args .sectors) rs _ (u .0) (a .pre .1 .0)) in
+    (u .0 .long, omega (arith, e, named-few (a .args .sectors) rs, a .pre .0 .0 .count, a .pre .1 .1), a .pre .1 .2, u .2)
 
 same-length : tie.Need-same-length
 same-length c = search needs
@@ -37,17 +35,19 @@ same-length-3 c = search needs
 
 returns : tie.Need-returns
 returns c =
-    let a = c .before .before .before .before .before .before .before .before .before .before .before .before .before .before .before .before .before .before .before .before .before in
-    let u = c .before .before .before .before .before .before .before .before .before .before .before .before .before .before .add-up .ensures in
-    (listed-freed (u .0) (a .pre .1 .0) (c .before .before .before .before .before .before .before .before .find-freed .ensures), c .before .before .clear .ensures ∙ ap (λ (l : List ℕ). replicate 65536 0 ++ l) (u .1))
+    let f = c .before .before .before .before .before .before in
+    let k = f .before .before .before .before .before .before .before in
+    let a = k .before .before .before .before .before .before .before .before in
+    let u = k .add-up .ensures in
+    let t = f .take-freed .ensures in
+    (listed-freed (u .0) (a .pre .1 .0) (t .0), t .1 ∙ ap (λ (l : List ℕ). replicate 65536 0 ++ l) (u .1))
 
 pub sum-up-spec : {M : Type 1} → statement M
 sum-up-spec =
     tie.close
     (tie.spec
     add-up-requires
-    find-freed-requires
-    clear-requires
+    take-freed-requires
     same-length
     same-length-2
     same-length-3

@@ -1,37 +1,36 @@
--- `release::release_cleared` meets its contract. Assumes nothing.
-use mathlib.Core.Path.{sym, _∙_}
-use Rattle.release.proofs.ReadLaws.{read-outcome, scratch-long}
-use Rattle.release.proofs.TopLaws.{cleared-is}
+-- `release::release_cleared` meets its contract: a list of at most 3,072 bytes has at most 1,024 fields. Assumes nothing.
+use native.Mathlib.Omega.{arith}
+use mathlib.Core.Logic.{inl, inr}
 use borrow.Author.Needs.{needs}
 use Rattle.release.proofs.release.release_cleared.Statement.{statement}
 use Rattle.release.proofs.release.release_cleared.Tie as tie
 
-read-call-requires : tie.Need-read-call-requires
-read-call-requires c κs = search needs
+slice-aggregate-release-by : tie.Need-slice-aggregate-release-by
+slice-aggregate-release-by c = search needs
 
-enum-known-reading : tie.Need-enum-known-reading
-enum-known-reading c = search needs
-
-enum-known-reading-2 : tie.Need-enum-known-reading-2
-enum-known-reading-2 c = search needs
-
-release-parts-requires : tie.Need-release-parts-requires
-release-parts-requires c κs =
-    let a = c .before .before .before .before .before .before .before .before .before .before .before .before in
-    let e = rw (c .before .before .before .before .before .reading2 .given .1) at (c .before .before .before .before .before .before .before .read-call .ensures) in
-    (e .1, e .0, a .pre .0, a .pre .1)
-
-returns : tie.Need-returns
-returns c =
-    let a = c .before .before .before .before .before .before .before .before in
-    let e = rw (c .before .reading .given .1) at (c .before .before .before .read-call .ensures) in
-    (read-outcome _ _ _ (a .pre .0 .long) _ (e .0) (e .1) (a .pre .1), cleared-is _ (a .pre .0) ∙ sym (scratch-long _ (a .pre .0 .long)))
+release-by-requires : tie.Need-release-by-requires
+release-by-requires c κs = let p = c .before .before .before .before .before .before .before .before .pre in (inr (omega arith), p .0, p .1)
 
 same-length : tie.Need-same-length
 same-length c = search needs
 
 same-length-2 : tie.Need-same-length-2
 same-length-2 c = search needs
+
+returns : tie.Need-returns
+returns c = search needs
+
+slice-aggregate-release-by-2 : tie.Need-slice-aggregate-release-by-2
+slice-aggregate-release-by-2 c = search needs
+
+release-by-requires-2 : tie.Need-release-by-requires-2
+release-by-requires-2 c κs = let p = c .before .before .before .before .before .before .before .before .pre in (inl (omega arith), p .0, p .1)
+
+same-length-3 : tie.Need-same-length-3
+same-length-3 c = search needs
+
+same-length-4 : tie.Need-same-length-4
+same-length-4 c = search needs
 
 returns-2 : tie.Need-returns-2
 returns-2 c = search needs
@@ -40,11 +39,13 @@ pub release-cleared-spec : {M : Type 1} → statement M
 release-cleared-spec =
     tie.close
     (tie.spec
-    read-call-requires
-    enum-known-reading
-    enum-known-reading-2
-    release-parts-requires
-    returns
+    slice-aggregate-release-by
+    release-by-requires
     same-length
     same-length-2
+    returns
+    slice-aggregate-release-by-2
+    release-by-requires-2
+    same-length-3
+    same-length-4
     returns-2)

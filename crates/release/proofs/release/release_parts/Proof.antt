@@ -1,53 +1,56 @@
 -- `release::release_parts` meets its contract. Assumes nothing.
 use native.Mathlib.Omega.{arith}
-use mathlib.Core.Path.{_≡_, sym, _∙_}
-use Prim.Native.Nat.{_≤_}
-use lib.ListN.{length}
+use mathlib.Core.Path.{sym, _∙_}
 use lib.Seq.{length-take-le}
-use Rattle.release.proofs.ReadLaws.{counts-low, parts-keyed, parts-requested, parts-few, parts-outcome, scratch-long}
+use Rattle.reader.specs.declared.table.Ends.{Ends}
+use Rattle.reader.proofs.PartsLaws.{Part}
+use Rattle.release.proofs.ReadLaws.{parts-within, parts-keyed, parts-requested, parts-few, parts-outcome, scratch-long}
 use borrow.Author.Needs.{needs}
 use Rattle.release.proofs.release.release_parts.Statement.{statement}
 use Rattle.release.proofs.release.release_parts.Tie as tie
 
--- the table's length, and how many places each part of it has
-size : (c : tie.After-table) → length (c .before .before .before .before .args .index .now) ≡ 29696
-size c = omega arith
+abbrev start : tie.After-slice-known2 → tie.Start
+start p = p .before .before .before .before
 
-low : (c : tie.After-table) → let n = c .before .before .before .before .args .counts in (n .alloc ≤ 4096) × (n .gens ≤ 4096) × (n .requests ≤ 1024)
-low c = let p = c .before .before .before .before .pre in counts-low (p .0) (p .1) (size c)
+abbrev ends : tie.After-slice-known2 → Ends
+ends p = start p .args .ends
 
-add-gens : tie.Need-add-gens
-add-gens c = omega (arith, low (c .before) .1)
-
-add-requests : tie.Need-add-requests
-add-requests c = omega (arith, low (c .before .before) .2)
+-- the parts of the table that are lent
+parts : (p : tie.After-slice-known2) → let t = start p .args .table .now in
+    Part 0 (ends p .alloc) 4096 t × Part (ends p .backpointers) (ends p .gens) 4096 t × Part (ends p .reserved) (ends p .requests) 1024 t
+parts p = let a = start p .pre in parts-within (a .0) (a .1)
 
 slice-aggregate-release-lists : tie.Need-slice-aggregate-release-lists
-slice-aggregate-release-lists c = let t = c .before .before .before in sym (length-take-le _ _ (omega (arith, low t .0, size t)))
+slice-aggregate-release-lists c = sym (length-take-le _ _ (parts (c .before) .0 .within))
+
+mul-release-lists : tie.Need-mul-release-lists
+mul-release-lists c = let p = parts (c .before) .1 in omega (arith, p .forth, p .within)
 
 sub-release-lists : tie.Need-sub-release-lists
-sub-release-lists c = search needs
+sub-release-lists c = omega (arith, parts (c .before) .1 .forth)
 
 part-release-lists-start : tie.Need-part-release-lists-start
-part-release-lists-start c = search needs
+part-release-lists-start c = omega (arith, parts (c .before) .1 .forth)
 
 part-release-lists-end : tie.Need-part-release-lists-end
-part-release-lists-end c = let t = c .before .before .before in omega (arith, low t .1, size t)
+part-release-lists-end c = omega (arith, parts (c .before) .1 .within)
+
+mul-release-lists-2 : tie.Need-mul-release-lists-2
+mul-release-lists-2 c = let p = parts (c .before .before) .2 in omega (arith, p .forth, p .within)
 
 sub-release-lists-2 : tie.Need-sub-release-lists-2
-sub-release-lists-2 c = search needs
+sub-release-lists-2 c = omega (arith, parts (c .before .before) .2 .forth)
 
 part-release-lists-start-2 : tie.Need-part-release-lists-start-2
-part-release-lists-start-2 c = search needs
+part-release-lists-start-2 c = omega (arith, parts (c .before .before) .2 .forth)
 
 part-release-lists-end-2 : tie.Need-part-release-lists-end-2
-part-release-lists-end-2 c = let t = c .before .before .before .before in omega (arith, low t .2, size t)
+part-release-lists-end-2 c = omega (arith, parts (c .before .before) .2 .within)
 
 release-lists-requires : tie.Need-release-lists-requires
 release-lists-requires c κs =
-    let t = c .before .before .before .before .before .before .before .before in
-    let p = t .before .before .before .before .pre in
-    (parts-keyed (p .0) (p .1) (size t), (parts-requested (p .0) (p .1) (size t), parts-few (p .0) (p .1) (size t), p .2, p .3))
+    let a = c .before .before .before .before .before .before .before .before .before .before .pre in
+    (parts-keyed (a .0) (a .1), (parts-requested (a .0) (a .1), parts-few (a .0) (a .1), a .2, a .3))
 
 same-length : tie.Need-same-length
 same-length c = search needs
@@ -57,22 +60,21 @@ same-length-2 c = search needs
 
 returns : tie.Need-returns
 returns c =
-    let t = c .before .before .before .before .before .before .before .before .before .before .before .before .before in
-    let a = t .before .before .before .before in
+    let a = c .before .before .before .before .before .before .before .before .before .before .before .before .before .before .before in
     let p = a .pre in
     let e = c .before .before .before .before .release-lists .ensures in
-    (parts-outcome (p .0) (p .1) (size t) _ (p .2 .long) (a .args .out .now) (e .0), e .1 ∙ sym (scratch-long _ (p .2 .long)))
+    (parts-outcome (p .0) (p .1) _ (p .2 .long) (a .args .out .now) (e .0), e .1 ∙ sym (scratch-long _ (p .2 .long)))
 
 pub release-parts-spec : {M : Type 1} → statement M
 release-parts-spec =
     tie.close
     (tie.spec
-    add-gens
-    add-requests
     slice-aggregate-release-lists
+    mul-release-lists
     sub-release-lists
     part-release-lists-start
     part-release-lists-end
+    mul-release-lists-2
     sub-release-lists-2
     part-release-lists-start-2
     part-release-lists-end-2

@@ -1,23 +1,24 @@
 -- `sums::add_up` meets its contract. Assumes nothing.
 use native.Mathlib.Omega.{arith}
-use mathlib.Core.Path.{_≡_, sym, ap}
+use mathlib.Core.Path.{_≡_, sym, ap, _∙_}
 use mathlib.Core.List.{_∷_}
-use Prim.Native.Nat.{_+_, _-_, _≤_, _<_}
-use lib.ListN.{length, drop}
+use Prim.Native.Nat.{ℕ, _+_, _-_, _/_, _≤_, _<_}
+use lib.ListN.{length, drop, length-set, length-replicate}
 use Rattle.wire.specs.declared.kinds.Bucket.{Bucket}
 use Rattle.wire.specs.Kinds.{bucketOf}
 use Rattle.calls.specs.Release.{freedOk}
 use Rattle.release.specs.Freeds.{freedHeld, freedsIn}
+use Rattle.release.specs.Summing.{Marked}
 use Rattle.release.proofs.FreedLaws.{Within, within, freeds-next, freeds-none, all-drop, all-first}
-use Rattle.release.proofs.SumLaws.{Adding, add-starts, add-at, add-turn, add-ends, freed-most}
+use Rattle.release.proofs.SumLaws.{Adding, add-starts, add-at, add-turn, add-ends, freed-most, marked-starts, marked-turn}
 use Rattle.release.proofs.sums.add_up.Statement.{statement}
 use Rattle.release.proofs.sums.add_up.Tie as tie
 
 abbrev Inv-loop : tie.InvT-loop
-Inv-loop s requests sectors sums₀ i₀ sums i = (i ≤ length requests) × Adding sectors (freedsIn s requests) (drop i (freedsIn s requests)) sums₀ sums
+Inv-loop s requests sectors sums₀ marks₀ i₀ sums marks i = (i ≤ length requests) × Adding sectors (freedsIn s requests) (drop i (freedsIn s requests)) sums₀ sums × Marked sums marks × (length marks ≡ 1024)
 
 abbrev μ-loop : tie.MeasureT-loop
-μ-loop s requests sectors sums₀ i₀ sums i = length requests - i
+μ-loop s requests sectors sums₀ marks₀ i₀ sums marks i = length requests - i
 
 -- what is known of a piece where its bucket is
 record Here (c : tie.After-bucket-of Inv-loop μ-loop) : Type 0 where
@@ -40,7 +41,9 @@ here-is c =
     record { here = e; inside = w; bucket = k; low = omega (arith, w .low) }
 
 loop-holds : tie.Need-loop-holds Inv-loop μ-loop
-loop-holds c = (omega arith, add-starts _ _ _ (c .before .before .before .pre .0 .3))
+loop-holds c =
+    let p = c .before .before .before .pre .0 in
+    (omega arith, add-starts _ _ _ (p .3), marked-starts _ _ (p .3), ap length (p .4) ∙ length-replicate {A = ℕ} 1024 0)
 
 freed-at-requires : tie.Need-freed-at-requires Inv-loop μ-loop
 freed-at-requires c κs = (c .before .before .before .before .before .pre .0 .0, omega arith)
@@ -81,6 +84,9 @@ slice-write-sums c =
     let l = c .before .before .before .before .before .before in
     omega (arith, here-is (c .before .before) .low, l .loop .inv .1 .size, l .before .before .before .before .pre .0 .3 .long)
 
+element-write-marks : tie.Need-element-write-marks Inv-loop μ-loop
+element-write-marks c = omega (arith, here-is (c .before .before) .low)
+
 add-i : tie.Need-add-i Inv-loop μ-loop
 add-i c = omega arith
 
@@ -91,7 +97,7 @@ loop-again : tie.Need-loop-again Inv-loop μ-loop
 loop-again c =
     let h = here-is (c .before .before) in
     let l = c .before .before .before .before .before .before in
-    (omega arith, add-turn (l .loop .inv .1) (c .before .before .bucket-of .result .0) (l .before .before .before .before .pre .0 .3 .long) (h .here) (h .bucket) (h .low))
+    (omega arith, add-turn (l .loop .inv .1) (c .before .before .bucket-of .result .0) (l .before .before .before .before .pre .0 .3 .long) (h .here) (h .bucket) (h .low), marked-turn (l .loop .inv .2) (c .before .before .bucket-of .result .0) _ (omega (arith, h .low, l .loop .inv .3)), length-set (l .loop .marks) (c .before .before .bucket-of .result .0 / 64) 1 ∙ l .loop .inv .3)
 
 same-length : tie.Need-same-length Inv-loop μ-loop
 same-length c = c .before .loop .inv .1 .size
@@ -100,7 +106,8 @@ returns : tie.Need-returns Inv-loop μ-loop
 returns c =
     let l = c .before in
     let g = l .before .before .before .before in
-    add-ends (l .loop .inv .1) (g .pre .0 .3 .long) (freeds-none (g .args .s .now) (g .args .requests .now) (l .loop .i) (g .pre .0 .0) (omega arith))
+    let e = add-ends (l .loop .inv .1) (g .pre .0 .3 .long) (freeds-none (g .args .s .now) (g .args .requests .now) (l .loop .i) (g .pre .0 .0) (omega arith)) in
+    (e .0, e .1, l .loop .inv .2)
 
 pub add-up-spec : {M : Type 1} → statement M
 add-up-spec =
@@ -117,6 +124,7 @@ add-up-spec =
     add-sums
     mul-sums
     slice-write-sums
+    element-write-marks
     add-i
     loop-less
     loop-again
