@@ -27,7 +27,7 @@ use Rattle.calls.proofs.AllLaws.{all-join, test-all}
 use Rattle.calls.proofs.BoolLaws.{parts}
 use Rattle.calls.proofs.Blocks.{field, Ascend, order-ascend, bodies-cons, bodies-none, keeps, shaped-out, shaped-tag}
 use Rattle.calls.proofs.ChangeTrip.{split-all}
-use Rattle.apply.specs.Entries.{bucketKey, isBucket, isEntry, entryOf, entries}
+use Rattle.merge.specs.Entries.{bucketKey, isBucket, isEntry, entryOf, entries}
 use Rattle.apply.specs.Roots.{rootsIn}
 
 -- lists, one after the other

@@ -1,12 +1,4 @@
-pub mod QueueLaws
-pub mod ChunkLaws
-pub mod EntryLaws
-pub mod PlaceLaws
-pub mod FillLaws
-pub mod MergeLaws
-pub mod SectionLaws
 pub mod RootLaws
-pub mod WeightLaws
 pub mod BatchLaws
 pub mod VolumeLaws
 pub mod NextLaws

@@ -25,14 +25,14 @@ use Rattle.calls.proofs.BoolLaws.{parts}
 use Rattle.calls.proofs.AnswerLaws.{apply-is}
 use Rattle.calls.proofs.OutcomeLaws.{answer-short, answer-fits, answer-next, answer-stops, refused, accepted}
 use Rattle.calls.proofs.Blocks.{flat, gather, tagsAbove}
-use Rattle.apply.specs.declared.merge.Spot.{Spot}
-use Rattle.apply.specs.Entries.{sections, entries, leading, past, sectionBytes}
-use Rattle.apply.specs.Weights.{sectionWithin}
-use Rattle.apply.specs.Merging.{Done}
+use Rattle.merge.specs.declared.merge.Spot.{Spot}
+use Rattle.merge.specs.Entries.{sections, entries, leading, past, sectionBytes}
+use Rattle.merge.specs.Weights.{sectionWithin}
+use Rattle.merge.specs.Merging.{Done}
+use Rattle.merge.proofs.PlaceLaws.{at-all}
+use Rattle.merge.proofs.WeightLaws.{light-on}
 use Rattle.apply.specs.Roots.{frontBytes}
 use Rattle.apply.specs.NextVolume.{Ready, SectionReady, nextKeys, SectionDone, VolumeDone}
-use Rattle.apply.proofs.PlaceLaws.{at-all}
-use Rattle.apply.proofs.WeightLaws.{light-on}
 use Rattle.apply.proofs.VolumeLaws.{SectionOf, Parted, leads-section, flat-above, sections-at}
 use Rattle.apply.proofs.NextLaws.{nextOf, nextBytes, nextWithin, next-bytes, next-within, front-fits, roots-low}
 

@@ -20,8 +20,8 @@ use Rattle.calls.specs.Apply.{setRoots}
 use Rattle.calls.proofs.AllLaws.{first, all-imp, all-join, all-map, all-tail, test-all}
 use Rattle.calls.proofs.BoolLaws.{parts}
 use Rattle.calls.proofs.Blocks.{bodies-all, shaped-out}
+use Rattle.merge.proofs.EntryLaws.{StepAt}
 use Rattle.apply.specs.Roots.{withBit, withRoot, isRoot, rootsIn, NamesRoot, afterField, Rooted}
-use Rattle.apply.proofs.EntryLaws.{StepAt}
 
 -- one bit
 

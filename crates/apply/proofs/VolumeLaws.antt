@@ -26,8 +26,8 @@ use Rattle.calls.proofs.AllLaws.{all-imp, all-tail, test-all}
 use Rattle.calls.proofs.BoolLaws.{both, parts}
 use Rattle.calls.proofs.SixTrees.{trees-each}
 use Rattle.calls.proofs.Blocks.{field, flat, flat-tags, bodies-cons, bodies-all, order-ascend, gather, tagsAbove, gathered, keeps, shaped-out, shaped-tag, shaped-fits, tagsOf, isOf}
-use Rattle.apply.specs.Entries.{sections, bucketKey, isBucket, isEntry, entryOf, entries, isLeading, leading, past}
-use Rattle.apply.specs.Queues.{ascending}
+use Rattle.merge.specs.Entries.{sections, bucketKey, isBucket, isEntry, entryOf, entries, isLeading, leading, past}
+use Rattle.merge.specs.Queues.{ascending}
 use Rattle.apply.proofs.BatchLaws.{bucket-cmp}
 
 -- the last section, by elimination

@@ -1,7 +1,2 @@
-pub mod Queues
-pub mod Entries
-pub mod Places
-pub mod Weights
-pub mod Merging
 pub mod Roots
 pub mod NextVolume

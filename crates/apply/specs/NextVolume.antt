@@ -13,10 +13,10 @@ use Rattle.calls.specs.Limits.{volumeWithin}
 use Rattle.calls.specs.ChangeList.{changeLaidOut}
 use Rattle.calls.specs.Trees.{applyQueue}
 use Rattle.calls.specs.Answers.{readVolume, nextVolume}
-use Rattle.apply.specs.Entries.{entries, leading, past, sectionBytes}
-use Rattle.apply.specs.Queues.{ascending}
-use Rattle.apply.specs.Weights.{sectionWithin}
-use Rattle.apply.specs.declared.merge.Spot.{Spot}
+use Rattle.merge.specs.Entries.{entries, leading, past, sectionBytes}
+use Rattle.merge.specs.Queues.{ascending}
+use Rattle.merge.specs.Weights.{sectionWithin}
+use Rattle.merge.specs.declared.merge.Spot.{Spot}
 
 -- refusals 2 and 3 of the volume and 2 of the change list were tested
 pub record Ready (vol list : List ℕ) : Type 0 where

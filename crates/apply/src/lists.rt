@@ -3,11 +3,11 @@ ghost use mathlib.Core.Path.{_≡_};
 ghost use Prim.Native.Nat.{_<_, max};
 ghost use lib.ListN.{length, getD};
 ghost use Rattle.calls.specs.Answers.{apply, made, outcome};
-ghost use Rattle.apply.specs.Entries.{sections};
+ghost use Rattle.merge.specs.Entries.{sections};
 ghost use Rattle.apply.specs.NextVolume.{Ready, SectionReady, SectionDone, VolumeDone};
 use crate::front;
-use crate::merge;
-use crate::merge::Spot;
+use merge::merge as merging;
+use merge::merge::Spot;
 
 // The section at an index. The loop over the sections shows the bound.
 fn section_at(i: usize) -> u8
@@ -37,7 +37,7 @@ fn put_next(out: &mut [u8], vol: &[u8], from: Spot, list: &[u8], section: u8) ->
     requires { ⌜ SectionReady section (now vol) (from .at) ⌝ }
     ensures { λ r. ⌜ SectionDone section (now (out .entry)) (now (vol .entry)) (now (list .entry)) from (now (out .exit)) r ⌝ }
 {
-    let s = merge::put_section(
+    let s = merging::put_section(
         out,
         vol,
         Spot {

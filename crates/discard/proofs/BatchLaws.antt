@@ -17,8 +17,8 @@ use Rattle.wire.proofs.EmitLaws.{done}
 use Rattle.wire.proofs.EncodeLaws.{encode-none, encode-append}
 use Rattle.calls.specs.ChangeList.{Batch, batchFields, changeFields, changeBytes}
 use Rattle.calls.specs.Discard.{chunks, discardBatch}
-use Rattle.discard.specs.Offsets.{keysFrom}
-use Rattle.discard.specs.Chosen.{needTrees}
+use Rattle.waiting.specs.Offsets.{keysFrom}
+use Rattle.waiting.specs.Chosen.{needTrees}
 use Rattle.discard.specs.Emitted.{batchBytes, changesFrom, batchEnd}
 
 -- chunks, however many are allowed

@@ -29,12 +29,12 @@ use Rattle.calls.specs.Accounting.{countedRows, bucketsRow}
 use Rattle.calls.specs.ChangeList.{batchFields, endField}
 use Rattle.calls.specs.Discard.{waitingKey, waitingDeletions, discardBatch}
 use Rattle.calls.specs.Trees.{deletion, withValue}
-use Rattle.discard.specs.Offsets.{sizeAt, keyFrom, keysFrom, bucketFrom, Kept}
-use Rattle.discard.specs.Table.{waitsOf}
+use Rattle.waiting.specs.Offsets.{sizeAt, keyFrom, keysFrom, bucketFrom, Kept}
+use Rattle.waiting.specs.Table.{waitsOf}
 use Rattle.discard.specs.Emitted.{keyBytes, allocBytes, bucketsAt, runsBytes, deletionBytes, rowsBytes, unreservedBytes, batchBytes}
-use Rattle.discard.specs.declared.waiting.Waits.{Waits}
-use Rattle.discard.specs.declared.waiting.Waits.the-variants.{At, Not}
-use Rattle.discard.proofs.OffsetLaws.{value-size}
+use Rattle.waiting.specs.declared.waiting.Waits.{Waits}
+use Rattle.waiting.specs.declared.waiting.Waits.the-variants.{At, Not}
+use Rattle.waiting.proofs.OffsetLaws.{value-size}
 
 -- lists of bytes, one after the other
 

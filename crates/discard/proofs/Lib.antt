@@ -1,6 +1,3 @@
-pub mod OffsetLaws
-pub mod TableLaws
-pub mod ChosenLaws
 pub mod EmitLaws
 pub mod RunLaws
 pub mod CountLaws

@@ -27,8 +27,8 @@ use Rattle.reader.specs.Readings.{callRefusal, ListRead}
 use Rattle.reader.specs.declared.head.Head.{Head}
 use Rattle.reader.specs.declared.table.Ends.{Ends}
 use Rattle.reader.proofs.PartsLaws.{passed, read-on, read-refused, between, alloc-part, need-discard-part}
-use Rattle.discard.specs.Offsets.{sizeAt, keyFrom, keysFrom, Kept, AllocKept, NeedKept}
-use Rattle.discard.specs.Chosen.{needTrees, freedFrom}
+use Rattle.waiting.specs.Offsets.{sizeAt, keyFrom, keysFrom, Kept, AllocKept, NeedKept}
+use Rattle.waiting.specs.Chosen.{needTrees, freedFrom}
 use Rattle.discard.specs.Emitted.{batchesFrom, changesFrom}
 use Rattle.discard.specs.Given.{Ready}
 

@@ -14,7 +14,7 @@ use Rattle.wire.proofs.OutputLaws.{Part, begin, turn, drop-next}
 use Rattle.wire.proofs.EmitLaws.{done}
 use Rattle.wire.proofs.EncodeLaws.{each-append}
 use Rattle.calls.specs.Trees.{newKey}
-use Rattle.discard.specs.Offsets.{bucketFrom}
+use Rattle.waiting.specs.Offsets.{bucketFrom}
 use Rattle.discard.proofs.EmitLaws.{each-one}
 use Rattle.wire.specs.Keys.{Key}
 use Rattle.wire.specs.Kinds.{sameBucket, nextBucket}

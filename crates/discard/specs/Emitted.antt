@@ -17,8 +17,8 @@ use Rattle.calls.specs.Accounting.{countedRows, bucketsRow}
 use Rattle.calls.specs.ChangeList.{Batch, batchFields, changeBytes, discardedField}
 use Rattle.calls.specs.Discard.{chunks, joinedRuns, runKey, waitingDeletions, discardBatch}
 use Rattle.calls.specs.Trees.{newKey, withValue}
-use Rattle.discard.specs.Offsets.{keyFrom, keysFrom, bucketFrom}
-use Rattle.discard.specs.Chosen.{needTrees}
+use Rattle.waiting.specs.Offsets.{keyFrom, keysFrom, bucketFrom}
+use Rattle.waiting.specs.Chosen.{needTrees}
 use Rattle.discard.specs.declared.runs.Run.{Run}
 
 -- keys of a tree

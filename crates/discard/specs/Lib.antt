@@ -1,5 +1,2 @@
-pub mod Offsets
-pub mod Table
-pub mod Chosen
 pub mod Emitted
 pub mod Given

@@ -9,14 +9,14 @@ ghost use Rattle.wire.specs.Output.{Wrote, Emitted};
 ghost use Rattle.wire.specs.Rows.{countersIn};
 ghost use Rattle.calls.specs.Accounting.{row3};
 ghost use Rattle.calls.specs.Trees.{deletion};
-ghost use Rattle.discard.specs.Offsets.{sizeAt, FreedKept};
-ghost use Rattle.discard.specs.Table.{Tabled};
+ghost use Rattle.waiting.specs.Offsets.{sizeAt, FreedKept};
+ghost use Rattle.waiting.specs.Table.{Tabled};
 ghost use Rattle.discard.specs.Emitted.{keyBytes, allocBytes, deletionBytes, rowsBytes, unreservedBytes, batchBytes};
-use crate::found;
 use crate::runs;
-use crate::waiting;
-use crate::waiting::Waits;
 use format::alloc;
+use waiting::found;
+use waiting::waiting as waiting_keys;
+use waiting::waiting::Waits;
 use wire::bpos::Bpos;
 use wire::emit;
 use wire::emit_key;
@@ -90,7 +90,7 @@ fn put_waiting(out: &mut [u8], at: usize, s: &[u8], o: u32, needs: &[u32], table
     requires { ⌜ FreedKept (now s) o × Tabled (now s) (now needs) (now table) ⌝ }
     ensures { λ r. ⌜ Emitted (now (out .entry)) at (deletionBytes (now (s .entry)) (now (needs .entry)) o) (now (out .exit)) r ⌝ }
 {
-    let Waits::At(pos) = waiting::waiting_at(s, needs, table, found::bucket_at(s, o)) else {
+    let Waits::At(pos) = waiting_keys::waiting_at(s, needs, table, found::bucket_at(s, o)) else {
         return at;
     };
     put_deletion(out, at, 12, pos)

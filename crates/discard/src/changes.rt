@@ -8,14 +8,14 @@ ghost use Rattle.wire.specs.Output.{Emitted};
 ghost use Rattle.calls.specs.ChangeList.{changeBytes};
 ghost use Rattle.calls.specs.Discard.{discardBatches};
 ghost use Rattle.calls.specs.Answers.{readVolume, answer, made, outcome};
-ghost use Rattle.discard.specs.Offsets.{FreedKept};
-ghost use Rattle.discard.specs.Table.{Tabled};
+ghost use Rattle.waiting.specs.Offsets.{FreedKept};
+ghost use Rattle.waiting.specs.Table.{Tabled};
 ghost use Rattle.discard.specs.Emitted.{batchEnd, changesFrom};
 ghost use Rattle.discard.specs.Given.{Ready};
 use crate::batch;
-use crate::freed;
-use crate::waiting;
 use reader::head::Head;
+use waiting::freed;
+use waiting::waiting as waiting_keys;
 
 // Where the batch that begins at a ends, of n keys in all.
 fn batch_end(a: usize, n: usize, size: u32) -> usize
@@ -128,7 +128,7 @@ fn discard_many(
     ensures { λ r. ⌜ made r (now (written .exit)) (now (out .exit)) ≡ outcome (answer [] (changeBytes (discardBatches (readVolume (now (s .entry))))) (length (now (out .entry)))) (now (out .entry)) ⌝ }
 {
     let mut table = [0u16; 65536];
-    waiting::note_waiting(&mut table, s, needs);
+    waiting_keys::note_waiting(&mut table, s, needs);
     discard_tabled(s, head, alloc, needs, &table, out, written)
 }
 

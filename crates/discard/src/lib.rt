@@ -2,7 +2,4 @@
 pub mod batch;
 pub mod changes;
 pub mod discard;
-pub mod found;
-pub mod freed;
 pub mod runs;
-pub mod waiting;

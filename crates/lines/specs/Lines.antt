@@ -7,6 +7,7 @@ use lib.Dec.{leb, eqb}
 use Rattle.wire.specs.Numbers.{le, each}
 use Rattle.wire.specs.Fields.{Field, fields}
 use Rattle.wire.specs.Keys.{Key, keyOf}
+use Rattle.wire.specs.Kinds.{bucketRead, bucketNumber, sectorRead, sectorNumber}
 use Rattle.lines.specs.Digits.{decimal, signed, hexadecimal}
 
 -- words parted by blanks, and the line's end
@@ -40,11 +41,12 @@ unfoldable pub rootWords : List ℕ → List (List ℕ)
 rootWords b = (114 ∷ 111 ∷ 111 ∷ 116 ∷ []) ∷ decimal (le 1 b) ∷ []
 
 unfoldable pub takenWords : List ℕ → List (List ℕ)
-takenWords b = (116 ∷ 97 ∷ 107 ∷ 101 ∷ 110 ∷ []) ∷ decimal (le 4 b) ∷ []
+takenWords b = (116 ∷ 97 ∷ 107 ∷ 101 ∷ 110 ∷ []) ∷ decimal (bucketNumber (bucketRead b)) ∷ []
 
 unfoldable pub placedWords : List ℕ → List (List ℕ)
 placedWords b =
-    (112 ∷ 108 ∷ 97 ∷ 99 ∷ 101 ∷ 100 ∷ []) ∷ decimal (le 8 b) ∷ decimal (le 2 (drop 8 b)) ∷ decimal (le 4 (drop 10 b))
+    (112 ∷ 108 ∷ 97 ∷ 99 ∷ 101 ∷ 100 ∷ []) ∷ decimal (sectorNumber (sectorRead b)) ∷ decimal (le 2 (drop 8 b))
+    ∷ decimal (bucketNumber (bucketRead (drop 10 b)))
     ∷ decimal (le 1 (drop 14 b))
     ∷ []
 
@@ -56,7 +58,7 @@ unfoldable pub sectorsWords : List ℕ → List (List ℕ)
 sectorsWords b = (115 ∷ 101 ∷ 99 ∷ 116 ∷ 111 ∷ 114 ∷ 115 ∷ []) ∷ decimal (le 8 b) ∷ []
 
 unfoldable pub unreservedWords : List ℕ → List (List ℕ)
-unreservedWords b = (117 ∷ 110 ∷ 114 ∷ 101 ∷ 115 ∷ 101 ∷ 114 ∷ 118 ∷ 101 ∷ 100 ∷ []) ∷ decimal (le 4 b) ∷ []
+unreservedWords b = (117 ∷ 110 ∷ 114 ∷ 101 ∷ 115 ∷ 101 ∷ 114 ∷ 118 ∷ 101 ∷ 100 ∷ []) ∷ decimal (bucketNumber (bucketRead b)) ∷ []
 
 unfoldable pub endWords : List (List ℕ)
 endWords = (101 ∷ 110 ∷ 100 ∷ []) ∷ []

@@ -20,15 +20,15 @@ use Rattle.calls.specs.Place.{rootMissing, rootsIf, dirtyIn, newAllocKey, spotA
 use Rattle.calls.specs.Answers.{readCall, readVolume}
 use Rattle.reader.specs.Heads.{headIn}
 use Rattle.reader.specs.declared.head.Head.{Head}
-use Rattle.place.specs.Pieces.{bucketsIn}
-use Rattle.place.specs.Plan.{Plan}
+use Rattle.placed.specs.Pieces.{bucketsIn}
+use Rattle.placed.specs.Plan.{Plan}
 use Rattle.place.specs.Change.{placement, keyFields, otherFields}
-use Rattle.place.specs.Tally.{talliesOf}
-use Rattle.place.specs.declared.tally.Tally.{Tally}
-use Rattle.place.specs.declared.tally.Tallies.{Tallies}
+use Rattle.tally.specs.Tally.{talliesOf}
+use Rattle.tally.specs.declared.tally.Tally.{Tally}
+use Rattle.tally.specs.declared.tally.Tallies.{Tallies}
 use Rattle.wire.proofs.EncodeLaws.{encode-append, encode-next, encode-none}
-use Rattle.place.proofs.StepLaws.{bucket-sectors}
-use Rattle.place.proofs.RowLaws.{all-tally, placed-pieces}
+use Rattle.placed.proofs.StepLaws.{bucket-sectors}
+use Rattle.tally.proofs.RowLaws.{all-tally, placed-pieces}
 
 nine : (a b c d e f g h i : List Field) → a ++ b ++ c ++ d ++ e ++ f ++ g ++ h ++ i ++ [] ≡ (a ++ b) ++ (c ++ d ++ e ++ f ++ g ++ h ++ i)
 nine a b c d e f g h i = simp (append-assoc, append-nil)

@@ -35,8 +35,8 @@ use Rattle.choose.proofs.EarlyLaws.{Early}
 use Rattle.choose.proofs.TakenLaws.{walk-in-range}
 use Rattle.place.specs.Called.{Called}
 use Rattle.place.specs.Choice.{Choice, ChosenIs}
-use Rattle.place.specs.Pieces.{bucketsIn}
-use Rattle.place.proofs.StepLaws.{stored-fits}
+use Rattle.placed.specs.Pieces.{bucketsIn}
+use Rattle.placed.proofs.StepLaws.{stored-fits}
 
 -- ---- at most one bucket for each piece
 needed-most : (B i u v : ℕ) (zs : List ℕ) → bucketsNeeded (record { index = i; offset = v } ∷ nextFit B i u zs) ≤ suc i + length zs

@@ -1,14 +1,4 @@
-pub mod BucketLaws
 pub mod CallLaws
 pub mod ChangeLaws
 pub mod ChosenLaws
-pub mod FieldLists
-pub mod FillLaws
-pub mod LayoutLaws
-pub mod PieceLaws
-pub mod QueueLaws
 pub mod ReadLaws
-pub mod RowLaws
-pub mod StepLaws
-pub mod TallyLaws
-pub mod WalkLaws

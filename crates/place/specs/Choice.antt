@@ -10,9 +10,9 @@ use Rattle.calls.specs.Refusals.{verdict}
 use Rattle.reader.specs.declared.head.Head.{Head}
 use Rattle.choose.specs.declared.take.Taken.{Taken}
 use Rattle.choose.specs.declared.take.Taken.the-variants.{Refused, Took}
-use Rattle.place.specs.Pieces.{bucketsIn}
-use Rattle.place.specs.Plan.{Plan}
-use Rattle.place.specs.Queue.{Walk}
+use Rattle.placed.specs.Pieces.{bucketsIn}
+use Rattle.placed.specs.Plan.{Plan}
+use Rattle.placed.specs.Queue.{Walk}
 
 -- the plan for the first of the numbers in a table, with the generations that a list gives
 abbrev pub PlanFor : List ℕ → Head → List ℕ → List ℕ → Type 0

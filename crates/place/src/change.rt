@@ -9,21 +9,21 @@ ghost use Rattle.calls.specs.Lru.{lruWanted};
 ghost use Rattle.calls.specs.ChangeList.{rootField, takenField, sectorsField, changeBytes};
 ghost use Rattle.calls.specs.Place.{rootMissing, rootsIf};
 ghost use Rattle.calls.specs.Answers.{readVolume};
-ghost use Rattle.place.specs.Pieces.{bucketsIn};
-ghost use Rattle.place.specs.Plan.{Plan};
-ghost use Rattle.place.specs.Queue.{Walk};
+ghost use Rattle.placed.specs.Pieces.{bucketsIn};
+ghost use Rattle.placed.specs.Plan.{Plan};
+ghost use Rattle.placed.specs.Queue.{Walk};
 ghost use Rattle.wire.specs.Output.{Emitted};
 ghost use Rattle.place.specs.Change.{placement, keyFields, otherFields};
-use crate::allocs;
-use crate::backpointers;
-use crate::dirty;
-use crate::extents;
-use crate::lru;
-use crate::queue;
-use crate::rows;
-use crate::spots;
-use crate::tally;
+use placed::allocs;
+use placed::backpointers;
+use placed::dirty;
+use placed::extents;
+use placed::lru;
+use placed::queue;
+use placed::spots;
 use reader::head::Head;
+use tally::rows;
+use tally::tally as tallies;
 use wire::emit;
 use wire::kinds::Bucket;
 
@@ -104,7 +104,7 @@ pub fn put_others(
     requires { ⌜ Plan (now s) (now pieces) (now taken) (now gens) h ⌝ }
     ensures { λ r. ⌜ Emitted (now (out .entry)) at (encode (otherFields (placement (now (s .entry))))) (now (out .exit)) r ⌝ }
 {
-    let t = tally::tally_pieces(s, pieces);
+    let t = tallies::tally_pieces(s, pieces);
     let all = t.all;
     let p = put_root(out, at, h.bucket_sectors as u64, all.stored, h.roots);
     let p = put_taken(out, p, taken);

@@ -29,14 +29,14 @@ use Rattle.calls.proofs.BucketLaws.{isIn-those}
 use Rattle.calls.proofs.ReleaseFits.{named-few}
 use Rattle.calls.proofs.ReleaseLaws.{named-range}
 use Rattle.calls.proofs.View.{bucket}
-use Rattle.release.specs.Counting.{keptOf, lostOf}
-use Rattle.release.specs.FieldBytes.{keysBytes, rowsBytes, rootsBytes}
-use Rattle.release.specs.Freeds.{freedsIn, Checked}
-use Rattle.release.specs.Located.{bucketsIn}
+use Rattle.freed.specs.Freeds.{freedsIn, Checked}
+use Rattle.freed.specs.Summing.{Sums, sumOf, summedBuckets, Listed}
+use Rattle.freed.proofs.FoundLaws.{freed-up, found-freed}
+use Rattle.shares.specs.Counting.{keptOf, lostOf}
+use Rattle.shares.specs.FieldBytes.{keysBytes, rowsBytes, rootsBytes}
+use Rattle.shares.specs.Located.{bucketsIn}
+use Rattle.shares.specs.Tables.{Passed, PassedIn}
 use Rattle.release.specs.Outcomes.{Drafted}
-use Rattle.release.specs.Summing.{Sums, sumOf, summedBuckets, Listed}
-use Rattle.release.specs.Tables.{Passed, PassedIn}
-use Rattle.release.proofs.FoundLaws.{freed-up, found-freed}
 
 -- ---- the batch
 empty-is : {A : Type 0} (l : List A) → isEmpty l ≡ eqb (length l) 0

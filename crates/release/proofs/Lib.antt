@@ -1,16 +1,3 @@
-pub mod FreedLaws
-pub mod SumLaws
-pub mod FoundLaws
-pub mod TakeLaws
-pub mod LocatedLaws
-pub mod PlaceLaws
-pub mod RecordLaws
-pub mod RefusalLaws
-pub mod ShareLaws
-pub mod FieldBytesLaws
-pub mod KeyLaws
-pub mod QueueLaws
-pub mod CountLaws
 pub mod BatchLaws
 pub mod TopLaws
 pub mod ReadLaws

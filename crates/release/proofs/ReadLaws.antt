@@ -29,11 +29,11 @@ use Rattle.reader.specs.Readings.{callRefusal, ListRead}
 use Rattle.reader.specs.declared.head.Head.{Head}
 use Rattle.reader.specs.declared.table.Ends.{Ends}
 use Rattle.reader.proofs.PartsLaws.{passed, read-on, read-refused, between, Part, alloc-part, gens-part, freeds-part}
-use Rattle.release.specs.Freeds.{freedsIn, Requested}
-use Rattle.release.specs.Located.{keyFound, keysIn, Keyed}
+use Rattle.freed.specs.Freeds.{freedsIn, Requested}
+use Rattle.freed.specs.Summing.{Cleared}
+use Rattle.shares.specs.Located.{keyFound, keysIn, Keyed}
+use Rattle.shares.proofs.LocatedLaws.{key-is}
 use Rattle.release.specs.Outcomes.{volumeOf}
-use Rattle.release.specs.Summing.{Cleared}
-use Rattle.release.proofs.LocatedLaws.{key-is}
 use Rattle.release.proofs.TopLaws.{zeros-at}
 
 -- ---- what offsets find

@@ -19,13 +19,13 @@ use Rattle.calls.proofs.OutcomeLaws.{answer-next, answer-stops, refused}
 use Rattle.calls.proofs.ReleaseFits.{named-few}
 use Rattle.calls.proofs.ReleaseLaws.{named-range}
 use Rattle.calls.proofs.View.{bucket}
-use Rattle.release.specs.Freeds.{freedsIn, Requested}
-use Rattle.release.specs.Located.{bucketsIn}
+use Rattle.freed.specs.Freeds.{freedsIn, Requested}
+use Rattle.freed.specs.Summing.{Cleared, Listed}
+use Rattle.freed.proofs.FoundLaws.{freed-up}
+use Rattle.shares.specs.Located.{bucketsIn}
+use Rattle.shares.specs.Tables.{PlacesOf, Tabled, Passed}
+use Rattle.shares.proofs.QueueLaws.{age-at}
 use Rattle.release.specs.Outcomes.{Summed, Laid, Drafted, bucketTests}
-use Rattle.release.specs.Summing.{Cleared, Listed}
-use Rattle.release.specs.Tables.{PlacesOf, Tabled, Passed}
-use Rattle.release.proofs.FoundLaws.{freed-up}
-use Rattle.release.proofs.QueueLaws.{age-at}
 use Rattle.release.proofs.BatchLaws.{in-at}
 
 -- numbers of buckets, and the buckets again

@@ -1,10 +1,1 @@
-pub mod Freeds
-pub mod Summing
-pub mod Located
-pub mod Skipping
-pub mod Tables
-pub mod Shares
-pub mod FieldBytes
-pub mod Queueing
-pub mod Counting
 pub mod Outcomes

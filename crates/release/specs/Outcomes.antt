@@ -9,9 +9,9 @@ use Rattle.calls.specs.CallList.{Head, Volume, Freed}
 use Rattle.calls.specs.Lists.{allOf, those}
 use Rattle.calls.specs.Refusals.{verdict}
 use Rattle.calls.specs.Release.{freedOk, freedBuckets, freedIn, isEmptied, bucketRefusal, emptiedGen}
-use Rattle.release.specs.Freeds.{freedsIn, Requested}
-use Rattle.release.specs.Located.{bucketsIn}
-use Rattle.release.specs.Tables.{RecordsOf, Tabled}
+use Rattle.freed.specs.Freeds.{freedsIn, Requested}
+use Rattle.shares.specs.Located.{bucketsIn}
+use Rattle.shares.specs.Tables.{RecordsOf, Tabled}
 
 -- what a release reads of a volume: its head, its alloc keys and its generation records
 abbrev pub volumeOf : Head → List Key → List Key → Volume

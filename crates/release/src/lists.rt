@@ -12,24 +12,23 @@ ghost use Rattle.calls.specs.ChangeList.{batchFields, changeBytes};
 ghost use Rattle.calls.specs.Lists.{allOf};
 ghost use Rattle.calls.specs.Release.{freedOk, freedBuckets, freedIn, releaseTests, releaseBatch};
 ghost use Rattle.reader.specs.Heads.{headIn};
-ghost use Rattle.release.specs.Freeds.{freedsIn, Requested};
-ghost use Rattle.release.specs.Located.{keysIn, Keyed};
+ghost use Rattle.freed.specs.Freeds.{freedsIn, Requested};
+ghost use Rattle.freed.specs.Summing.{Cleared, Listed};
+ghost use Rattle.shares.specs.Located.{keysIn, Keyed};
 ghost use Rattle.release.specs.Outcomes.{volumeOf, Summed, Laid, Drafted, bucketTests};
-ghost use Rattle.release.specs.Summing.{Cleared, Listed};
-use crate::alloc_keys;
-use crate::allocs;
-use crate::bare;
-use crate::counts;
-use crate::lru_keys;
-use crate::queued;
-use crate::records;
-use crate::refusals;
-use crate::requests;
-use crate::roots;
-use crate::shares;
-use crate::sums;
-use crate::user_rows;
+use freed::requests;
+use freed::sums;
 use reader::head::Head;
+use shares::alloc_keys;
+use shares::allocs;
+use shares::bare;
+use shares::counts;
+use shares::lru_keys;
+use shares::queued;
+use shares::records;
+use shares::refusals;
+use shares::roots;
+use shares::user_rows;
 
 // The one batch of a release. The refusals and the tables show what is required, here and below.
 fn free_and_cut(
@@ -151,7 +150,7 @@ fn release_tables(
     }
     let mut gone = [0u32; 1024];
     let mut ages = [0u8; 1024];
-    let m = shares::find_emptied(s, buckets, amounts, places, &mut gone, &mut ages);
+    let m = shares::shares::find_emptied(s, buckets, amounts, places, &mut gone, &mut ages);
     write_change(
         s,
         head,

@@ -103,6 +103,16 @@ fileSectorRead s = record { 0 = le 8 s }
 abbrev pub baseInRange : FileSector → Bool
 baseInRange f = ltb (f .0) (2 ^ 40)
 
+-- the numbers of a kind, for a line of text and for a bound
+abbrev pub bucketNumber : Bucket → ℕ
+bucketNumber b = b .0
+
+abbrev pub sectorNumber : DeviceSector → ℕ
+sectorNumber d = d .0
+
+abbrev pub fileSectorNumber : FileSector → ℕ
+fileSectorNumber f = f .0
+
 -- a device sector in a pointer's offset
 abbrev pub sectorWord : DeviceSector → ℕ
 sectorWord d = d .0

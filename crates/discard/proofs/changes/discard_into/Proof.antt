@@ -3,7 +3,7 @@ use mathlib.Core.Path.{sym}
 use lib.Seq.{length-take-le}
 use native.Mathlib.Omega.{arith}
 use denote.Ref.{now}
-use Rattle.discard.proofs.ChosenLaws.{freed-kept, freed-few}
+use Rattle.waiting.proofs.ChosenLaws.{freed-kept, freed-few}
 use Rattle.discard.proofs.OutcomeLaws.{ready-found, changes-are}
 use borrow.Author.Needs.{needs}
 use Rattle.discard.proofs.changes.discard_into.Statement.{statement}

@@ -5,7 +5,7 @@ use denote.Ref.{now}
 use Prim.Native.Nat.{_≤_, _-_}
 use lib.ListN.{length}
 use Rattle.wire.proofs.OutputLaws.{part-length, wrote-length}
-use Rattle.discard.proofs.OffsetLaws.{all-at}
+use Rattle.waiting.proofs.OffsetLaws.{all-at}
 use Rattle.discard.proofs.RunLaws.{Runs, runs-none, runs-more, runs-all, with-size}
 use Rattle.discard.proofs.runs.put_runs.Statement.{statement}
 use Rattle.discard.proofs.runs.put_runs.Tie as tie

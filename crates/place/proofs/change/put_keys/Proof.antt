@@ -4,9 +4,9 @@ use mathlib.Core.Path.{sym, ap}
 use Rattle.calls.specs.CallList.{Head}
 use Rattle.calls.specs.Place.{placedOf}
 use Rattle.calls.specs.Answers.{readCall, readVolume}
-use Rattle.place.specs.Plan.{AllocsOf}
+use Rattle.placed.specs.Plan.{AllocsOf}
 use Rattle.wire.proofs.EmitLaws.{emitted, and-then}
-use Rattle.place.proofs.StepLaws.{gens-length}
+use Rattle.placed.proofs.StepLaws.{gens-length}
 use Rattle.place.proofs.ChangeLaws.{keys-of, zero-at}
 use borrow.Author.Needs.{needs}
 use Rattle.place.proofs.change.put_keys.Statement.{statement}

@@ -2,11 +2,11 @@
 use mathlib.Core.Path.{sym, ap, _∙_}
 use Rattle.calls.specs.Place.{placedOf}
 use Rattle.calls.specs.Answers.{readCall}
-use Rattle.place.specs.Pieces.{bucketsIn}
-use Rattle.place.specs.Tally.{talliesOf}
+use Rattle.placed.specs.Pieces.{bucketsIn}
+use Rattle.tally.specs.Tally.{talliesOf}
 use Rattle.wire.proofs.EmitLaws.{emitted, and-then}
-use Rattle.place.proofs.StepLaws.{buckets-length}
-use Rattle.place.proofs.RowLaws.{placed-pieces}
+use Rattle.placed.proofs.StepLaws.{buckets-length}
+use Rattle.tally.proofs.RowLaws.{placed-pieces}
 use Rattle.place.proofs.ChangeLaws.{others-of, end-bytes}
 use borrow.Author.Needs.{needs}
 use Rattle.place.proofs.change.put_others.Statement.{statement}

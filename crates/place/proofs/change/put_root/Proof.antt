@@ -7,7 +7,7 @@ use Rattle.wire.proofs.OutputLaws.{field}
 use Rattle.calls.specs.ChangeList.{rootField}
 use Rattle.wire.proofs.EmitLaws.{emitted, nothing}
 use Rattle.wire.proofs.EncodeLaws.{encode-one}
-use Rattle.place.proofs.FieldLists.{fields-none}
+use Rattle.tally.proofs.FieldLists.{fields-none}
 use Rattle.place.proofs.ChangeLaws.{root-full, root-there, root-made}
 use borrow.Author.Needs.{needs}
 use Rattle.place.proofs.change.put_root.Statement.{statement}

@@ -3,7 +3,7 @@ use mathlib.Core.Path.{sym, subst}
 use mathlib.Core.List.{List}
 use Prim.Native.Nat.{ℕ}
 use lib.Seq.{length-take-le}
-use Rattle.place.specs.Plan.{Plan}
+use Rattle.placed.specs.Plan.{Plan}
 use borrow.Author.Needs.{needs}
 use Rattle.place.proofs.place.place_buckets.Statement.{statement}
 use Rattle.place.proofs.place.place_buckets.Tie as tie

@@ -3,7 +3,7 @@ use native.Mathlib.Omega.{arith}
 use mathlib.Core.Path.{refl}
 use lib.ListN.{length, take}
 use Rattle.reader.specs.Heads.{headIn}
-use Rattle.release.specs.Located.{keysIn}
+use Rattle.shares.specs.Located.{keysIn}
 use Rattle.release.specs.Outcomes.{volumeOf, Laid}
 use Rattle.release.proofs.TopLaws.{summed-few, summed-up, tables-made, zeros-at}
 use borrow.Author.Needs.{needs}

@@ -7,8 +7,8 @@ use lib.Seq.{length-take-le}
 use borrow.Author.Tests.{not-true, not-false}
 use Rattle.calls.proofs.ReleaseFits.{named-few}
 use Rattle.reader.specs.Heads.{headIn}
-use Rattle.release.specs.Freeds.{freedsIn}
-use Rattle.release.specs.Located.{keysIn}
+use Rattle.freed.specs.Freeds.{freedsIn}
+use Rattle.shares.specs.Located.{keysIn}
 use Rattle.release.specs.Outcomes.{volumeOf}
 use Rattle.release.proofs.TopLaws.{summed-made, lists-4, lists-14, lists-go, cleared-is}
 use borrow.Author.Needs.{needs}

@@ -6,7 +6,7 @@ use lib.ListN.{length}
 use lib.Seq.{length-take-le}
 use Rattle.calls.specs.CallList.{Head}
 use Rattle.calls.specs.Release.{isEmptied}
-use Rattle.release.specs.Freeds.{freedsIn}
+use Rattle.freed.specs.Freeds.{freedsIn}
 use Rattle.release.proofs.TopLaws.{summed-few, laid-pass, laid-draft, tables-stop, tables-go}
 use Rattle.release.proofs.BatchLaws.{listed-short}
 use borrow.Author.Needs.{needs}

@@ -9,7 +9,7 @@ use Rattle.wire.proofs.EmitLaws.{emitted}
 use Rattle.calls.specs.ChangeList.{changeBytes}
 use Rattle.calls.specs.Release.{releaseBatch}
 use Rattle.calls.proofs.OutcomeLaws.{answer-short, answer-fits, refused, accepted}
-use Rattle.release.specs.Freeds.{freedsIn}
+use Rattle.freed.specs.Freeds.{freedsIn}
 use Rattle.release.proofs.BatchLaws.{one-batch}
 use borrow.Author.Needs.{needs}
 use Rattle.release.proofs.lists.write_change.Statement.{statement}

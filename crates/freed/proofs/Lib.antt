@@ -1,0 +1,4 @@
+pub mod FreedLaws
+pub mod SumLaws
+pub mod FoundLaws
+pub mod TakeLaws

@@ -1,0 +1,2 @@
+pub mod Freeds
+pub mod Summing

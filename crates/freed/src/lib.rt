@@ -1,0 +1,3 @@
+// What the requests of a release free of each bucket.
+pub mod requests;
+pub mod sums;

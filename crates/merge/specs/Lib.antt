@@ -1,0 +1,5 @@
+pub mod Queues
+pub mod Entries
+pub mod Places
+pub mod Weights
+pub mod Merging

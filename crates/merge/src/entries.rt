@@ -1,0 +1,107 @@
+// Where the keys of a section stand: in a volume, and queued in a change list. A reserved bucket is a key at inode 0 and its number.
+ghost use mathlib.Core.Path.{_≡_};
+ghost use Prim.Native.Nat.{_+_, _≤_};
+ghost use lib.ListN.{length};
+ghost use Rattle.merge.specs.Entries.{isBucket, isEntry};
+ghost use Rattle.merge.specs.Places.{Kept, entryFrom, EntryStepped, LeadStepped};
+use wire::bpos;
+use wire::bpos::Bpos;
+use wire::fields;
+use wire::fields::NextField;
+use wire::kinds;
+use wire::positions;
+use wire::walk::NextKey;
+
+// The section of the reserved buckets.
+pub const BUCKETS: u8 = 64;
+
+// Whether a field is a bucket that is reserved, in a volume or by a change list, or unreserved.
+fn is_bucket(tag: u8, len: usize) -> bool
+    ensures { λ r. ⌜ r ≡ isBucket tag len ⌝ }
+{
+    if len != 4 {
+        return false;
+    }
+    if tag == 64 {
+        return true;
+    }
+    if tag == 71 {
+        return true;
+    }
+    tag == 75
+}
+
+// Whether a field with a tag and a length is of a section.
+fn is_entry(section: u8, tag: u8, len: usize) -> bool
+    ensures { λ r. ⌜ r ≡ isEntry section tag len ⌝ }
+{
+    if section == BUCKETS {
+        return is_bucket(tag, len);
+    }
+    if tag != section {
+        return false;
+    }
+    if len < 37 {
+        return false;
+    }
+    len <= 293
+}
+
+// The position of the key whose body starts at o. `next_entry` and `leading_at` show that one does.
+pub fn pos_at(s: &[u8], o: usize, section: u8) -> Bpos
+    requires { ⌜ Kept section (now s) o ⌝ }
+    ensures { λ r. ⌜ r ≡ entryFrom section (now (s .entry)) o .pos ⌝ }
+{
+    if section == BUCKETS {
+        return positions::alloc_at(kinds::read_bucket(s, o));
+    }
+    bpos::read_pos(s, o + 17)
+}
+
+// Its type; a bucket that is unreserved has type 0.
+pub fn type_at(s: &[u8], o: usize, section: u8) -> u8
+    requires { ⌜ Kept section (now s) o ⌝ }
+    ensures { λ r. ⌜ r ≡ entryFrom section (now (s .entry)) o .type ⌝ }
+{
+    if section == BUCKETS {
+        if s[o - 3] == 75 {
+            return 0;
+        }
+        return 1;
+    }
+    s[o]
+}
+
+// The next key of a section from a place on. The place after a key, or 0, shows the bound.
+pub fn next_entry(s: &[u8], from: usize, section: u8) -> NextKey
+    requires { ⌜ from ≤ length (now s) ⌝ }
+    ensures { λ r. ⌜ EntryStepped (now (s .entry)) from section r ⌝ }
+{
+    let mut at = from;
+    loop {
+        let NextField::Found { tag, start, len } = fields::next_field(s, at) else {
+            return NextKey::Stop;
+        };
+        if is_entry(section, tag, len) {
+            return NextKey::Found { start, len };
+        }
+        at = start + len;
+    }
+}
+
+// The key of a section at a place of a volume, if one stands there. The place after a key, or a section's first, shows the bound.
+pub fn leading_at(vol: &[u8], at: usize, section: u8) -> NextKey
+    requires { ⌜ at ≤ length (now vol) ⌝ }
+    ensures { λ r. ⌜ LeadStepped (now (vol .entry)) at section r ⌝ }
+{
+    let NextField::Found { tag, start, len } = fields::next_field(vol, at) else {
+        return NextKey::Stop;
+    };
+    if tag != section {
+        return NextKey::Stop;
+    }
+    if !is_entry(section, tag, len) {
+        return NextKey::Stop;
+    }
+    NextKey::Found { start, len }
+}

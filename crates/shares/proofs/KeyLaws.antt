@@ -1,0 +1,117 @@
+-- The keys that a freed bucket leaves. Assumes nothing.
+use mathlib.Core.Path.{_≡_, sym, ap, _∙_}
+use mathlib.Core.Bool.{Bool, true, false, cond}
+use mathlib.Core.List.{List, [], _∷_, _++_, append-nil}
+use mathlib.Core.Option.{some}
+use Prim.Native.Nat.{ℕ, _+_, _-_, _*_, _/_, _^_, _≤_, _<_}
+use native.Mathlib.Nat.{div-lt-iff-lt-mul}
+use native.Mathlib.Omega.{arith}
+use lib.ListN.{length, drop}
+use lib.Dec.{ltb, eqb}
+use borrow.Author.Tests.{lt-ltb, le-ltb, eq-eqb, ne-eqb}
+use Rattle.wire.specs.Keys.{Key}
+use Rattle.wire.specs.Encode.{encodeField, keyField}
+use Rattle.wire.specs.Positions.{allocAt, needDiscardAt}
+use Rattle.wire.specs.declared.bpos.Bpos.{Bpos}
+use Rattle.wire.specs.declared.kinds.Bucket.{Bucket}
+use Rattle.format.specs.Packing.{get}
+use Rattle.format.specs.Lru.{fragmentation}
+use Rattle.format.specs.AllocV4.{gen, withDirty, emptied, nextGen}
+use Rattle.calls.specs.CallList.{Volume, Freed}
+use Rattle.calls.specs.Lists.{those}
+use Rattle.calls.specs.Lru.{lruKeys, lruDeletions, needDiscardKey}
+use Rattle.calls.specs.Release.{isEmptied, releasedKey, releasedLru, emptiedGen}
+use Rattle.calls.specs.Trees.{lookup, newKey, withValue}
+use Rattle.calls.proofs.View.{bucket}
+use Rattle.freed.proofs.FreedLaws.{Within}
+use Rattle.shares.specs.FieldBytes.{keysBytes}
+use Rattle.shares.specs.Located.{keyFound, KeyThere}
+use Rattle.shares.specs.Shares.{shareOf}
+use Rattle.shares.specs.declared.shares.Share.{Share}
+use Rattle.shares.specs.Tables.{ShareAt}
+use Rattle.shares.proofs.FieldBytesLaws.{keys-append, keys-one, keys-none}
+use Rattle.shares.proofs.LocatedLaws.{place-some, value-there, member-there}
+use Rattle.shares.proofs.RefusalLaws.{value-is}
+use Rattle.shares.proofs.ShareLaws.{Ready}
+
+-- the length of its value
+pub held-short : {s : List ℕ} {at : ℕ} → KeyThere s at → length (keyFound s at .value) ≤ 256
+held-short h = omega (arith, value-there h, h .sized, h .short)
+
+-- a bucket whose share is x is emptied where all of it is freed
+pub emptied-is : (v : Volume) (rs : List Freed) (b : Bucket) (x : Share) → x ≡ shareOf v rs b → isEmptied v rs b ≡ eqb (x .freed) (x .old)
+unfolding isEmptied shareOf
+emptied-is v rs b x e = ap (λ (y : Share). eqb (y .freed) (y .old)) (sym e)
+
+module _ {s : List ℕ} {v : Volume} {rs : List Freed} {b amount place sectors : ℕ} (a : ShareAt s v rs b amount place) (r : Ready s sectors b amount place) where
+  its-key : lookup (allocAt (bucket b)) (v .trees .alloc) ≡ some (keyFound s place)
+  its-key = place-some (a .key) (omega (arith, r .there .after)) .0
+
+  -- its alloc key
+  pub released-is : (x : Share) → x ≡ shareOf v rs (bucket b)
+      → releasedKey v rs (bucket b) ≡ withValue (keyFound s place) (cond (eqb (x .freed) (x .old)) (emptied (v .head .journal) (keyFound s place .value)) (withDirty (x .old - x .freed) (keyFound s place .value)))
+  unfolding releasedKey shareOf isEmptied
+  released-is x e = rw (its-key, value-is v rs (bucket b) (keyFound s place) its-key, ap (λ (y : Share). y .freed) e, ap (λ (y : Share). y .old) e)
+
+  -- the key that the code makes
+  pub released-key : {journal : ℕ} {k : Key} → v .head .journal ≡ journal → (x : Share) → x ≡ shareOf v rs (bucket b)
+      → k ≡ withValue (keyFound s place) (cond (eqb (x .freed) (x .old)) (emptied journal (keyFound s place .value)) (withDirty (x .old - x .freed) (keyFound s place .value)))
+      → k ≡ releasedKey v rs (bucket b)
+  released-key e x i f =
+      f
+      ∙ ap (λ (j : ℕ). withValue (keyFound s place) (cond (eqb (x .freed) (x .old)) (emptied j (keyFound s place .value)) (withDirty (x .old - x .freed) (keyFound s place .value)))) (sym e)
+      ∙ sym (released-is x i)
+
+  -- its generation
+  pub age-is : (n : ℕ) → n ≡ get gen (drop (place + 37) s) → nextGen n ≡ emptiedGen (v .trees) (bucket b)
+  unfolding emptiedGen
+  age-is n e =
+      rw (value-is v rs (bucket b) (keyFound s place) its-key)
+      (ap nextGen (e ∙ member-there (r .there) gen (omega (arith, r .long))))
+
+-- its LRU keys
+pub lru-is : (v : Volume) (rs : List Freed) (b : Bucket) (x : Share) → x ≡ shareOf v rs b → (sectors : ℕ) → v .head .bucketSectors ≡ sectors
+    → lruDeletions sectors (x .bucket) (x .old) ++ cond (eqb (x .freed) (x .old)) [] (lruKeys sectors (x .bucket) (x .old - x .freed)) ≡ releasedLru v rs b
+unfolding releasedLru shareOf isEmptied
+lru-is v rs b x e sectors d = rw (e, ← d)
+
+-- a sector of a piece that refusal 14 passed
+pub sector-low : {sectors : ℕ} {r : Freed} → Within sectors r → 0 < sectors → sectors < 65536 → r .first .0 < 2 ^ 48
+sector-low {sectors} {r} w h l = omega (arith, div-lt-iff-lt-mul h .0 (w .low))
+
+-- ---- keys without a value
+pub wait-is : (journal : ℕ) (b : Bucket) (pos : Bpos) → pos ≡ needDiscardAt journal b → newKey 25 0 pos [] ≡ needDiscardKey journal b
+unfolding needDiscardKey
+wait-is journal b pos e = ap (λ (p : Bpos). newKey 25 0 p []) e
+
+-- ---- LRU keys
+pub lru-none : (dirty sectors : ℕ) (ks : List Key) → sectors ≤ dirty → keysBytes 10 (cond (ltb dirty sectors) ks []) ≡ []
+lru-none dirty sectors ks h = rw (le-ltb dirty sectors h) (keys-none 10)
+
+pub lru-some : (dirty sectors : ℕ) (k : Key) → dirty < sectors → keysBytes 10 (cond (ltb dirty sectors) (k ∷ []) []) ≡ encodeField (keyField 10 k)
+lru-some dirty sectors k h = rw (lt-ltb dirty sectors h) (keys-one 10 k)
+
+-- the index of a bucket that is not full
+pub index-low : (dirty sectors : ℕ) → 0 < sectors → dirty < sectors → fragmentation dirty sectors < 2 ^ 61
+unfolding fragmentation
+index-low dirty sectors h l = let q : dirty * 2 ^ 31 / sectors < 2 ^ 31 = div-lt-iff-lt-mul h .1 (omega arith) in omega arith
+
+pub share-gone : (ds ks : List Key) (f o : ℕ) → f ≡ o → keysBytes 10 (ds ++ cond (eqb f o) [] ks) ≡ keysBytes 10 ds
+share-gone ds ks f o e = rw (eq-eqb f o e, append-nil ds)
+
+pub share-kept : (ds ks : List Key) (f o : ℕ) → (f ≡ o → ⊥) → keysBytes 10 (ds ++ cond (eqb f o) [] ks) ≡ keysBytes 10 ds ++ keysBytes 10 ks
+share-kept ds ks f o e = rw (ne-eqb f o e) (keys-append 10 ds ks)
+
+-- ---- those of which a test holds
+module _ {A : Type 0} (t : A → Bool) where
+  pub those-hit : {l : List A} {x : A} {rest : List A} → l ≡ x ∷ rest → t x ≡ true → those t l ≡ x ∷ those t rest
+  unfolding those
+  those-hit {x = x} {rest = rest} e h = ap (those t) e ∙ ap (λ (b : Bool). cond b (x ∷ those t rest) (those t rest)) h
+
+  pub those-miss : {l : List A} {x : A} {rest : List A} → l ≡ x ∷ rest → t x ≡ false → those t l ≡ those t rest
+  unfolding those
+  those-miss {x = x} {rest = rest} e h = ap (those t) e ∙ ap (λ (b : Bool). cond b (x ∷ those t rest) (those t rest)) h
+
+  pub those-none : {l : List A} → l ≡ [] → those t l ≡ []
+  unfolding those
+  those-none e = ap (those t) e

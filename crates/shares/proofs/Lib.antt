@@ -1,0 +1,9 @@
+pub mod LocatedLaws
+pub mod PlaceLaws
+pub mod RecordLaws
+pub mod RefusalLaws
+pub mod ShareLaws
+pub mod FieldBytesLaws
+pub mod KeyLaws
+pub mod QueueLaws
+pub mod CountLaws

@@ -1,0 +1,162 @@
+-- Generation records that continue one another. Assumes nothing.
+use mathlib.Core.Path.{_≡_, refl, sym, ap, _∙_, subst}
+use mathlib.Core.Bool.{Bool, true, false, cond}
+use mathlib.Core.List.{List, [], _∷_, _++_, map}
+use mathlib.Core.Option.{some}
+use Prim.Native.Nat.{ℕ, zero, suc, _+_, _/_, _≤_, _<_}
+use native.Mathlib.Omega.{arith}
+use lib.ListN.{length, getD, drop}
+use lib.Dec.{eqb}
+use borrow.Author.Tests.{eqb-true, eqb-false, ne-eqb}
+use Rattle.wire.specs.Keys.{Key}
+use Rattle.wire.specs.Order.{cmp}
+use Rattle.wire.specs.Held.{keyIn}
+use Rattle.wire.specs.Kinds.{bucketBelow}
+use Rattle.wire.specs.Encode.{encodeField, keyField}
+use Rattle.wire.specs.Positions.{gensAt, gensByte}
+use Rattle.wire.specs.declared.kinds.Bucket.{Bucket}
+use Rattle.wire.specs.declared.bpos.Bpos.{Bpos}
+use Rattle.wire.specs.Output.{top, Wrote}
+use Rattle.wire.specs.Output.{Emitted}
+use Rattle.wire.proofs.OrderLaws.{pos-cmp}
+use Rattle.wire.proofs.OutputLaws.{Part, begin, turn, put-out}
+use Rattle.wire.proofs.EmitLaws.{done}
+use Rattle.format.specs.Gens.{withGen, noGens}
+use Rattle.calls.specs.Lists.{inOrder}
+use Rattle.calls.specs.Generations.{genRecord, genKey, genQueued}
+use Rattle.calls.specs.Release.{gensQueued}
+use Rattle.calls.specs.Trees.{lookup, newKey}
+use Rattle.calls.proofs.TreeLaws.{onEq-ne}
+use Rattle.calls.proofs.GensLaws.{key-is}
+use Rattle.calls.proofs.View.{bucket}
+use Rattle.shares.specs.FieldBytes.{keysBytes}
+use Rattle.shares.specs.Located.{keyFound, PlaceOf, bucketsIn}
+use Rattle.shares.specs.Queueing.{continued, Next}
+use Rattle.shares.specs.declared.queued.Queued.{Queued}
+use Rattle.shares.specs.Tables.{RecordsOf}
+use Rattle.shares.proofs.FieldBytesLaws.{keys-append, keys-one, keys-none}
+use Rattle.shares.proofs.LocatedLaws.{place-some, place-none}
+use Rattle.shares.proofs.PlaceLaws.{order-at}
+use Rattle.shares.proofs.ShareLaws.{buckets-next, buckets-none}
+
+-- ---- a bucket's record in the tree
+module _ {s records : List ℕ} {gens : List Key} (r : RecordsOf s records gens) (b : Bucket) (h : b .0 < 65536) where
+  its : PlaceOf s (getD records (gensAt b .offset) 0) (genRecord gens b)
+  unfolding genRecord
+  its = r .at (b .0 / 256) (omega arith)
+
+  pub key-new : getD records (gensAt b .offset) 0 ≡ 0 → genKey gens b ≡ newKey 30 0 (gensAt b) noGens
+  unfolding genKey
+  key-new e = rw (place-none its e)
+
+  pub key-old : 0 < getD records (gensAt b .offset) 0 → genKey gens b ≡ keyFound s (getD records (gensAt b .offset) 0)
+  unfolding genKey
+  key-old e = rw (place-some its e .0)
+
+-- a byte past the end changes nothing
+pub aged-past : (b : Bucket) (generation : ℕ) (v : List ℕ) → length v ≤ gensByte b → withGen b generation v ≡ v
+unfolding withGen
+aged-past b generation v h = put-out (generation ∷ []) v (gensByte b) h
+
+-- ---- one more record queued
+queued-type : (records : List Key) (b : Bucket) (generation : ℕ) → genQueued records b generation .type ≡ 30
+unfolding genQueued
+queued-type records b generation = key-is records b .0
+
+queued-at : (records : List Key) (b : Bucket) (generation : ℕ) → genQueued records b generation .pos ≡ gensAt b
+unfolding genQueued
+queued-at records b generation = key-is records b .1
+
+module _ (k : Key) (records : List Key) (b : Bucket) (t : k .type ≡ 30) (p : k .pos ≡ gensAt b) (c : Bucket) where
+  pub same-record : gensAt c ≡ gensAt b → genKey (k ∷ records) c ≡ k
+  unfolding genKey genRecord lookup
+  same-record e = rw (ap (cmp (gensAt c)) (p ∙ sym e), pos-cmp .same (gensAt c), t)
+
+  pub other-record : (gensAt c .offset ≡ gensAt b .offset → ⊥) → genKey (k ∷ records) c ≡ genKey records c
+  unfolding genKey genRecord lookup
+  other-record n =
+      rw (onEq-ne (cmp (gensAt c) (k .pos)) (some k) (lookup (gensAt c) records)
+      (λ e. n (ap (λ (q : Bpos). q .offset) (pos-cmp .eq-path (gensAt c) (k .pos) e ∙ p))))
+
+-- ---- the loop
+-- On its way: the buckets from index k on are left, and their records continue the last one or the tree's.
+pub record Queue (gens : List Key) (age : Bucket → ℕ) (gone out₀ out : List ℕ) (at p k : ℕ) (last : Queued) : Type 0 where
+  pub records : List Key
+  pub part : Part out₀ at (keysBytes 14 (gensQueued age gens (bucketsIn gone))) out p (keysBytes 14 (gensQueued age records (drop k (bucketsIn gone))))
+  pub continues : (j : ℕ) → k ≤ j → j < length gone → genKey records (bucket (getD gone j 0)) ≡ continued gens last (bucket (getD gone j 0))
+  pub ahead : (j : ℕ) → k ≤ j → j < length gone → last .after ≤ getD gone j 0 / 256 + 1
+
+pub queue-starts : (gens : List Key) (age : Bucket → ℕ) (gone out : List ℕ) (at : ℕ) (last : Queued) → length out ≤ top → last .after ≡ 0
+    → Queue gens age gone out out at at 0 last
+queue-starts gens age gone out at last h e =
+    record {
+      records = gens;
+      part = begin out at (keysBytes 14 (gensQueued age gens (bucketsIn gone))) h;
+      continues = λ j l m. rw (ne-eqb (last .after) (getD gone j 0 / 256 + 1) (λ z. omega arith));
+      ahead = λ j l m. omega arith;
+    }
+
+queue-next : (age : Bucket → ℕ) (records : List Key) {l : List Bucket} {b : Bucket} {rest : List Bucket} → l ≡ b ∷ rest
+    → keysBytes 14 (gensQueued age records l) ≡ encodeField (keyField 14 (genQueued records b (age b))) ++ keysBytes 14 (gensQueued age (genQueued records b (age b) ∷ records) rest)
+unfolding gensQueued
+queue-next age records {b = b} {rest = rest} e =
+    ap (λ (l : List Bucket). keysBytes 14 (gensQueued age records l)) e
+    ∙ keys-append 14 (genQueued records b (age b) ∷ []) (gensQueued age (genQueued records b (age b) ∷ records) rest)
+    ∙ ap (λ (x : List ℕ). x ++ keysBytes 14 (gensQueued age (genQueued records b (age b) ∷ records) rest)) (keys-one 14 (genQueued records b (age b)))
+
+module _ {gens : List Key} {age : Bucket → ℕ} {gone out₀ out : List ℕ} {at p k : ℕ} {last : Queued} (q : Queue gens age gone out₀ out at p k last)
+    (o : inOrder bucketBelow (bucketsIn gone) ≡ true) (h : k < length gone) where
+  -- the key that is queued for the next bucket
+  pub queued-is : (generation : ℕ) (next : Queued) → generation ≡ age (bucket (getD gone k 0)) → Next gens last (bucket (getD gone k 0)) generation next
+      → keyIn (next .key) ≡ genQueued (q .records) (bucket (getD gone k 0)) (age (bucket (getD gone k 0)))
+  unfolding genQueued
+  queued-is generation next e n = n .key ∙ rw (q .continues k (omega arith) h, e)
+
+  pub queue-turn : (generation : ℕ) (next : Queued) {m : ℕ} {zs : List ℕ} {r : ℕ} → generation ≡ age (bucket (getD gone k 0))
+      → Next gens last (bucket (getD gone k 0)) generation next → Wrote out p m (encodeField (keyField 14 (keyIn (next .key)))) zs r
+      → Queue gens age gone out₀ zs at r (k + 1) next
+  queue-turn generation next {m} {zs} {r} e n w =
+      let b = bucket (getD gone k 0) in
+      let key = genQueued (q .records) b (age b) in
+      let i = queued-is generation next e n in
+      record {
+        records = key ∷ q .records;
+        part = turn _ (q .part) (queue-next age (q .records) (buckets-next gone k h)) (subst (λ (x : Key). Wrote out p m (encodeField (keyField 14 x)) zs r) i w);
+        continues = λ j l m. go j l m (eqb (next .after) (getD gone j 0 / 256 + 1)) refl;
+        ahead = λ j l m. omega (arith, n .after, order-at gone o k j (omega arith) m);
+      }
+    where
+      go : (j : ℕ) → k + 1 ≤ j → j < length gone → (t : Bool) → eqb (next .after) (getD gone j 0 / 256 + 1) ≡ t
+          → genKey (genQueued (q .records) (bucket (getD gone k 0)) (age (bucket (getD gone k 0))) ∷ q .records) (bucket (getD gone j 0))
+          ≡ cond t (keyIn (next .key)) (genKey gens (bucket (getD gone j 0)))
+      go j l m true d =
+          let b = bucket (getD gone k 0) in
+          let c = bucket (getD gone j 0) in
+          let z : getD gone j 0 / 256 ≡ getD gone k 0 / 256 = omega (arith, n .after, eqb-true (next .after) (getD gone j 0 / 256 + 1) d) in
+          same-record (genQueued (q .records) b (age b)) (q .records) b (queued-type (q .records) b (age b)) (queued-at (q .records) b (age b)) c
+          (ap (λ (x : ℕ). record { inode = 0; offset = x; snapshot = 0 }) z)
+          ∙ sym (queued-is generation next e n)
+      go j l m false d =
+          let b = bucket (getD gone k 0) in
+          let c = bucket (getD gone j 0) in
+          let z = eqb-false (next .after) (getD gone j 0 / 256 + 1) d in
+          let y : getD gone j 0 / 256 ≡ getD gone k 0 / 256 → ⊥ = λ x. z (omega (arith, n .after)) in
+          let u : last .after ≡ getD gone j 0 / 256 + 1 → ⊥ = λ x. omega (arith, y, q .ahead k (omega arith) h, order-at gone o k j (omega arith) m) in
+          other-record (genQueued (q .records) b (age b)) (q .records) b (queued-type (q .records) b (age b)) (queued-at (q .records) b (age b)) c y
+          ∙ q .continues j (omega arith) m
+          ∙ rw (ne-eqb (last .after) (getD gone j 0 / 256 + 1) u)
+
+-- the generation at an index
+pub age-at : (ages gone : List ℕ) (age : Bucket → ℕ) (k : ℕ) → k < length gone → ages ≡ map age (bucketsIn gone) → getD ages k 0 ≡ age (bucket (getD gone k 0))
+age-at ages gone age k h e = ap (λ (l : List ℕ). getD l k 0) e ∙ go gone k h
+  where
+    go : (ns : List ℕ) (k : ℕ) → k < length ns → getD (map age (bucketsIn ns)) k 0 ≡ age (bucket (getD ns k 0))
+    go [] k h = absurd (omega arith)
+    go (n ∷ ns) zero h = refl
+    go (n ∷ ns) (suc k) h = go ns k (omega arith)
+
+pub queue-ends : {gens : List Key} {age : Bucket → ℕ} {gone out₀ out : List ℕ} {at p k : ℕ} {last : Queued} → Queue gens age gone out₀ out at p k last
+    → length gone ≤ k → Emitted out₀ at (keysBytes 14 (gensQueued age gens (bucketsIn gone))) out p
+unfolding gensQueued
+queue-ends {age = age} {gone} {k = k} q h =
+    done (q .part) (ap (λ (l : List Bucket). keysBytes 14 (gensQueued age (q .records) l)) (buckets-none gone k h) ∙ keys-none 14)

@@ -1,0 +1,46 @@
+-- `shares::age_at` meets its contract. Assumes nothing.
+use native.Mathlib.Omega.{arith}
+use mathlib.Core.Path.{_∙_}
+use lib.ListN.{getD}
+use Rattle.shares.proofs.ShareLaws.{Ready, ready}
+use Rattle.shares.proofs.KeyLaws.{age-is}
+use borrow.Author.Needs.{needs}
+use Rattle.shares.proofs.shares.age_at.Statement.{statement}
+use Rattle.shares.proofs.shares.age_at.Tie as tie
+
+-- what the refusals show of the bucket
+its : (c : tie.Start) → Ready (c .args .s .now) (c .pre .0 .volume .head .bucketSectors) (getD (c .args .buckets .now) (c .args .k) 0) (getD (c .args .amounts .now) (c .args .k) 0) (getD (c .args .places .now) (c .args .k) 0)
+its c = ready (c .pre .0) (c .args .k) (c .pre .1)
+
+mul-place : tie.Need-mul-place
+mul-place c = omega (arith, c .before .before .before .before .pre .0 .tabled .keys)
+
+shared-slice-read-place : tie.Need-shared-slice-read-place
+shared-slice-read-place c = omega (arith, c .before .before .before .before .before .pre .0 .tabled .keys)
+
+cast-place : tie.Need-cast-place
+cast-place c = omega (arith, c .shared-slice-known5 .given (c .before .before .before .before .before .args .k))
+
+add-generation : tie.Need-add-generation
+add-generation c = omega (arith, its (c .before .before .before .before .before) .there .within)
+
+generation-requires : tie.Need-generation-requires
+generation-requires c κs = let i = its (c .before .before .before .before .before) in omega (arith, i .there .within, i .there .sized, i .long)
+
+next-gen-requires : tie.Need-next-gen-requires
+next-gen-requires c κs = search needs
+
+returns : tie.Need-returns
+returns c = λ v rs t. let a = c .before .before .before .before .before .before .before in c .next-gen .ensures ∙ age-is (t .at (a .args .k) (a .pre .1)) (its a) _ (c .before .generation .ensures)
+
+pub age-at-spec : {M : Type 1} → statement M
+age-at-spec =
+    tie.close
+    (tie.spec
+    mul-place
+    shared-slice-read-place
+    cast-place
+    add-generation
+    generation-requires
+    next-gen-requires
+    returns)

@@ -1,0 +1,65 @@
+-- `shares::share_at` meets its contract. Assumes nothing.
+use native.Mathlib.Omega.{arith}
+use mathlib.Core.Path.{_∙_}
+use lib.ListN.{getD}
+use Rattle.format.specs.AllocV4.{dirtySectors}
+use Rattle.shares.proofs.LocatedLaws.{member-there}
+use Rattle.shares.proofs.ShareLaws.{Ready, ready, share-is}
+use borrow.Author.Needs.{needs}
+use Rattle.shares.proofs.shares.share_at.Statement.{statement}
+use Rattle.shares.proofs.shares.share_at.Tie as tie
+
+-- what the refusals show of the bucket
+its : (c : tie.Start) → Ready (c .args .s .now) (c .pre .0 .volume .head .bucketSectors) (getD (c .args .buckets .now) (c .args .k) 0) (getD (c .args .amounts .now) (c .args .k) 0) (getD (c .args .places .now) (c .args .k) 0)
+its c = ready (c .pre .0) (c .args .k) (c .pre .1)
+
+mul-place : tie.Need-mul-place
+mul-place c = omega (arith, c .before .before .before .before .pre .0 .tabled .keys)
+
+shared-slice-read-place : tie.Need-shared-slice-read-place
+shared-slice-read-place c = omega (arith, c .before .before .before .before .before .pre .0 .tabled .keys)
+
+cast-place : tie.Need-cast-place
+cast-place c = omega (arith, c .shared-slice-known5 .given (c .before .before .before .before .before .args .k))
+
+mul-t7 : tie.Need-mul-t7
+mul-t7 c = search needs
+
+shared-slice-read-t9 : tie.Need-shared-slice-read-t9
+shared-slice-read-t9 c = search needs
+
+cast-t11 : tie.Need-cast-t11
+cast-t11 c = omega (arith, c .shared-slice-known6 .given (c .before .before .before .before .before .before .args .k))
+
+add-dirty-sectors : tie.Need-add-dirty-sectors
+add-dirty-sectors c = omega (arith, its (c .before .before .before .before .before .before) .there .within)
+
+dirty-sectors-requires : tie.Need-dirty-sectors-requires
+dirty-sectors-requires c κs =
+    let i = its (c .before .before .before .before .before .before) in
+    omega (arith, i .there .within, i .there .sized, i .long)
+
+mul-t15 : tie.Need-mul-t15
+mul-t15 c = omega (arith, c .before .before .before .before .before .before .before .pre .0 .tabled .sums)
+
+shared-slice-read-t17 : tie.Need-shared-slice-read-t17
+shared-slice-read-t17 c = omega (arith, c .before .before .before .before .before .before .before .before .pre .0 .tabled .sums)
+
+returns : tie.Need-returns
+returns c = λ v rs t. let a = c .before .before .before .before .before .before .before .before in share-is (t .at (a .args .k) (a .pre .1)) (its a) (c .before .dirty-sectors .ensures ∙ member-there (its a .there) dirtySectors (omega (arith, its a .long)))
+
+pub share-at-spec : {M : Type 1} → statement M
+share-at-spec =
+    tie.close
+    (tie.spec
+    mul-place
+    shared-slice-read-place
+    cast-place
+    mul-t7
+    shared-slice-read-t9
+    cast-t11
+    add-dirty-sectors
+    dirty-sectors-requires
+    mul-t15
+    shared-slice-read-t17
+    returns)

@@ -1,0 +1,7 @@
+pub mod Located
+pub mod Skipping
+pub mod Tables
+pub mod Shares
+pub mod FieldBytes
+pub mod Queueing
+pub mod Counting

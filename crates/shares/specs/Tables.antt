@@ -1,0 +1,60 @@
+-- The tables of a release: the place of each freed bucket's alloc key, and of each generation record.
+use mathlib.Core.Path.{_≡_}
+use Prim.Native.Nat.{ℕ, _<_}
+use mathlib.Core.List.{List, map}
+use lib.ListN.{length, getD}
+use Rattle.wire.specs.Keys.{Key}
+use Rattle.wire.specs.Positions.{allocAt}
+use Rattle.calls.specs.CallList.{Volume, Freed}
+use Rattle.calls.specs.Trees.{lookup}
+use Rattle.calls.specs.Generations.{ofType30}
+use Rattle.calls.specs.Refusals.{verdict}
+use Rattle.calls.specs.Release.{freedBuckets, freedIn, bucketRefusal}
+use Rattle.shares.specs.Located.{PlaceOf, bucketsIn}
+
+-- the alloc key of each bucket
+pub record PlacesOf (s buckets places : List ℕ) (alloc : List Key) : Type 0 where
+  pub count : length places ≡ length buckets
+  pub at : (i : ℕ) → i < length buckets → PlaceOf s (getD places i 0) (lookup (allocAt (record { 0 = getD buckets i 0 })) alloc)
+
+-- the generation record at each of 256 offsets
+pub record RecordsOf (s records : List ℕ) (gens : List Key) : Type 0 where
+  pub count : length records ≡ 256
+  pub at : (o : ℕ) → o < 256 → PlaceOf s (getD records o 0) (ofType30 (lookup (record { inode = 0; offset = o; snapshot = 0 }) gens))
+
+-- the records of some tree
+pub record Recorded (s records : List ℕ) : Type 0 where
+  pub gens : List Key
+  pub are : RecordsOf s records gens
+
+-- what the tables say of a freed bucket: its sum, and the place of its alloc key
+pub record ShareAt (s : List ℕ) (v : Volume) (rs : List Freed) (b amount place : ℕ) : Type 0 where
+  pub low : b < 65536
+  pub freed : amount ≡ freedIn (v .head .bucketSectors) rs (record { 0 = b })
+  pub key : PlaceOf s place (lookup (allocAt (record { 0 = b })) (v .trees .alloc))
+
+-- the tables hold the freed buckets of a volume and its requests
+pub record Tabled (s : List ℕ) (v : Volume) (rs : List Freed) (buckets amounts places : List ℕ) : Type 0 where
+  pub named : bucketsIn buckets ≡ freedBuckets (v .head .bucketSectors) rs
+  pub sums : length amounts ≡ length buckets
+  pub keys : length places ≡ length buckets
+  pub at : (i : ℕ) → i < length buckets → ShareAt s v rs (getD buckets i 0) (getD amounts i 0) (getD places i 0)
+
+-- they hold those of some volume and requests
+pub record Known (s buckets amounts places records : List ℕ) : Type 0 where
+  pub volume : Volume
+  pub requests : List Freed
+  pub tabled : Tabled s volume requests buckets amounts places
+  pub recorded : RecordsOf s records (volume .trees .gens)
+
+-- those of some volume and requests that no bucket refuses
+pub record Passed (s buckets amounts places : List ℕ) : Type 0 where
+  pub volume : Volume
+  pub requests : List Freed
+  pub tabled : Tabled s volume requests buckets amounts places
+  pub passed : verdict (map (bucketRefusal volume requests) (freedBuckets (volume .head .bucketSectors) requests)) ≡ 0
+
+-- where a bucket has so many sectors
+pub record PassedIn (s : List ℕ) (sectors : ℕ) (buckets amounts places : List ℕ) : Type 0 where
+  pub pass : Passed s buckets amounts places
+  pub size : pass .volume .head .bucketSectors ≡ sectors

@@ -1,0 +1,93 @@
+// Tree 4: the alloc key of each freed bucket, with what is left of it.
+ghost use mathlib.Core.Path.{_≡_};
+ghost use mathlib.Core.Bool.{cond};
+ghost use mathlib.Core.List.{List, map};
+ghost use Prim.Native.Nat.{_-_, _≤_};
+ghost use lib.ListN.{drop};
+ghost use lib.Dec.{eqb};
+ghost use Rattle.wire.specs.Numbers.{le};
+ghost use Rattle.wire.specs.Held.{valueIn, keyIn};
+ghost use Rattle.wire.specs.Output.{Emitted};
+ghost use Rattle.format.specs.AllocV4.{withDirty, emptied};
+ghost use Rattle.calls.specs.CallList.{Volume, Freed};
+ghost use Rattle.calls.specs.Release.{freedBuckets, releasedKey};
+ghost use Rattle.calls.specs.Trees.{withValue};
+ghost use Rattle.shares.specs.FieldBytes.{keysBytes};
+ghost use Rattle.shares.specs.Located.{keyFound, KeyThere};
+ghost use Rattle.shares.specs.Tables.{Tabled, Passed};
+use crate::located;
+use crate::shares;
+use crate::shares::Share;
+use format::alloc;
+use wire::emit_key;
+use wire::keys::Bkey;
+use wire::keys::Value;
+
+// A key with another value.
+pub fn with_value(k: Bkey, value: Value) -> Bkey
+    ensures { λ r. ⌜ (r .value ≡ value) × (keyIn r ≡ withValue (keyIn k) (valueIn value)) ⌝ }
+{
+    let pos = k.pos;
+    Bkey {
+        key_type: k.key_type,
+        size: k.size,
+        version_hi: k.version_hi,
+        version_lo: k.version_lo,
+        pos,
+        value,
+    }
+}
+
+// The alloc key of a bucket that is emptied. Refusal 16 shows the length, here and below.
+fn empty_bucket(k: Bkey, journal: u64) -> Bkey
+    requires { ⌜ (56 ≤ k .value .len) × (k .value .len ≤ 256) ⌝ }
+    ensures { λ r. ⌜ (r .value .len ≤ 256) × (keyIn r ≡ withValue (keyIn k) (emptied journal (valueIn (k .value)))) ⌝ }
+{
+    let value = k.value;
+    with_value(k, alloc::emptied(value, journal))
+}
+
+// The alloc key of a bucket of which a part is freed.
+fn free_part(k: Bkey, left: u32) -> Bkey
+    requires { ⌜ (56 ≤ k .value .len) × (k .value .len ≤ 256) ⌝ }
+    ensures { λ r. ⌜ (r .value .len ≤ 256) × (keyIn r ≡ withValue (keyIn k) (withDirty left (valueIn (k .value)))) ⌝ }
+{
+    let value = k.value;
+    with_value(k, alloc::with_dirty(value, left))
+}
+
+// The alloc key at a place after a share of its bucket is freed. Refusal 18 shows that it holds what is freed.
+fn freed_key(s: &[u8], place: usize, share: Share, journal: u64) -> Bkey
+    requires { ⌜ KeyThere (now s) place × (93 ≤ le 2 (drop (place - 2) (now s))) × (share .freed ≤ share .old) ⌝ }
+    ensures { λ r. ⌜ (r .value .len ≤ 256) × (keyIn r ≡ withValue (keyFound (now (s .entry)) place) (cond (eqb (share .freed) (share .old)) (emptied journal (keyFound (now (s .entry)) place .value)) (withDirty (share .old - share .freed) (keyFound (now (s .entry)) place .value)))) ⌝ }
+{
+    let k = located::key_at(s, place);
+    if share.freed == share.old {
+        return empty_bucket(k, journal);
+    }
+    free_part(k, share.old - share.freed)
+}
+
+// The keys of all freed buckets. The refusals show that they are there.
+pub fn put_allocs(
+    s: &[u8],
+    journal: u64,
+    buckets: &[u32],
+    amounts: &[u32],
+    places: &[u32],
+    out: &mut [u8],
+    at: usize,
+) -> usize
+    requires { ⌜ Passed (now s) (now buckets) (now amounts) (now places) ⌝ }
+    ensures { λ r. ⌜ ((v : Volume) (rs : List Freed) → Tabled (now (s .entry)) v rs (now (buckets .entry)) (now (amounts .entry)) (now (places .entry)) → v .head .journal ≡ journal → Emitted (now (out .entry)) at (keysBytes 4 (map (releasedKey v rs) (freedBuckets (v .head .bucketSectors) rs))) (now (out .exit)) r) ⌝ }
+{
+    let mut p = at;
+    let mut k: usize = 0;
+    while k < buckets.len() {
+        let share = shares::share_at(s, buckets, amounts, places, k);
+        let key = freed_key(s, places[k] as usize, share, journal);
+        p = emit_key::put_key(out, p, 4, key);
+        k += 1;
+    }
+    p
+}

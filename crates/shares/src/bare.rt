@@ -1,0 +1,65 @@
+// Keys without a value.
+ghost use mathlib.Core.List.{[], map};
+ghost use Prim.Native.Nat.{_<_};
+ghost use Rattle.wire.specs.Output.{Wrote, Emitted};
+ghost use Rattle.wire.specs.Encode.{encodeField, keyField};
+ghost use Rattle.wire.specs.Positions.{backpointerAt};
+ghost use Rattle.calls.specs.Trees.{newKey, deletion};
+ghost use Rattle.calls.specs.Lru.{needDiscardKey};
+ghost use Rattle.freed.specs.Freeds.{freedsIn, Requested, Checked};
+ghost use Rattle.shares.specs.Located.{bucketsIn};
+ghost use Rattle.shares.specs.FieldBytes.{keysBytes};
+use freed::requests;
+use wire::bpos::Bpos;
+use wire::emit_key;
+use wire::keys::KeyHead;
+use wire::kinds::Bucket;
+use wire::positions;
+
+// A new key without a value, or a deletion.
+pub fn put_bare_key(out: &mut [u8], at: usize, tree: u8, ty: u8, pos: Bpos) -> usize
+    ensures { λ r. ⌜ Wrote (now (out .entry)) at 40 (encodeField (keyField tree (newKey ty 0 pos []))) (now (out .exit)) r ⌝ }
+{
+    emit_key::put_bare_key(
+        out,
+        at,
+        tree,
+        KeyHead {
+            key_type: ty,
+            size: 0,
+            version_hi: 0,
+            version_lo: 0,
+            pos,
+        },
+    )
+}
+
+// Tree 12: a key for each emptied bucket.
+pub fn put_need_discards(journal: u64, gone: &[u32], out: &mut [u8], at: usize) -> usize
+    ensures { λ r. ⌜ Emitted (now (out .entry)) at (keysBytes 12 (map (needDiscardKey journal) (bucketsIn (now (gone .entry))))) (now (out .exit)) r ⌝ }
+{
+    let mut p = at;
+    let mut k: usize = 0;
+    while k < gone.len() {
+        let pos = positions::need_discard_at(journal, Bucket(gone[k] as u64));
+        p = put_bare_key(out, p, 12, 25, pos);
+        k += 1;
+    }
+    p
+}
+
+// Tree 13: a deletion for each request, in their order. Refusal 14 shows that sectors are low enough.
+pub fn put_backpointers(s: &[u8], requests: &[u32], out: &mut [u8], at: usize) -> usize
+    requires { ⌜ Requested (now s) (now requests) × Checked (now s) (now requests) ⌝ }
+    ensures { λ r. ⌜ Emitted (now (out .entry)) at (keysBytes 13 (map (λ x. deletion (backpointerAt (x .first))) (freedsIn (now (s .entry)) (now (requests .entry))))) (now (out .exit)) r ⌝ }
+{
+    let mut p = at;
+    let mut i: usize = 0;
+    while i < requests.len() {
+        let r = requests::freed_at(s, requests, i);
+        let first = r.first;
+        p = put_bare_key(out, p, 13, 0, positions::backpointer_at(first));
+        i += 1;
+    }
+    p
+}

@@ -1,0 +1,13 @@
+// Each freed bucket's share of a release: the tests of it, its keys and rows; and empty_bucket.
+pub mod alloc_keys;
+pub mod allocs;
+pub mod bare;
+pub mod counts;
+pub mod located;
+pub mod lru_keys;
+pub mod queued;
+pub mod records;
+pub mod refusals;
+pub mod roots;
+pub mod shares;
+pub mod user_rows;

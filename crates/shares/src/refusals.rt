@@ -1,0 +1,86 @@
+// Refusals 15 to 19: the lowest bucket, then the lowest number in it.
+ghost use mathlib.Core.Path.{_≡_};
+ghost use mathlib.Core.List.{List, map};
+ghost use Prim.Native.Nat.{_<_};
+ghost use Rattle.wire.specs.Keys.{Key};
+ghost use Rattle.calls.specs.CallList.{Volume, Freed};
+ghost use Rattle.calls.specs.Generations.{genShort};
+ghost use Rattle.calls.specs.Refusals.{verdict};
+ghost use Rattle.calls.specs.Release.{freedBuckets, bucketRefusal};
+ghost use Rattle.shares.specs.Located.{Standing};
+ghost use Rattle.shares.specs.Tables.{RecordsOf, Recorded, ShareAt, Tabled, Known};
+use crate::located;
+use format::alloc;
+use wire::kinds::Bucket;
+use wire::positions;
+
+// Whether a bucket's generation record is too short for its byte. The tables show what is required, here and below.
+fn gen_short(s: &[u8], records: &[u32], b: Bucket) -> bool
+    requires { ⌜ Recorded (now s) (now records) × (b .0 < 65536) ⌝ }
+    ensures { λ r. ⌜ ((gens : List Key) → RecordsOf (now (s .entry)) (now (records .entry)) gens → r ≡ genShort gens b) ⌝ }
+{
+    let p = positions::gens_at(b);
+    let o = p.offset as usize;
+    let at = records[o] as usize;
+    if at == 0 {
+        return false;
+    }
+    located::body_len(s, at) - 37 <= positions::gens_byte(b)
+}
+
+// 15 to 19 at a bucket.
+fn bucket_refusal(
+    s: &[u8],
+    sectors: u64,
+    records: &[u32],
+    b: Bucket,
+    amount: u32,
+    place: usize,
+) -> u32
+    requires { ⌜ Recorded (now s) (now records) × Standing (now s) place × (b .0 < 65536) ⌝ }
+    ensures { λ r. ⌜ ((v : Volume) (rs : List Freed) → ShareAt (now (s .entry)) v rs (b .0) amount place → RecordsOf (now (s .entry)) (now (records .entry)) (v .trees .gens) → v .head .bucketSectors ≡ sectors → r ≡ bucketRefusal v rs b) ⌝ }
+{
+    if place == 0 {
+        return 15;
+    }
+    if located::body_len(s, place) < 93 {
+        return 16;
+    }
+    let dirty = alloc::dirty_sectors(s, place + 37);
+    if sectors < dirty as u64 {
+        return 17;
+    }
+    if dirty < amount {
+        return 18;
+    }
+    if dirty == amount {
+        if gen_short(s, records, b) {
+            return 19;
+        }
+    }
+    0
+}
+
+// 15 to 19 over the freed buckets, which ascend.
+pub fn refuse(
+    s: &[u8],
+    sectors: u64,
+    buckets: &[u32],
+    amounts: &[u32],
+    places: &[u32],
+    records: &[u32],
+) -> u32
+    requires { ⌜ Known (now s) (now buckets) (now amounts) (now places) (now records) ⌝ }
+    ensures { λ r. ⌜ ((v : Volume) (rs : List Freed) → Tabled (now (s .entry)) v rs (now (buckets .entry)) (now (amounts .entry)) (now (places .entry)) → RecordsOf (now (s .entry)) (now (records .entry)) (v .trees .gens) → v .head .bucketSectors ≡ sectors → r ≡ verdict (map (bucketRefusal v rs) (freedBuckets sectors rs))) ⌝ }
+{
+    let mut k: usize = 0;
+    while k < buckets.len() {
+        let b = Bucket(buckets[k] as u64);
+        let n = bucket_refusal(s, sectors, records, b, amounts[k], places[k] as usize);
+        if n != 0 {
+            return n;
+        }
+        k += 1;
+    }
+    0
+}

@@ -1,0 +1,4 @@
+pub mod FieldLists
+pub mod PieceLaws
+pub mod RowLaws
+pub mod TallyLaws

@@ -1,0 +1,115 @@
+-- Which alloc keys are discarded: each test of a key, and the offsets of those that pass. Assumes nothing.
+use Prim.Native.Nat.{ℕ, _+_, _≤_, _<_}
+use mathlib.Core.Path.{_≡_, refl, sym, ap, _∙_}
+use mathlib.Core.Bool.{Bool, true, false, not, _&&_, cond, and-false}
+use mathlib.Core.List.{List, [], _∷_, _++_, append-nil}
+use native.Mathlib.Omega.{arith}
+use native.Mathlib.Numerals.{add-one}
+use lib.Dec.{leb, ltb, eqb}
+use lib.ListN.{length, getD, set, take, drop}
+use lib.Seq.{take-suc, take-length, take-suc-set}
+use borrow.Author.Tests.{eq-eqb, ne-eqb, le-leb, lt-leb, eqb-true, leb-true}
+use Rattle.wire.specs.Bytes.{All}
+use Rattle.format.specs.Packing.{get}
+use Rattle.format.specs.AllocV4.{gen, dataType}
+use Rattle.calls.specs.Lists.{those, isNone}
+use Rattle.calls.specs.Limits.{atInode0}
+use Rattle.calls.specs.Discard.{waitingKey, genTaken, isDiscarded}
+use Rattle.calls.proofs.BoolLaws.{parts}
+use Rattle.calls.proofs.AllLaws.{all-imp, all-chosen, those-length}
+use Rattle.waiting.specs.Offsets.{sizeAt, keyFrom, keysFrom, bucketFrom, Kept, AllocKept, FreedKept}
+use Rattle.waiting.specs.Chosen.{isFreed, freedFrom, ifChosen}
+use Rattle.waiting.proofs.OffsetLaws.{value-size, value-get}
+
+pub taken-is : (s : List ℕ) (at : ℕ) {g : ℕ} → g ≡ get gen (drop at s) → ltb g 16 ≡ genTaken (drop at s)
+unfolding genTaken
+taken-is s at e = rw e
+
+module _ {s : List ℕ} (needs : List ℕ) {o : ℕ} (h : Kept s o) where
+  pub other-type : (keyFrom s o .type ≡ 27 → ⊥) → false ≡ isFreed s needs o
+  unfolding isDiscarded
+  other-type e = simp (ne-eqb (keyFrom s o .type) 27 e)
+
+  pub other-inode : (keyFrom s o .pos .inode ≡ 0 → ⊥) → false ≡ isFreed s needs o
+  unfolding isDiscarded
+  other-inode e = simp (ne-eqb (keyFrom s o .pos .inode) 0 e, and-false)
+
+  pub short-value : sizeAt s o < 93 → false ≡ isFreed s needs o
+  unfolding isDiscarded
+  short-value l = simp (lt-leb 56 (length (keyFrom s o .value)) (omega (arith, value-size h)), and-false)
+
+  module _ (l : 93 ≤ sizeAt s o) where
+    type-get : {d : ℕ} → d ≡ get dataType (drop (o + 37) s) → get dataType (keyFrom s o .value) ≡ d
+    type-get e = sym (e ∙ value-get h dataType (omega arith))
+
+    gen-get : {g : Bool} → g ≡ genTaken (drop (o + 37) s) → genTaken (keyFrom s o .value) ≡ g
+    unfolding genTaken
+    gen-get e = sym (e ∙ ap (λ (x : ℕ). ltb x 16) (value-get h gen (omega arith)))
+
+    pub other-data : {d : ℕ} → d ≡ get dataType (drop (o + 37) s) → (d ≡ 9 → ⊥) → false ≡ isFreed s needs o
+    unfolding isDiscarded
+    other-data e n = simp (type-get e, ne-eqb _ 9 n, and-false)
+
+    pub gen-left : {g : Bool} → g ≡ genTaken (drop (o + 37) s) → g ≡ false → false ≡ isFreed s needs o
+    unfolding isDiscarded
+    gen-left e n = simp (gen-get e, n, and-false)
+
+    pub all-passed : {d : ℕ} {g w : Bool} → keyFrom s o .type ≡ 27 → keyFrom s o .pos .inode ≡ 0 → d ≡ get dataType (drop (o + 37) s)
+        → d ≡ 9 → g ≡ genTaken (drop (o + 37) s) → g ≡ true → w ≡ not (isNone (waitingKey (keysFrom s needs) (bucketFrom s o)))
+        → w ≡ isFreed s needs o
+    unfolding isDiscarded
+    all-passed t i e d f g w =
+        w ∙ sym (simp (eq-eqb (keyFrom s o .type) 27 t, eq-eqb (keyFrom s o .pos .inode) 0 i, le-leb 56 (length (keyFrom s o .value)) (omega (arith, value-size h)), type-get e, eq-eqb _ 9 d, gen-get f, g))
+
+-- one element more
+pub those-more : {A : Type 0} (t : A → Bool) (xs : List A) (x : A) → those t (xs ++ x ∷ []) ≡ those t xs ++ cond (t x) (x ∷ []) []
+unfolding those
+those-more t [] x = refl
+those-more t (y ∷ xs) x = rw (those-more t xs x) (go (t y))
+  where
+    go : (b : Bool)
+        → cond b (y ∷ (those t xs ++ cond (t x) (x ∷ []) [])) (those t xs ++ cond (t x) (x ∷ []) [])
+        ≡ cond b (y ∷ those t xs) (those t xs) ++ cond (t x) (x ∷ []) []
+    go true = refl
+    go false = refl
+
+pub chosen-more : (s needs alloc : List ℕ) (i : ℕ) {c : Bool} {l m : List ℕ} → i < length alloc → c ≡ isFreed s needs (getD alloc i 0)
+    → l ≡ freedFrom s needs (take i alloc) → m ≡ l ++ ifChosen c (getD alloc i 0) → m ≡ freedFrom s needs (take (i + 1) alloc)
+chosen-more s needs alloc i h e f g =
+    g ∙ rw (add-one, take-suc alloc i 0 h, e, f) (sym (those-more (isFreed s needs) (take i alloc) (getD alloc i 0)))
+
+pub chosen-none : (s needs alloc freed : List ℕ) → take 0 freed ≡ freedFrom s needs (take 0 alloc)
+unfolding those
+chosen-none s needs alloc freed = refl
+
+pub chosen-all : (s needs alloc : List ℕ) (i : ℕ) {l : List ℕ} → i ≡ length alloc → l ≡ freedFrom s needs (take i alloc)
+    → l ≡ freedFrom s needs alloc
+chosen-all s needs alloc i e f = rw (e, take-length alloc) at f
+
+-- what is chosen is what the batches want of it
+pub freed-kept : {s : List ℕ} (needs : List ℕ) {alloc : List ℕ} → All (AllocKept s) alloc → All (FreedKept s) (freedFrom s needs alloc)
+unfolding isDiscarded
+freed-kept {s} needs a =
+    all-imp
+    (λ (o : ℕ) (h : (isFreed s needs o ≡ true) × AllocKept s o).
+    let k = keyFrom s o in
+    let p = parts (eqb (k .type) 27 && atInode0 k) _ (h .0) in
+    let z = parts (eqb (k .type) 27) (atInode0 k) (p .0) in
+    let q = parts (leb 56 (length (k .value))) _ (p .1) in
+    record {
+      kept = h .1 .kept;
+      below = h .1 .below (eqb-true (k .pos .inode) 0 (z .1));
+      valued = omega (arith, value-size (h .1 .kept), leb-true 56 (length (k .value)) (q .0));
+    })
+    (all-chosen (isFreed s needs) a)
+
+-- no more are chosen than there are
+pub freed-few : (s needs alloc : List ℕ) {l : List ℕ} {n : ℕ} → l ≡ freedFrom s needs alloc → length alloc ≤ n → length l ≤ n
+freed-few s needs alloc e h = omega (arith, ap length e, those-length (isFreed s needs) alloc)
+
+-- an offset behind n others
+pub put-chosen : (freed : List ℕ) (n o : ℕ) {c : Bool} → n < length freed → c ≡ true → take (n + 1) (set freed n o) ≡ take n freed ++ ifChosen c o
+put-chosen freed n o h e = rw (e, add-one, take-suc-set freed n o h)
+
+pub put-other : (freed : List ℕ) (n o : ℕ) {c : Bool} → c ≡ false → take n freed ≡ take n freed ++ ifChosen c o
+put-other freed n o e = rw (e, append-nil)

@@ -1,0 +1,3 @@
+pub mod OffsetLaws
+pub mod TableLaws
+pub mod ChosenLaws

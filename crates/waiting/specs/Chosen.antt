@@ -1,0 +1,25 @@
+-- Which alloc keys are discarded, as offsets.
+use Prim.Native.Nat.{ℕ}
+use mathlib.Core.List.{List, [], _∷_}
+use mathlib.Core.Bool.{Bool, cond}
+use Rattle.calls.specs.Lists.{those}
+use Rattle.calls.specs.CallList.{Trees}
+use Rattle.calls.specs.Discard.{isDiscarded}
+use Rattle.waiting.specs.Offsets.{keyFrom, keysFrom}
+
+-- what a discard looks at beside an alloc key: the need-discard keys alone
+abbrev pub needTrees : List ℕ → List ℕ → Trees
+needTrees s needs =
+    record { alloc = []; lru = []; freespace = []; needDiscard = keysFrom s needs; backpointers = []; gens = [] }
+
+-- the alloc key at an offset is discarded
+abbrev pub isFreed : List ℕ → List ℕ → ℕ → Bool
+isFreed s needs o = isDiscarded (needTrees s needs) (keyFrom s o)
+
+-- the offsets of those that are, in alloc order
+abbrev pub freedFrom : List ℕ → List ℕ → List ℕ → List ℕ
+freedFrom s needs alloc = those (isFreed s needs) alloc
+
+-- an offset where it is chosen
+abbrev pub ifChosen : Bool → ℕ → List ℕ
+ifChosen chosen o = cond chosen (o ∷ []) []

@@ -1,0 +1,3 @@
+pub mod Offsets
+pub mod Table
+pub mod Chosen

@@ -1,0 +1,4 @@
+// Waiting: which buckets that wait are discarded, by their need-discard and alloc keys.
+pub mod found;
+pub mod freed;
+pub mod waiting;
