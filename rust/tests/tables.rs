@@ -31,7 +31,11 @@ fn padded(list: &CallList, len: usize) -> Vec<u8> {
     while left > 0 {
         let most = left.min(LEAST + VALUE_MAX);
         let rest = left - most;
-        let take = if rest > 0 && rest < LEAST { most - LEAST } else { most };
+        let take = if rest > 0 && rest < LEAST {
+            most - LEAST
+        } else {
+            most
+        };
         let mut key = Key::at(1, 1 << 40, left as u64);
         key.value = vec![7; take - LEAST];
         l.insert(LRU, key);
@@ -48,7 +52,11 @@ fn short_and_long_lists() {
             let list = timed::list(call, Volume::Bare, count);
             let due = answer(call, &list.bytes());
             for len in [SHORT - 1, SHORT, SHORT + 1, SHORT + LEAST] {
-                assert_eq!(answer(call, &padded(&list, len)), due, "call {call}, {len} bytes");
+                assert_eq!(
+                    answer(call, &padded(&list, len)),
+                    due,
+                    "call {call}, {len} bytes"
+                );
             }
         }
     }
@@ -62,10 +70,18 @@ fn few_and_many_waiting_keys() {
         for bucket in 0..20 {
             list.insert(NEED_DISCARD, Key::at(1, 5, bucket));
         }
-        assert_eq!(answer(DISCARD, &list.bytes()), due, "{count} waiting, more need-discard keys");
+        assert_eq!(
+            answer(DISCARD, &list.bytes()),
+            due,
+            "{count} waiting, more need-discard keys"
+        );
         for bucket in 0..65 {
             list.insert(ALLOC, Key::at(27, 1, bucket));
         }
-        assert_eq!(answer(DISCARD, &list.bytes()), due, "{count} waiting, more alloc keys");
+        assert_eq!(
+            answer(DISCARD, &list.bytes()),
+            due,
+            "{count} waiting, more alloc keys"
+        );
     }
 }

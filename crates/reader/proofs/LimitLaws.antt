@@ -1,4 +1,4 @@
--- The limits of a list, found field by field and row by row.
+-- The limits of a list, found field by field and rank by rank.
 use Prim.Native.Nat.{ℕ, _≤_}
 use mathlib.Core.Path.{_≡_, sym, _∙_}
 use mathlib.Core.Logic.{inl, inr, ⊎-elim}
@@ -165,7 +165,7 @@ module _ (fs : List Field) (h : allOf fieldWithin fs ≡ true) where
   pub within-reserved : allOf (λ b. bucketInRange (bucketRead b)) (bodies 64 fs) ≡ true
   within-reserved = all-bodies 64 (λ b. bucketInRange (bucketRead b)) (all-map field-reserved each)
 
--- a tag's fields are no more than its row takes
+-- a tag's fields are no more than may be
 pub few-at : {call t n : ℕ} (fs : List Field) → Within fs → Listed call t n → length (bodies t fs) ≤ mostOf (slotOf t)
 unfolding slotOf
 few-at fs w (key (inl e) l m) = rw e (w .alloc)
