@@ -1,43 +1,46 @@
-# make run    shows the program      make test   everything that the gate runs
-.PHONY: run prove test
+# make help lists the commands.
+.PHONY: help run prove test
+SHELL := bash
 
-# Proves and builds the program bucketlines, and shows it on the examples.
-run:
-	@echo 'Proving and building bucketlines; the first time takes some minutes.'
-	@log=$$(rt check bucketlines 2>&1) || { echo "$$log" >&2; exit 1; }
+help:                ## Lists these commands.
+	@awk -F ':.*## ' '/^[a-z]+:.*## / { printf "make %-14s %s\n", $$1, $$2 }' $(MAKEFILE_LIST)
+
+run:                 ## Proves and builds the program bucketlines, and shows it on the examples.
+	@bash examples/build
 	@bash examples/run
 
-# Proves every crate.
-prove:
+prove:               ## Proves every crate.
 	@rt check
 
-# Every proof, every must-fail edit and every test; the last line counts them all.
-test:
+test:                ## Everything that the gate runs: every proof, every edit, every test; the last line counts them all.
 	@bash tests/run
 
-# Holds the definitions to N of the stored vectors, by computing.
+.PHONY: edits
+edits:               ## Tries the edits of tests/edits, of the crates CRATES or of all.
+	@bash tests/edits/run $(CRATES)
+
 .PHONY: definitions
 N ?= 40
-definitions:
+definitions:         ## Holds the definitions to N stored vectors (40), by computing.
 	@python3 tests/definitions/vectors.py $(N)
 
-# Builds the Rust's own functions out of the folder RUST, and compares them with the numbers that document 01 gives, on LISTS lists of each call;
-# then the archive's four calls with both, on CALLS lists of each call and twice as many applies.
+# The Rust's own functions, built out of the folder RUST, are compared with the numbers that document 01 gives, on LISTS lists of each call; then the
+# archive's four calls with both, on CALLS lists of each call and twice as many applies.
 .PHONY: oracle
 LISTS ?= 20000
 CALLS ?= 40000
-oracle:
+oracle:              ## RUST=dir: builds the Rust's own functions out of dir, and compares the definitions' model and the calls with them.
 	@test -f "$(RUST)/src/write_alloc.rs" || { echo "usage: make oracle RUST=dir, where dir has the Rust text under its own paths" >&2; exit 2; }
 	cd oracle/rust && RUST="$(abspath $(RUST))" cargo test --release --offline
 	cd oracle/rust && RUST="$(abspath $(RUST))" cargo run --release --offline --bin compare -- $(LISTS)
 	rt staticlib zerglaz
 	cd oracle/rust && RUST="$(abspath $(RUST))" cargo run --release --offline --features archive --bin archive -- $(CALLS)
 
-# Speed of the readers, beside a plain sum of the same bytes, and of the four calls, beside a copy of them. With RUST=dir also of the calls
-# beside the Rust's own functions, which are built from dir; that chart goes to the file CHART.
+# The readers beside a plain sum of the same bytes, and the four calls beside a copy of them. With RUST=dir also the calls beside the Rust's own
+# functions, which are built from dir; that chart goes to the file CHART.
 .PHONY: bench
 CHART ?= target/benchmarks.svg
-bench:
+bench:               ## Times the readers and the calls; with RUST=dir also beside the Rust's own functions.
 	rt staticlib reading
 	cd tests/reading && cargo run --release --offline --bin bench
 	rt staticlib zerglaz

@@ -2,16 +2,17 @@
 """vectors.py N: holds the definitions to N of the stored vectors by computing.
 
 Each vector becomes a line of antt, that the answer of `calls/specs/Answers.antt` on its list is the vector's number and bytes, by `refl`. The lines are
-checked in a copy of the crates below target/definitions and are not kept. The last line is `N passed, M failed`.
+checked in a copy below target/definitions, whose crate calls has them as its only proofs. The last line is `N passed, M failed`.
 """
 import re
 import shutil
-import subprocess
 import sys
 from pathlib import Path
 
-ROOT = Path(__file__).resolve().parents[2]
-WORK = ROOT / "target" / "definitions"
+sys.path.insert(0, str(Path(__file__).resolve().parents[1]))
+import workspace  # noqa: E402
+from workspace import ROOT  # noqa: E402
+
 LONGEST = 420  # bytes of a list that computes within a second or two
 
 
@@ -52,16 +53,9 @@ def spread(vectors, count):
     return out
 
 
-def write(chosen):
-    """The copy of the crates, with a module of one line for each vector."""
-    shutil.rmtree(WORK, ignore_errors=True)
-    WORK.mkdir(parents=True)
-    shutil.copytree(ROOT / "crates", WORK / "crates")
-    (WORK / "crates.txt").write_text("wire:\nformat: wire\ncalls: wire format\n")
-    for other in (WORK / "crates").iterdir():
-        if other.name not in ("wire", "format", "calls"):
-            shutil.rmtree(other)
-    proofs = WORK / "crates" / "calls" / "proofs"
+def write(copy, chosen):
+    """A module of one line for each vector, in place of the crate's proofs."""
+    proofs = copy / "crates" / "calls" / "proofs"
     shutil.rmtree(proofs)
     proofs.mkdir()
     (proofs / "Lib.antt").write_text("pub mod Vectors\n")
@@ -78,15 +72,15 @@ def main():
         sys.exit(__doc__)
     share = -(-int(sys.argv[1]) // 4)
     chosen = [v for call in ("place", "release", "discard", "apply") for v in spread(read(call), share)]
-    write(chosen)
-    run = subprocess.run(["rt", "dev", "calls"], cwd=WORK, stdout=subprocess.PIPE, stderr=subprocess.STDOUT, text=True)
-    bad = {m.group(1) for m in re.finditer(r"Vectors\.antt:\d+:\d+: error: `(v\d+)`", run.stdout)}
+    workspace.prove(["calls"])
+    copy = workspace.make("calls", "definitions")
+    write(copy, chosen)
+    status, printed = workspace.dev(copy, "calls")
+    bad = {m.group(1) for m in re.finditer(r"Vectors\.antt:\d+:\d+: error: `(v\d+)`", printed)}
     for label in sorted(bad, key=lambda b: int(b[1:])):
         print("disagrees:", chosen[int(label[1:])][0])
-    whole = "logic=proved" in run.stdout.splitlines()[-1] if run.stdout.strip() else False
-    if not bad and not whole:
-        print(run.stdout[-3000:])
-        sys.exit("the crate calls was not checked")
+    if not bad and not workspace.is_proved(status, printed):
+        sys.exit(f"{printed[-3000:]}\nthe crate calls was not checked")
     counts = {}
     for name, number, term, _ in chosen:
         counts.setdefault(term.split()[0], []).append(number)

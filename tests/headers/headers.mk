@@ -3,7 +3,7 @@ HEADERS_DIR := tests/headers
 HEADERS_CFLAGS = -std=gnu11 -O1 -Wall -Wextra -iquote "$(LINUX)" -I $(HEADERS_DIR)/stub -I "$(LINUX)/../../tools/include" -idirafter "$(LINUX)/../../include"
 
 .PHONY: headers
-headers:
+headers:             ## LINUX=dir: holds the bit layouts to the headers of dir, fs/bcachefs of a Linux 6.12 source tree.
 	@test -f "$(LINUX)/bcachefs_format.h" || { echo "usage: make headers LINUX=dir, where dir is fs/bcachefs of a Linux 6.12 source tree" >&2; exit 2; }
 	rt staticlib headers
 	mkdir -p target/headers

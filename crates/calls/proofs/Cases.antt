@@ -4,21 +4,20 @@ use mathlib.Core.Bool.{false}
 use mathlib.Core.List.{List, [], _∷_, map}
 use Prim.Native.Nat.{ℕ, _+_, _^_}
 use Rattle.wire.specs.Positions.{lruAt}
-use Rattle.format.specs.Packing.{get, store}
-use Rattle.format.specs.AllocV4.{gen, oldestGen, flags, dataType, needDiscardType, newAlloc, emptied}
+use Rattle.format.specs.Packing.{get}
+use Rattle.format.specs.AllocV4.{gen, oldestGen, flags, dataType, newAlloc, emptied}
 use Rattle.format.specs.Entries.{crc32, csumTypeOf}
 use Rattle.format.specs.Lru.{fragmentation}
 use Rattle.format.proofs.Cases.{p5-inode, p6-value, p9}
 use Rattle.calls.specs.CallList.{Volume, Freed, volumeBytes}
-use Rattle.calls.specs.Trees.{withValue}
 use Rattle.calls.specs.Freespace.{isIn, walk}
 use Rattle.calls.specs.Pieces.{Slot, nextFit, bucketsNeeded}
 use Rattle.calls.specs.Lru.{lruWanted}
-use Rattle.calls.specs.ChangeList.{Batch, changesOf}
+use Rattle.calls.specs.ChangeList.{changesOf}
 use Rattle.calls.specs.Discard.{discardBatches}
 use Rattle.calls.specs.Computing.{computing}
 use Rattle.calls.specs.Answers.{place, release, discard}
-use Rattle.calls.proofs.Examples.{bucket, sector, headFor, volumeFor, run, held, waits, plain, placing, releasing}
+use Rattle.calls.proofs.Examples.{bucket, sector, headFor, volumeFor, run, held, waits, emptiedAt, runEnds, plain, placing, releasing}
 
 abbrev slot : ℕ → ℕ → Slot
 slot index offset = record { index = index; offset = offset }
@@ -37,13 +36,7 @@ freeing n = record { first = sector 640; sectors = n }
 -- the buckets 3, 4 and 6, or one alone, wait for discard with a generation
 abbrev waiting : ℕ → ℕ → List ℕ → Volume
 waiting batch generation bs =
-    volumeFor (headFor 3 batch)
-    (map (λ b. withValue (held b generation 0) (store dataType needDiscardType (newAlloc 1 generation 0 1))) bs) []
-    (map waits bs) []
-
--- the ends and sizes of the runs that each batch makes
-abbrev runEnds : List Batch → List (List (ℕ × ℕ))
-runEnds bs = map (λ b. map (λ k. (k .pos .offset, k .size)) (b .trees .freespace)) bs
+    volumeFor (headFor 3 batch) (map (λ b. emptiedAt b generation) bs) [] (map waits bs) []
 
 pub record Cases : Type 0 where
   -- 1. bucket 128, stored 96, 96, 64: three buckets, offset 0 each, no LRU root
@@ -72,13 +65,13 @@ pub record Cases : Type 0 where
       ≡ (9 ∷ []) ∷ []
   pub case7-more : release (releasing heldVolume (freeing 97 ∷ [])) 65536 1000 .number ≡ 18
   -- 8. byte 12 at 15 is discarded, 16 waits
-  pub case8 : runEnds (changesOf (discard (volumeBytes (waiting 1 15 (3 ∷ []))) 1000 .written)) ≡ ((4, 1) ∷ []) ∷ []
+  pub case8 : map runEnds (changesOf (discard (volumeBytes (waiting 1 15 (3 ∷ []))) 1000 .written)) ≡ ((4, 1) ∷ []) ∷ []
   pub case8-waits : discard (volumeBytes (waiting 1 16 (3 ∷ []))) 1000 ≡ record { number = 0; written = [] }
   -- 9. option 1, kind 0, 128 sectors, checksum 0: hexadecimal 500FFFE
   pub case9 : crc32 128 128 (csumTypeOf 1) 0 0 ≡ 0x500FFFE
   -- 10. discard 3, 4, 6: batch 3 gives ends 5, 7 with sizes 2, 1; batch 1 gives three runs
-  pub case10 : runEnds (discardBatches (waiting 3 0 (3 ∷ 4 ∷ 6 ∷ []))) ≡ ((5, 2) ∷ (7, 1) ∷ []) ∷ []
-  pub case10-each : runEnds (discardBatches (waiting 1 0 (3 ∷ 4 ∷ 6 ∷ []))) ≡ ((4, 1) ∷ []) ∷ ((5, 1) ∷ []) ∷ ((7, 1) ∷ []) ∷ []
+  pub case10 : map runEnds (discardBatches (waiting 3 0 (3 ∷ 4 ∷ 6 ∷ []))) ≡ ((5, 2) ∷ (7, 1) ∷ []) ∷ []
+  pub case10-each : map runEnds (discardBatches (waiting 1 0 (3 ∷ 4 ∷ 6 ∷ []))) ≡ ((4, 1) ∷ []) ∷ ((5, 1) ∷ []) ∷ ((7, 1) ∷ []) ∷ []
   -- beside them: run 10 to 80, bucket 15 used, three taken: accepted, since only the walk meets 13
   pub used :
       place (placing (volumeFor (headFor 1 1) (held 15 0 128 ∷ []) (run 80 70 ∷ []) [] []) (plain 128 ∷ plain 128 ∷ plain 128 ∷ [])) 2000 .number ≡ 0

@@ -9,9 +9,11 @@ use Rattle.wire.specs.Kinds.{sectorBytes}
 use Rattle.wire.specs.Positions.{allocAt, runAt, needDiscardAt}
 use Rattle.wire.specs.declared.kinds.Bucket.{Bucket}
 use Rattle.wire.specs.declared.kinds.DeviceSector.{DeviceSector}
-use Rattle.format.specs.AllocV4.{newAlloc}
+use Rattle.format.specs.Packing.{store}
+use Rattle.format.specs.AllocV4.{dataType, needDiscardType, newAlloc}
 use Rattle.calls.specs.CallList.{Head, Volume, Piece, Freed, volumeBytes}
-use Rattle.calls.specs.Trees.{newKey}
+use Rattle.calls.specs.Trees.{newKey, withValue}
+use Rattle.calls.specs.ChangeList.{Batch}
 
 abbrev pub bucket : ℕ → Bucket
 bucket n = record { 0 = n }
@@ -19,9 +21,9 @@ bucket n = record { 0 = n }
 abbrev pub sector : ℕ → DeviceSector
 sector n = record { 0 = n }
 
--- buckets of 128 sectors, blocks of 1, no option, roots or reserve, batches of so many, journal number 7, inode 1
-abbrev pub headFor : ℕ → ℕ → Head
-headFor call batch =
+-- buckets of 128 sectors, blocks of 1, no option, roots or reserve, batches of so many, journal number 7, inode 1, and a base
+abbrev pub headAt : ℕ → ℕ → ℕ → Head
+headAt base call batch =
     record {
       call = call;
       bucketSectors = 128;
@@ -32,8 +34,12 @@ headFor call batch =
       batch = batch;
       journal = 7;
       inode = 1;
-      base = record { 0 = 0 };
+      base = record { 0 = base };
     }
+
+-- the same with base 0
+abbrev pub headFor : ℕ → ℕ → Head
+headFor call batch = headAt 0 call batch
 
 -- a volume with these alloc, freespace and need-discard keys and no others
 abbrev pub volumeFor : Head → List Key → List Key → List Key → List Bucket → Volume
@@ -53,9 +59,21 @@ run end size = newKey 25 size (runAt (bucket end)) []
 abbrev pub held : ℕ → ℕ → ℕ → Key
 held b generation dirty = newKey 27 0 (allocAt (bucket b)) (newAlloc 1 generation dirty 1)
 
--- the need-discard key of a bucket
+-- the need-discard key of a bucket, under a journal number
+abbrev pub waitsSince : ℕ → ℕ → Key
+waitsSince journal b = newKey 25 0 (needDiscardAt journal (bucket b)) []
+
+-- the same under journal number 7
 abbrev pub waits : ℕ → Key
-waits b = newKey 25 0 (needDiscardAt 7 (bucket b)) []
+waits b = waitsSince 7 b
+
+-- the alloc key of an emptied bucket with a generation
+abbrev pub emptiedAt : ℕ → ℕ → Key
+emptiedAt b generation = withValue (held b generation 0) (store dataType needDiscardType (newAlloc 1 generation 0 1))
+
+-- the ends and sizes of the runs that a batch makes
+abbrev pub runEnds : Batch → List (ℕ × ℕ)
+runEnds b = map (λ k. (k .pos .offset, k .size)) (b .trees .freespace)
 
 abbrev pub pieceField : Piece → Field
 pieceField p =

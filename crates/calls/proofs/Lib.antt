@@ -41,4 +41,5 @@ pub mod TreeTotals
 pub mod View
 pub mod VolumeTrip
 pub mod WaitLaws
+pub mod WorkedAnswers
 pub mod WorkedHistory
