@@ -20,8 +20,8 @@ edits:               ## Tries the edits of tests/edits, of the crates CRATES or 
 	@bash tests/edits/run $(CRATES)
 
 .PHONY: definitions
-N ?= 40
-definitions:         ## Holds the definitions to N stored vectors (40), by computing.
+N ?= 400
+definitions:         ## Holds the definitions to N stored vectors (400), by computing.
 	@python3 tests/definitions/vectors.py $(N)
 
 # The Rust's own functions, built out of the folder RUST, are compared with the numbers that document 01 gives, on LISTS lists of each call; then the
