@@ -1,21 +1,57 @@
 /* Zerglaz: a bucket allocator for bcachefs volumes, by four calls on lists of bytes.
  *
  * A call reads a call list: a volume, and for a placement or a release its requests. It writes a
- * change list. Apply reads a volume and a change list and writes the next volume.
- *
- * Every call has one outcome over any bytes, and its code is proved to have it:
- * - Accepted: 0. The answer stands at the start of `out`, `*written` is its length, and the rest of
- *   `out` is as it was.
- * - Refused: a number of `enum zerglaz_refusal`, the first whose test fails in the order of
- *   document 01. `*written` is 0 and all of `out` is as it was.
- * What `*written` held before plays no part. No call allocates memory or keeps anything between calls.
+ * change list. Apply reads a volume and a change list and writes the next volume. docs/FORMAT.md has
+ * the bytes of these lists.
  *
  * The caller's duties:
+ *
+ * A history is a list of place, release and discard calls; each reads the volume last reached, of
+ * which nothing but field 1 and requests has changed. A piece is live from its applied placement to
+ * the applied release that names it by first sector and length. docs/FORMAT.md, "Clean volumes and
+ * histories", has both in full.
+ *
+ * (1) The history starts from a clean volume.
+ * (2) A release names pieces that are live, none twice.
+ * (3) An accepted change is applied whole before the next call, and data is written only to places
+ *     whose change is applied.
+ * (4) A refused apply drops its change.
+ * (5) Bucket sectors stay.
+ *
+ * No call tests whether they are kept. A second release of a piece is refused where its bucket holds
+ * too few sectors (18). Where other pieces hold enough sectors there it is accepted, and the bucket
+ * can then be emptied and given to other data while a piece lies in it (examples/README.md).
+ *
+ * And of the arguments of each call:
  * - Each pointer is valid for its length and not null, also where the length is 0: lists for reading,
  *   `out`, `scratch` and `written` for reading and writing. The length of `scratch` counts sums of four
  *   bytes, and `scratch` and `written` are aligned as their types ask.
  * - `out`, `scratch` and `written` overlap neither each other nor a list.
- * - At least 512 KiB of stack are left for each call.
+ * - At least 512 KiB of stack are left for each call (tested, not proved).
+ *
+ * What is proved:
+ *
+ * In every history that keeps duties 1 to 5, of calls in any order, accepted or refused, no sector is
+ * occupied by two live pieces, each live piece lies inside its bucket and carries its generation, each
+ * dirty count is the sum of its live pieces' sectors, and each bucket that the clean volume offers is
+ * in exactly one of free, in use, waiting (the theorem demand3; docs/CLAIMS.md).
+ *
+ * Every call has one outcome over any bytes, and its code is proved to have it where the duties of
+ * its arguments are kept:
+ * - Accepted: 0. The answer stands at the start of `out`, `*written` is its length, and the rest of
+ *   `out` is as it was.
+ * - Refused: a number of `enum zerglaz_refusal`, the first whose test fails in the order of
+ *   docs/FORMAT.md, "Refusals". `*written` is 0 and all of `out` is as it was.
+ * What `*written` held before plays no part. No call allocates memory or keeps anything between calls.
+ *
+ * What else to know:
+ *
+ * - A bucket wears: a discard takes a bucket while its generation is below 16, so after its sixteenth
+ *   emptying it waits for ever and is not used again.
+ * - A placement keeps back 32 buckets and the journal reserve (11).
+ * - The archive links on x86-64 Linux alone; no other platform was tried.
+ * - Power failure, the disk, what the caller writes to it, and the compiler are outside
+ *   (docs/CLAIMS.md, "What is outside").
  */
 #ifndef ZERGLAZ_H
 #define ZERGLAZ_H
@@ -26,6 +62,37 @@
 #ifdef __cplusplus
 extern "C" {
 #endif
+
+/* The version: that of the Rust crate. */
+#define ZERGLAZ_VERSION "0.1.0"
+#define ZERGLAZ_VERSION_MAJOR 0
+#define ZERGLAZ_VERSION_MINOR 1
+#define ZERGLAZ_VERSION_PATCH 0
+
+/* Limits: what passes one is refused 3, and a longer value 2 (docs/FORMAT.md, "Limits"). */
+/* keys of each tree */
+#define ZERGLAZ_MAX_KEYS 4096
+/* reserved buckets */
+#define ZERGLAZ_MAX_RESERVED 4096
+/* requests of a call */
+#define ZERGLAZ_MAX_REQUESTS 1024
+/* buckets: their numbers are below it */
+#define ZERGLAZ_MAX_BUCKETS 65536
+/* bytes of a key's value */
+#define ZERGLAZ_MAX_VALUE 256
+
+/* Lengths that follow from the limits, in bytes. An output as long as the call's figure is never
+ * refused 21. docs/FORMAT.md, "Lengths", has what each is made of. */
+/* a volume, and so the output of apply: 42 + 6 * 4096 * 296 + 4096 * 7 */
+#define ZERGLAZ_MAX_VOLUME 7303210
+/* a call list: a volume + 1024 * 16 */
+#define ZERGLAZ_MAX_CALL_LIST 7319594
+/* the change list of a placement: 1024 * (64 + 104 + 40 + 72 + 7 + 18) + 4096 * 40 + 256 + 4 + 27 + 8 * 43 + 11 + 3 */
+#define ZERGLAZ_MAX_PLACE_CHANGE 476805
+/* of a release: 1024 * (296 + 40 + 40 + 40 + 296) + 2 * 4 + 27 + 2 * 43 + 3 */
+#define ZERGLAZ_MAX_RELEASE_CHANGE 729212
+/* of a discard: 4096 * (296 + 40 + 40 + 2 * 43 + 7 + 3) */
+#define ZERGLAZ_MAX_DISCARD_CHANGE 1933312
 
 /* The sums that a release's scratch holds at least: one for each bucket number. */
 #define ZERGLAZ_SUMS 65536

@@ -1,4 +1,4 @@
-//! Apply, written from document 01 alone: a volume and a change list give the next volume.
+//! Apply, written from the source of docs/FORMAT.md alone: a volume and a change list give the next volume.
 
 use crate::call_list::{CallList, TREES};
 use crate::change_list::{self, Batch};

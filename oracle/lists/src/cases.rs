@@ -1,4 +1,4 @@
-//! Document 01's P cases and its printed example as call lists.
+//! The worked cases of docs/FORMAT.md and its printed case as call lists.
 
 use crate::call_list::{
     CallList, Head, Place, Release, ALLOC, DISCARD, FREESPACE, NEED_DISCARD, PLACE, RELEASE,
@@ -117,7 +117,7 @@ fn waiting(buckets: &[(u64, u8)], batch: u32) -> CallList {
     l
 }
 
-/// The discard whose lines document 01 prints.
+/// The printed case of docs/FORMAT.md, "The program bucketlines".
 fn printed() -> CallList {
     let mut l = waiting(&[], 1);
     let mut key = Key::at(27, 0, 5);

@@ -1,4 +1,4 @@
-//! Lists at the edges of document 01's rules: each way to break the layout, both sides of each
+//! Lists at the edges of the rules of docs/FORMAT.md: each way to break the layout, both sides of each
 //! limit, and both sides of each refusal, by name. Some are accepted and some refused.
 
 use crate::call_list::{

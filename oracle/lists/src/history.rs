@@ -1,4 +1,5 @@
-//! Random histories from clean volumes, with document 01's demand 3 counted after each step.
+//! Random histories from clean volumes, with what docs/FORMAT.md, "Clean volumes and histories", claims
+//! (demand 3) counted after each step.
 
 use crate::apply::apply;
 use crate::call_list::{CallList, Head, Release, ALLOC, DISCARD, FREESPACE, NEED_DISCARD};

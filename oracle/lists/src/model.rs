@@ -1,4 +1,4 @@
-//! The number that document 01's refusal order gives a call, written from document 01 alone.
+//! The number that the order of docs/FORMAT.md, "Refusals", gives a call, written from its source alone.
 //!
 //! Refusal 2 is `CallList::read` with the call's own tests here. The model gives numbers and the
 //! answer's length, which 21 needs, and none of the answer's bytes.

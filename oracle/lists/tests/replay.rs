@@ -117,7 +117,7 @@ fn apply_limits_are_made_again() {
     }
 }
 
-/// The stored vector of one of document 01's cases.
+/// The stored vector of one of the worked cases.
 fn case(name: &str) -> Vector {
     let mut found = None;
     for (_, file_name) in CALLS {
@@ -196,7 +196,7 @@ fn discard_cases() {
     );
 }
 
-/// The discard whose lines document 01 prints.
+/// The printed case of docs/FORMAT.md, "The program bucketlines".
 #[test]
 fn printed_discard() {
     let b = &batches("printed")[0];

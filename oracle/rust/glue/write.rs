@@ -15,13 +15,13 @@ mod alloc {
 //@item src/write.rs | fn btree_counter_pos(
 //@item src/write.rs | struct Txn {
 
-/// Document 01's stand-in: 40 plus the value's length.
+/// Stand-in: 40 plus the value's length.
 fn unpacked_bytes(k: &Bkey) -> i64 {
     40 + k.value.len() as i64
 }
 
 impl Txn {
-    /// Document 01's stand-in: add an amount at a place of a row of zeros.
+    /// Stand-in: add an amount at a place of a row of zeros.
     fn count(&mut self, pos: Bpos, n: usize, i: usize, delta: i64) {
         self.acct.entry(pos).or_insert_with(|| vec![0; n])[i] += delta;
     }
@@ -147,7 +147,7 @@ impl<D: BlockDevice> Writer<D> {
         Err(Error::NotFound(format!("btree {id} has no root")))
     }
 
-    /// Document 01's stand-in: note the id, whose root then exists.
+    /// Stand-in: note the id, whose root then exists.
     fn create_root(&mut self, id: u8, _t: &mut Txn) -> Result<()> {
         self.roots.insert(id);
         self.made.push(id);

@@ -1,4 +1,4 @@
-//! The Rust's function and the model of document 01 on the same list.
+//! The Rust's function and the plain model on the same list.
 
 use crate::{run, Outcome};
 use lists::apply::apply;
@@ -30,7 +30,7 @@ pub fn number_of(text: &str) -> Option<u32> {
         .map(|(number, _)| *number)
 }
 
-/// Whether a refusal is one that document 01 adds to the Rust's.
+/// Whether a refusal is one that is added to the Rust's (docs/DIFFERENCES.md).
 pub fn added(call: u8, number: u32) -> bool {
     matches!(number, 1..=3 | 6 | 9 | 10 | 14 | 16 | 17 | 19..=21)
         || (number == 4 && call == lists::call_list::RELEASE)

@@ -1,5 +1,5 @@
 //! The Rust's own functions over call lists: a list goes in, the change list comes out as
-//! document 01 orders it, or the Rust's refusal.
+//! docs/FORMAT.md, "Change list", orders it, or the Rust's refusal.
 
 // The taken text is whole items, of which not every constant or field is read here.
 #![allow(dead_code)]

@@ -1,5 +1,5 @@
-//! The examples: a small volume from its first piece to a bucket that is used again, and two calls
-//! that are refused.
+//! The examples: a small volume from its first piece to a bucket that is used again, two calls that
+//! are refused, and a second release that is not.
 
 use crate::due::{answer, OUTPUT};
 use zerglaz::{Bucket, Call, CallList, DeviceSector, Head, Piece, Released};
@@ -14,10 +14,10 @@ pub struct Example {
 /// All of them, in order.
 pub fn examples() -> Vec<Example> {
     let placed = placing(&clean(), &[96, 64]);
-    let released = releasing_the_first(&after(&placed));
+    let released = releasing_the_first(&after(&placed), 96);
     let discarded = after(&released).asking(Call::Discard);
     let placed_again = placing(&after(&discarded), &[96]);
-    let released_twice = releasing_the_first(&after(&released));
+    let released_twice = releasing_the_first(&after(&released), 96);
     let too_many = placing(&clean(), &[128; 9]);
     vec![
         Example {
@@ -42,7 +42,7 @@ pub fn examples() -> Vec<Example> {
         },
         Example {
             name: "5-release-twice",
-            title: "right after example 2 its piece is deleted once more, which is refused",
+            title: "right after example 2 its piece is deleted once more: refused, since nothing else holds sectors in that bucket",
             list: released_twice,
         },
         Example {
@@ -50,7 +50,26 @@ pub fn examples() -> Vec<Example> {
             title: "nine pieces of 128 sectors for the clean volume: 9 buckets and 32 kept back are more than 40",
             list: too_many,
         },
+        Example {
+            name: "7-release-twice-accepted",
+            title: "of a bucket's two pieces of 64 sectors the first is deleted a second time: accepted, since the other's sectors are there; the bucket counts as empty while the other lies in it",
+            list: released_again(),
+        },
     ]
+}
+
+/// Two pieces of 64 sectors share a bucket, and the first is released twice. The second release is
+/// accepted, though no such piece is live.
+fn released_again() -> CallList {
+    let placed = placing(&clean(), &[64, 64]);
+    let released = releasing_the_first(&after(&placed), 64);
+    releasing_the_first(&after(&released), 64)
+}
+
+/// What follows: the bucket is discarded, and a piece of 96 sectors is placed.
+pub fn placed_over_another() -> CallList {
+    let discarded = after(&released_again()).asking(Call::Discard);
+    placing(&after(&discarded), &[96])
 }
 
 /// A clean volume: 40 free buckets of 128 sectors.
@@ -77,12 +96,12 @@ fn placing(volume: &CallList, sectors: &[u16]) -> CallList {
     list
 }
 
-/// A list that releases the piece of 96 sectors at the device's first sector.
-fn releasing_the_first(volume: &CallList) -> CallList {
+/// A list that releases the piece of these sectors at the device's first sector.
+fn releasing_the_first(volume: &CallList, sectors: u16) -> CallList {
     let mut list = volume.asking(Call::Release);
     list.released.push(Released {
         first: DeviceSector(0),
-        sectors: 96,
+        sectors,
     });
     list
 }

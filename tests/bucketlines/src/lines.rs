@@ -1,4 +1,5 @@
-//! The lines of a change list, written from document 01 alone: a line a field.
+//! The lines of a change list, written from the source of docs/FORMAT.md, "The program bucketlines",
+//! alone: a line a field.
 
 use lists::fields::{number, split, Field};
 use lists::key::Key;

@@ -2,7 +2,7 @@
 
 use std::io::{ErrorKind, Write};
 use std::path::PathBuf;
-use std::process::{Child, ChildStdin, Command, Stdio};
+use std::process::{Child, ChildStdin, Command, Output, Stdio};
 
 /// A file or folder of the repository.
 pub fn in_repository(path: &str) -> PathBuf {
@@ -16,7 +16,7 @@ pub fn printed(list: &[u8]) -> String {
 
 /// All that the program prints for what is written to its standard input.
 pub fn printed_from(write: impl FnOnce(&mut ChildStdin) -> std::io::Result<()>) -> String {
-    let mut program = start(Stdio::piped());
+    let mut program = start(Stdio::piped(), Stdio::piped());
     let mut input = program.stdin.take().expect("a pipe");
     match write(&mut input) {
         // The program reads no more than it needs to refuse a long list.
@@ -28,15 +28,20 @@ pub fn printed_from(write: impl FnOnce(&mut ChildStdin) -> std::io::Result<()>) 
 
 /// All that the program prints for a standard input of any kind.
 pub fn printed_on(input: impl Into<Stdio>) -> String {
-    output(start(input.into()))
+    output(start(input.into(), Stdio::piped()))
+}
+
+/// What the program leaves for a standard input and a standard output of any kind.
+pub fn run_on(input: impl Into<Stdio>, output: impl Into<Stdio>) -> Output {
+    let program = start(input.into(), output.into());
+    program.wait_with_output().expect("the program ends")
 }
 
 /// The program, started.
-fn start(input: Stdio) -> Child {
+fn start(input: Stdio, output: Stdio) -> Child {
     let path = in_repository("target/bin/bucketlines");
     let mut command = Command::new(&path);
-    command.stdin(input);
-    command.stdout(Stdio::piped()).stderr(Stdio::piped());
+    command.stdin(input).stdout(output).stderr(Stdio::piped());
     let started = command.spawn();
     started.unwrap_or_else(|error| panic!("{}: {error}", path.display()))
 }

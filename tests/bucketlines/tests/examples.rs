@@ -1,6 +1,6 @@
 //! The examples of the folder `examples`: their lists, and what is shown of them.
 
-use bucketlines::examples::examples;
+use bucketlines::examples::{examples, placed_over_another};
 use bucketlines::program::{in_repository, printed};
 use bucketlines::{due, hex_text};
 use std::process::Command;
@@ -29,7 +29,7 @@ fn lists() {
     assert_eq!(found, names);
 }
 
-/// The program prints what is due for each: four are accepted, the others refused 18 and 11.
+/// The program prints what is due for each: five are accepted, the others refused 18 and 11.
 #[test]
 fn lines() {
     let mut numbers = Vec::new();
@@ -38,7 +38,22 @@ fn lines() {
         assert_eq!(printed(&list), due::lines(&list), "{}", example.name);
         numbers.push(due::number(&list));
     }
-    assert_eq!(numbers, [0, 0, 0, 0, 18, 11]);
+    assert_eq!(numbers, [0, 0, 0, 0, 18, 11, 0]);
+}
+
+/// What follows example 7: the next placement lies over the piece that no call has released, of 64
+/// sectors from device sector 64 on.
+#[test]
+fn second_release_lays_one_piece_over_another() {
+    let list = placed_over_another().to_bytes();
+    let lines = printed(&list);
+    assert_eq!(lines, due::lines(&list));
+    let placed: Vec<&str> = lines.lines().filter(|l| l.starts_with("placed")).collect();
+    assert_eq!(placed, ["placed 0 96 0 1"]);
+    let numbers = placed[0].split(' ').filter_map(|word| word.parse().ok());
+    let numbers: Vec<u64> = numbers.collect();
+    let (first, end) = (numbers[0], numbers[0] + numbers[1]);
+    assert!(first < 64 + 64 && 64 < end);
 }
 
 /// What `examples/run` prints is the stored text.

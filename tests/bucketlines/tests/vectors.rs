@@ -95,7 +95,7 @@ fn generated() {
     }
 }
 
-/// Document 01's example, and the lines that it shows.
+/// The printed case of docs/FORMAT.md, "The program bucketlines", and the lines that it shows.
 #[test]
 fn printed_example() {
     let text = "\

@@ -96,7 +96,7 @@ fn compare_histories(histories: u64, seed: u64) -> u64 {
                     report(wrong, &why, list);
                 }
                 match outcome {
-                    // Document 01's added refusals refuse the step too.
+                    // The added refusals refuse the step too.
                     Outcome::Accepted(change) if number(list) == 0 => Some(change),
                     _ => None,
                 }

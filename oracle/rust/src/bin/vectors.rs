@@ -73,7 +73,7 @@ fn print_counts(numbers: impl Iterator<Item = u32>) {
     println!("  {counts:?}");
 }
 
-/// The vectors of one call: document 01's cases, accepted lists by size, refused ones by number.
+/// The vectors of one call: the worked cases, accepted lists by size, refused ones by number.
 fn call_vectors(call: u8, name: &str) -> Vec<Vector> {
     let mut chosen = Chosen::default();
     let mut vectors = Vec::new();
