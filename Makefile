@@ -24,7 +24,7 @@ N ?= 400
 definitions:         ## Holds the definitions to N stored vectors (400), by computing.
 	@python3 tests/definitions/vectors.py $(N)
 
-# The Rust's own functions, built out of the folder RUST, are compared with the numbers that document 01 gives, on LISTS lists of each call; then the
+# The Rust's own functions, built out of the folder RUST, are compared with the numbers that FORMAT.md gives, on LISTS lists of each call; then the
 # archive's four calls with both, on CALLS lists of each call and twice as many applies.
 .PHONY: oracle
 LISTS ?= 20000

@@ -1,4 +1,4 @@
--- Document 01, "Change list": 70 sets the bit of a root, and the rest of field 1 is kept.
+-- FORMAT.md, "Apply": 70 sets the bit of a root, and the rest of field 1 is kept.
 use mathlib.Core.Path.{_≡_}
 use mathlib.Core.Bool.{Bool, true, _||_, cond}
 use Prim.Native.Nat.{ℕ, _+_, _/_, _%_, _^_, _<_}

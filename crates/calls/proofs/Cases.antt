@@ -1,4 +1,4 @@
--- The P cases of document 01, proved of the definitions together as one table. Assumes nothing.
+-- FORMAT.md, "Worked cases", which are document 01's P cases, proved of the definitions together as one table. Assumes nothing.
 use mathlib.Core.Path.{_≡_, refl}
 use mathlib.Core.Bool.{false}
 use mathlib.Core.List.{List, [], _∷_, map}

@@ -1,4 +1,4 @@
--- Document 01, "Change list": the rows of accounting. `Txn::count` adds an amount at a place of a row of zeros.
+-- FORMAT.md, "Accounting rows": the rows of accounting. `Txn::count` adds an amount at a place of a row of zeros.
 use Prim.Native.Nat.{ℕ, zero, suc, _+_, _*_, _/_, _%_, _^_}
 use mathlib.Core.List.{List, [], _∷_, _++_, map}
 use mathlib.Core.Bool.{Bool, true, false, not, cond}

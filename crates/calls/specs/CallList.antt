@@ -1,4 +1,4 @@
--- Document 01, "Call list": a list's head, keys, reserved buckets and requests, and its layout.
+-- FORMAT.md, "Call list": a list's head, keys, reserved buckets and requests, and its layout.
 use Prim.Native.Nat.{ℕ}
 use mathlib.Core.List.{List, [], _∷_, _++_, map}
 use mathlib.Core.Bool.{Bool, true, false, not, _&&_, _||_, cond}

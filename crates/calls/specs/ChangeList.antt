@@ -1,4 +1,4 @@
--- Document 01, "Change list": its structure, its bytes and its layout.
+-- FORMAT.md, "Change list": its structure, its bytes and its layout.
 use Prim.Native.Nat.{ℕ}
 use mathlib.Core.List.{List, [], _∷_, _++_, map}
 use mathlib.Core.Bool.{Bool, true, false, not, _&&_, _||_, cond}

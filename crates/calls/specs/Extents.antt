@@ -1,4 +1,4 @@
--- Document 01, "Piece and extent": what place queues for each piece.
+-- FORMAT.md, "Pieces and extents": what place queues for each piece.
 use Prim.Native.Nat.{ℕ, zero, suc, _+_}
 use mathlib.Core.List.{List, [], _∷_}
 use lib.ListN.{getD}

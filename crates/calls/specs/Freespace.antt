@@ -1,4 +1,4 @@
--- Document 01, "Freespace run": the free count, wanted, overlap and the walk.
+-- FORMAT.md, "Freespace run": the free count, wanted, overlap and the walk.
 use Prim.Native.Nat.{ℕ, zero, suc, _+_}
 use mathlib.Core.List.{List, [], _∷_, _++_}
 use mathlib.Core.Bool.{Bool, true, false, not, _&&_, _||_, cond}

@@ -1,4 +1,4 @@
--- Document 01, "Generation record": tree 14, type 30, inode 0, offset b div 256; byte b mod 256 is bucket b's generation.
+-- FORMAT.md, "Generation record": tree 14, type 30, inode 0, offset b div 256; byte b mod 256 is bucket b's generation.
 use Prim.Native.Nat.{ℕ}
 use mathlib.Core.List.{List, [], _∷_}
 use mathlib.Core.Bool.{Bool, true, false, cond}

@@ -1,4 +1,4 @@
--- Document 01, "Clean volume": histories, live pieces, and what is claimed of them.
+-- FORMAT.md, "Clean volumes and histories": histories, live pieces, and what is claimed of them.
 use Prim.Native.Nat.{ℕ, _+_, _≤_}
 use mathlib.Core.Path.{_≡_}
 use mathlib.Core.List.{List, [], _∷_, _++_, map, zipWith, flatMap}

@@ -1,4 +1,4 @@
--- Document 01, "Limits": refusal 3.
+-- FORMAT.md, "Limits": refusal 3.
 use Prim.Native.Nat.{ℕ}
 use mathlib.Core.List.{List, [], _∷_}
 use mathlib.Core.Bool.{Bool, true, false, not, _&&_, _||_}

@@ -1,4 +1,4 @@
--- Document 01, "LRU and need-discard".
+-- FORMAT.md, "LRU and need-discard keys".
 use Prim.Native.Nat.{ℕ, _%_}
 use mathlib.Core.List.{List, [], _∷_}
 use mathlib.Core.Bool.{Bool, not, cond}

@@ -1,4 +1,4 @@
--- Document 01, "Piece and extent": next fit, and refusals 6, 7 and 9.
+-- FORMAT.md, "Pieces and extents": next fit, and refusals 6, 7 and 9.
 use Prim.Native.Nat.{ℕ, zero, suc, _+_, _%_, min, max}
 use mathlib.Core.List.{List, [], _∷_}
 use mathlib.Core.Bool.{Bool, true, false, not, _&&_, _||_, cond}

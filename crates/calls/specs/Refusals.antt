@@ -1,4 +1,4 @@
--- Document 01, "Refusal order": a call's tests, in their order.
+-- FORMAT.md, "Refusals": a call's tests, in their order.
 use Prim.Native.Nat.{ℕ}
 use mathlib.Core.List.{List, [], _∷_}
 use mathlib.Core.Bool.{Bool, cond}

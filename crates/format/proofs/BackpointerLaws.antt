@@ -32,7 +32,7 @@ module _ (generation stored : ℕ) (extent : Bpos) (g : generation < 256) (l : s
   unfolding wordsBytes each backpointer structBytes
   backpointer-words = rw (first _, second _)
 
--- struct bch_backpointer, packed; document 01, "Backpointers, type 28, 32 bytes"
+-- struct bch_backpointer, packed; FORMAT.md, "Pieces and extents": a backpointer's value, 32 bytes
 pub backpointer-length : (generation stored : ℕ) (extent : Bpos) → length (backpointer generation stored extent) ≡ 32
 unfolding backpointer
 backpointer-length generation stored extent = struct-length _

@@ -39,7 +39,7 @@ pack-below ((w, x) ∷ fs) =
     let l : pack fs + 1 ≤ 2 ^ widthOf fs = omega (arith, pack-below fs) in
     rw (pow-add 2 w (widthOf fs)) (omega (arith, mod-lt x (pow-pos w), mul-le-mul-left (2 ^ w) l, mul-add (2 ^ w) (pack fs) 1))
 
--- struct bch_extent_ptr: type, cached, unused, unwritten, offset, dev, gen; document 01, "The pointer word is 1 + 16 × device sector + 2^56 × generation"
+-- struct bch_extent_ptr: type, cached, unused, unwritten, offset, dev, gen; FORMAT.md, "Pieces and extents": the pointer is 1 + 16 × first device sector + 2^56 × generation
 pub pointer-decodes : (d : DeviceSector) (generation : ℕ) → sectorWord d < 2 ^ 44 → generation < 256
     → unpack (1 ∷ 1 ∷ 1 ∷ 1 ∷ 44 ∷ 8 ∷ 8 ∷ []) (pointer d generation) ≡ 1 ∷ 0 ∷ 0 ∷ 0 ∷ sectorWord d ∷ 0 ∷ generation ∷ []
 unfolding pointer
@@ -57,7 +57,7 @@ crc32-low : (stored file ctype kind checksum : ℕ) → crc32 stored file ctype 
 unfolding crc32 pack
 crc32-low stored file ctype kind checksum = simp mod-mod
 
--- struct bch_extent_crc32: type, _compressed_size, _uncompressed_size, offset, _unused, csum_type, compression_type, csum; document 01, "low checksum half"
+-- struct bch_extent_crc32: type, _compressed_size, _uncompressed_size, offset, _unused, csum_type, compression_type, csum; FORMAT.md, "Pieces and extents": the checksum's low 32 bits
 pub crc32-decodes : (stored file ctype kind checksum : ℕ) → stored ≤ 128 → file ≤ 128 → ctype < 16 → kind < 16
     → unpack (2 ∷ 7 ∷ 7 ∷ 7 ∷ 1 ∷ 4 ∷ 4 ∷ 32 ∷ []) (crc32 stored file ctype kind checksum) ≡ 2 ∷ (stored - 1) ∷ (file - 1) ∷ 0 ∷ 0 ∷ ctype ∷ kind ∷ (checksum % 2 ^ 32) ∷ []
 unfolding crc32

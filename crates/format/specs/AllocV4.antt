@@ -1,4 +1,4 @@
--- struct bch_alloc_v4 (alloc_background_format.h), packed, 64 bytes; and what document 01, "Alloc value", makes of it.
+-- struct bch_alloc_v4 (alloc_background_format.h), packed, 64 bytes; and what FORMAT.md, "Alloc value", makes of it.
 use Prim.Native.Nat.{ℕ, _+_, _%_}
 use mathlib.Core.List.{List, [], _∷_}
 use lib.ListN.{getD}
@@ -41,7 +41,7 @@ stripe = record { at = 40; size = 4 }
 abbrev pub nrExternalBackpointers : Member
 nrExternalBackpointers = record { at = 44; size = 4 }
 
--- _fragmentation_lru in 6.12, where it is obsolete; journal_seq_empty in later headers and in document 01
+-- _fragmentation_lru in 6.12, where it is obsolete; journal_seq_empty in later headers and in FORMAT.md
 abbrev pub journalSeqEmpty : Member
 journalSeqEmpty = record { at = 48; size = 8 }
 

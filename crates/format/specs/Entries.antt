@@ -1,4 +1,4 @@
--- The entries of an extent (extents_format.h): struct bch_extent_ptr, bch_extent_crc32 and bch_extent_crc64; and document 01, "Piece and extent".
+-- The entries of an extent (extents_format.h): struct bch_extent_ptr, bch_extent_crc32 and bch_extent_crc64; and FORMAT.md, "Pieces and extents".
 use Prim.Native.Nat.{ℕ, zero, suc, _+_, _-_, _*_, _^_}
 use mathlib.Core.List.{List, [], _∷_, _++_}
 use lib.ListN.{getD}

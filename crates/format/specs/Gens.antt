@@ -1,4 +1,4 @@
--- struct bch_bucket_gens: 256 one-byte generations. Document 01, "Generation record": byte b mod 256 is bucket b's generation.
+-- struct bch_bucket_gens: 256 one-byte generations. FORMAT.md, "Generation record": byte b mod 256 is bucket b's generation.
 use Prim.Native.Nat.{ℕ}
 use mathlib.Core.List.{List, [], _∷_}
 use mathlib.Core.Bool.{cond}

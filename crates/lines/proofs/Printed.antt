@@ -1,4 +1,4 @@
--- Document 01's printed example, proved of the definition by computing. Assumes nothing.
+-- The printed case of FORMAT.md, "The program bucketlines", proved of the definition by computing. Assumes nothing.
 use mathlib.Core.Path.{_≡_, refl}
 use mathlib.Core.List.{List, [], _∷_}
 use Prim.Native.Nat.{ℕ}

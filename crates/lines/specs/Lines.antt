@@ -1,4 +1,4 @@
--- Document 01, "bucketlines": the lines of a change list.
+-- FORMAT.md, "The program bucketlines": the lines of a change list.
 use Prim.Native.Nat.{ℕ, zero, suc, _+_, _-_, _/_}
 use mathlib.Core.List.{List, [], _∷_, _++_}
 use mathlib.Core.Bool.{cond}

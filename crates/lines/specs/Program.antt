@@ -1,5 +1,5 @@
--- Document 01: "The program `bucketlines` reads a call list from standard input (at most 32,768 bytes, a longer one is refused 3; output 65,536 bytes) and
--- prints the change list", or `refused` and the number.
+-- FORMAT.md, "The program bucketlines": a call list of at most 32,768 bytes, a longer one being refused 3; an output of 65,536 bytes; a line for each field of
+-- the change list, or `refused` and the number.
 use Prim.Native.Nat.{ℕ, _≤_}
 use mathlib.Core.Path.{_≡_}
 use mathlib.Core.List.{List, _++_}

@@ -1,4 +1,4 @@
--- Document 01, "Limits", of a section's keys as one number: 1 for each, and for one that passes a limit as much as too many.
+-- FORMAT.md, "Limits", of a section's keys as one number: 1 for each, and for one that passes a limit as much as too many.
 use Prim.Native.Nat.{ℕ, _+_}
 use mathlib.Core.Bool.{Bool, true, not, _&&_, _||_, cond}
 use mathlib.Core.List.{List, [], _∷_}

@@ -6,7 +6,7 @@ use wire::bpos::Bpos;
 use wire::kinds;
 use wire::positions;
 
-// Whether a key of a section is within document 01's limits.
+// Whether a key of a section is within FORMAT.md's limits.
 fn key_fits(section: u8, ty: u8, pos: Bpos) -> bool
     ensures { λ r. ⌜ r ≡ keyFits section ty pos ⌝ }
 {

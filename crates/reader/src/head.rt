@@ -54,7 +54,7 @@ pub fn head_ok(h: Head) -> bool
     h.roots < 8
 }
 
-// Whether a head is within document 01's limits.
+// Whether a head is within FORMAT.md's limits.
 pub fn head_within(h: Head) -> bool
     ensures { λ r. ⌜ r ≡ headWithin (headIn h) ⌝ }
 {

@@ -1,4 +1,4 @@
-// Document 01's limits on one field.
+// The limits of FORMAT.md on one field.
 ghost use mathlib.Core.Path.{_≡_};
 ghost use Prim.Native.Nat.{_+_, _≤_};
 ghost use lib.ListN.{length, drop};

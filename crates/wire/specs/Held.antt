@@ -1,4 +1,4 @@
--- A key as the code holds it, by value: document 01, "A key's value is a 256-byte array with its length, in one record".
+-- A key as the code holds it, by value: a value is a 256-byte array with its length, in one record (DECISIONS.md, "The forms that document 01 names").
 use Prim.Native.Nat.{ℕ, _-_}
 use mathlib.Core.List.{List, [], _∷_, _++_}
 use lib.ListN.{length, take, replicate}

@@ -54,7 +54,7 @@ sameBucket a b = eqb (a .0) (b .0)
 abbrev pub bucketBelow : Bucket → Bucket → Bool
 bucketBelow a b = ltb (a .0) (b .0)
 
--- Document 01, "Limits": bucket numbers are below 65,536
+-- FORMAT.md, "Limits": bucket numbers are below 65,536
 abbrev pub bucketInRange : Bucket → Bool
 bucketInRange b = ltb (b .0) 65536
 
@@ -99,7 +99,7 @@ fileSectorBytes f = leBytes 8 (f .0)
 abbrev pub fileSectorRead : List ℕ → FileSector
 fileSectorRead s = record { 0 = le 8 s }
 
--- Document 01, "Limits": the base is below 2^40
+-- FORMAT.md, "Limits": the base is below 2^40
 abbrev pub baseInRange : FileSector → Bool
 baseInRange f = ltb (f .0) (2 ^ 40)
 

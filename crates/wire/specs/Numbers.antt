@@ -1,4 +1,4 @@
--- Document 01, "Call list": numbers are little-endian.
+-- FORMAT.md, "Fields": numbers are little-endian.
 use Prim.Native.Nat.{ℕ, zero, suc, _+_, _*_, _/_, _%_}
 use mathlib.Core.List.{List, [], _∷_, _++_}
 

@@ -1,4 +1,4 @@
--- Document 01, "Call list": keys of a tree ascend strictly by (inode, offset, snapshot).
+-- FORMAT.md, "Call list": keys of a tree ascend strictly by (inode, offset, snapshot).
 use Prim.Native.Nat.{ℕ, compare, Ordering, Ordering·lt, Ordering·eq, Ordering·gt}
 use mathlib.Core.Bool.{Bool, true, false}
 use lib.Dec.{isEq}

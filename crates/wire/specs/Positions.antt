@@ -1,5 +1,4 @@
--- A key's position is made and read by these functions of the kinds, one for each tree. Document 01, "Freespace run", "Generation record",
--- "Piece and extent", "Alloc value", "LRU and need-discard".
+-- A key's position is made and read by these functions of the kinds, one for each tree. FORMAT.md, "Keys".
 use Prim.Native.Nat.{ℕ, _+_, _-_, _*_, _/_, _%_, _^_}
 use Rattle.wire.specs.declared.kinds.Bucket.{Bucket}
 use Rattle.wire.specs.declared.kinds.DeviceSector.{DeviceSector}

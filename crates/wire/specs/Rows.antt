@@ -1,4 +1,4 @@
--- Document 01, "Change list": 73 is a row's inode 8, offset 8, and 1 or 3 signed numbers of 8 bytes each.
+-- FORMAT.md, "Accounting rows": 73 is a row's inode 8, offset 8, and 1 or 3 signed numbers of 8 bytes each.
 use Prim.Native.Nat.{ℕ}
 use mathlib.Core.List.{List, [], _∷_, _++_}
 use lib.IntN.{ℤ, pos, _+ℤ_}
@@ -42,7 +42,7 @@ rowOf b =
 abbrev pub rowField : Counters → Field
 rowField r = record { tag = 73; body = rowBody r }
 
--- Document 01, "Stand-ins": an amount is added at a place of a row
+-- the stand-in of `Txn::count`: an amount is added at a place of a row
 abbrev pub added : List ℤ → ℕ → ℤ → List ℤ
 added ns k x = set ns k (getD ns k (pos 0) +ℤ x)
 

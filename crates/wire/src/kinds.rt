@@ -73,14 +73,14 @@ pub fn bucket_below(a: Bucket, b: Bucket) -> bool
     a.0 < b.0
 }
 
-// Whether a bucket number is within document 01's limit.
+// Whether a bucket number is within FORMAT.md's limit.
 pub fn bucket_in_range(b: Bucket) -> bool
     ensures { λ r. ⌜ r ≡ bucketInRange b ⌝ }
 {
     b.0 < 65536
 }
 
-// Whether the end of a run is within document 01's limit.
+// Whether the end of a run is within FORMAT.md's limit.
 pub fn run_end_in_range(b: Bucket) -> bool
     ensures { λ r. ⌜ r ≡ runEndInRange b ⌝ }
 {
@@ -120,7 +120,7 @@ pub fn read_bucket(s: &[u8], at: usize) -> Bucket
     Bucket(le::le32(s, at) as u64)
 }
 
-// Whether a base is within document 01's limit.
+// Whether a base is within FORMAT.md's limit.
 pub fn base_in_range(f: FileSector) -> bool
     ensures { λ r. ⌜ r ≡ baseInRange f ⌝ }
 {
