@@ -1,5 +1,5 @@
 /* The four calls from C, by the header: the discard that document 01 prints, its apply, and refusals. */
-#include "../../include/zerglaz.h"
+#include <zerglaz.h>
 
 #include <stdio.h>
 #include <string.h>
@@ -146,6 +146,9 @@ int main(void) {
     memset(out, 0xa5, sizeof out);
     number = zerglaz_apply(volume.bytes, volume.length, change.bytes, change.length, out, sizeof out, &written);
     expect("apply", number == ZERGLAZ_ACCEPTED && holds(&next, written));
+#ifdef INSTALLED_VERSION
+    expect("the version", strcmp(ZERGLAZ_VERSION, INSTALLED_VERSION) == 0);
+#endif
     printf("%d passed, %d failed\n", passed, failed);
     return failed != 0;
 }
