@@ -1,6 +1,7 @@
-//! A stable's photographs over two seasons: they are saved and deleted in any order, some are deleted
-//! twice by mistake, and the volume is closed and opened between the seasons. The program keeps a device
-//! of its own, on which each sector says whose it is, and counts what it finds there:
+//! A stable's photographs over two seasons: they are saved and deleted in any order, some are
+//! deleted twice by mistake, and the volume is closed and opened between the seasons. The program
+//! keeps a device of its own, on which each sector says whose it is, and counts what it finds
+//! there:
 //!
 //!     cargo run --release --example stable
 
@@ -47,7 +48,8 @@ impl fmt::Display for Season {
 struct Device(Vec<Option<Photograph>>);
 
 impl Device {
-    /// Write a photograph's piece. Gives how many of its sectors belonged to a photograph that lives.
+    /// Write a photograph's piece. Gives how many of its sectors belonged to a photograph that
+    /// lives.
     fn write(&mut self, piece: Live, of: Photograph, lives: impl Fn(Photograph) -> bool) -> usize {
         let sectors = &mut self.0[piece.first.0 as usize..piece.end().0 as usize];
         let taken = sectors.iter().flatten().filter(|&&other| lives(other));
@@ -97,8 +99,8 @@ impl Stable {
         (self.state >> 11) as usize % n
     }
 
-    /// A season: each day some photographs are saved and some deleted, and at night what was emptied is
-    /// discarded.
+    /// A season: each day some photographs are saved and some deleted, and at night what was
+    /// emptied is discarded.
     fn season(&mut self) -> Result<Season, Error> {
         let mut season = Season::default();
         for _ in 0..DAYS {
@@ -172,6 +174,7 @@ impl Stable {
     }
 }
 
+/// Two seasons on one volume, and what they came to.
 fn main() -> Result<(), Error> {
     let mut stable = Stable::new()?;
     let mut overlaps = 0;

@@ -9,8 +9,8 @@ use crate::request::{Piece, Released};
 use std::collections::{BTreeMap, BTreeSet};
 use std::ops::Range;
 
-/// A call list, or a volume where it has no requests. Keys and reserved buckets are kept in the order
-/// that the layout asks for.
+/// A call list, or a volume where it has no requests. Keys and reserved buckets are kept in the
+/// order that the layout asks for.
 #[derive(Debug, Clone, PartialEq, Eq, Default)]
 pub struct CallList {
     /// What it says of the volume and of the call.

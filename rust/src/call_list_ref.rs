@@ -16,8 +16,8 @@ use crate::usage::Usage;
 pub(crate) const RESERVED: u8 = 64;
 
 /// A call list, or a volume where it has no requests, read where it stands: nothing is copied, and
-/// keys are read as they are asked for. [`CallList`](crate::CallList) holds a list of its own and can
-/// be changed.
+/// keys are read as they are asked for. [`CallList`](crate::CallList) holds a list of its own and
+/// can be changed.
 #[derive(Debug, Clone, Copy)]
 pub struct CallListRef<'a> {
     head: Head,

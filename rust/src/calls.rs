@@ -20,12 +20,13 @@ pub fn place(list: &[u8], out: &mut [u8]) -> Result<usize, Refusal> {
 /// Writes the change list that gives back the sectors of the pieces that `list` names. Gives its
 /// length, which is at most [`MAX_RELEASE_CHANGE`](crate::limits::MAX_RELEASE_CHANGE).
 ///
-/// A list tells sums and not pieces: a release of a piece that is not live is accepted where its bucket
-/// holds as many sectors of other pieces, and these may then be placed over. That no release names such
-/// a piece is the [caller's duty](crate#the-callers-duties), which [`Volume`](crate::Volume) keeps.
+/// A list tells sums and not pieces: a release of a piece that is not live is accepted where its
+/// bucket holds as many sectors of other pieces, and these may then be placed over. That no release
+/// names such a piece is the [caller's duty](crate#the-callers-duties), which
+/// [`Volume`](crate::Volume) keeps.
 ///
-/// The scratch holds at least [`SUMS`] sums. What it held before plays no part; afterwards its first
-/// [`SUMS`] sums are 0 and the others are as they were.
+/// The scratch holds at least [`SUMS`] sums. What it held before plays no part; afterwards its
+/// first [`SUMS`] sums are 0 and the others are as they were.
 ///
 /// # Errors
 /// Refusals 1 to 4, 14 to 19 and 21; `out` is then as it was, and with 1 the scratch too.
@@ -36,7 +37,8 @@ pub fn release(list: &[u8], scratch: &mut [u32], out: &mut [u8]) -> Result<usize
 }
 
 /// Writes the change list that frees the emptied buckets which wait for their discard. Gives its
-/// length, 0 where none waits and at most [`MAX_DISCARD_CHANGE`](crate::limits::MAX_DISCARD_CHANGE).
+/// length, 0 where none waits and at most
+/// [`MAX_DISCARD_CHANGE`](crate::limits::MAX_DISCARD_CHANGE).
 ///
 /// # Errors
 /// Refusals 2, 3, 20 and 21; `out` is then as it was.

@@ -53,8 +53,8 @@ impl<'a> ChangeField<'a> {
     }
 }
 
-/// A change list read where it stands: nothing is copied, and fields are read as they are asked for.
-/// [`ChangeList`](crate::ChangeList) holds a list of its own.
+/// A change list read where it stands: nothing is copied, and fields are read as they are asked
+/// for. [`ChangeList`](crate::ChangeList) holds a list of its own.
 #[derive(Debug, Clone, Copy)]
 pub struct ChangeListRef<'a>(&'a [u8]);
 

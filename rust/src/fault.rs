@@ -29,8 +29,8 @@ pub enum Fault {
     WrongGeneration(Bucket),
     /// The bucket's dirty count is not the sum of its live pieces' sectors.
     WrongSum(Bucket),
-    /// The bucket's alloc key, the runs, the reserved buckets and the need-discard keys do not agree
-    /// on whether it is free, in use or waiting.
+    /// The bucket's alloc key, the runs, the reserved buckets and the need-discard keys do not
+    /// agree on whether it is free, in use or waiting.
     WrongState(Bucket),
     /// The bucket's LRU key is missing or is not that of its dirty count.
     WrongLru(Bucket),

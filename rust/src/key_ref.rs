@@ -76,8 +76,8 @@ impl<'a> KeyRef<'a> {
         alloc_value::dirty_sectors(self.value)
     }
 
-    /// The bucket that a key of the alloc, LRU or need-discard tree is of; none where its offset has
-    /// more than 32 bits.
+    /// The bucket that a key of the alloc, LRU or need-discard tree is of; none where its offset
+    /// has more than 32 bits.
     pub fn bucket(self) -> Option<Bucket> {
         u32::try_from(self.position.offset).ok().map(Bucket)
     }

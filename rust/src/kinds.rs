@@ -22,8 +22,8 @@ impl Bucket {
 }
 
 impl DeviceSector {
-    /// The bucket that the sector lies in, where a bucket has `bucket_sectors`; none where that is 0
-    /// or the bucket's number has more than 32 bits.
+    /// The bucket that the sector lies in, where a bucket has `bucket_sectors`; none where that is
+    /// 0 or the bucket's number has more than 32 bits.
     pub fn bucket(self, bucket_sectors: u16) -> Option<Bucket> {
         let number = self.0.checked_div(u64::from(bucket_sectors))?;
         u32::try_from(number).ok().map(Bucket)

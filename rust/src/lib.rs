@@ -1,7 +1,7 @@
 //! Zerglaz: a verified bucket allocator for bcachefs volumes.
 //!
-//! A [`Volume`] saves pieces of files, deletes them, and discards the buckets that were emptied, so that
-//! they can be used again:
+//! A [`Volume`] saves pieces of files, deletes them, and discards the buckets that were emptied, so
+//! that they can be used again:
 //!
 //! ```
 //! use zerglaz::{Bucket, Error, FileSector, Format, Piece, Volume};
@@ -44,57 +44,60 @@
 //! # What is proved
 //!
 //! Behind a `Volume` stand four calls on slices of bytes: [`place`], [`release`], [`discard`] and
-//! [`apply`]. Each has one outcome over any bytes, and its code is proved to have it. Accepted, it gives
-//! the answer's length; the answer stands at the start of the output and the rest of the output is as it
-//! was. Refused, it gives the first [`Refusal`] whose test fails, and all of the output is as it was.
+//! [`apply`]. Each has one outcome over any bytes, and its code is proved to have it. Accepted, it
+//! gives the answer's length; the answer stands at the start of the output and the rest of the
+//! output is as it was. Refused, it gives the first [`Refusal`] whose test fails, and all of the
+//! output is as it was.
 //!
 //! In every history of these calls that keeps the duties below, of calls in any order, accepted or
-//! refused, no sector is occupied by two live pieces, each live piece lies inside its bucket and carries
-//! its generation, each dirty count is the sum of its live pieces' sectors, and each bucket that the clean
-//! volume offers is in exactly one of free, in use, waiting: the theorem `demand3` (docs/CLAIMS.md).
+//! refused, no sector is occupied by two live pieces, each live piece lies inside its bucket and
+//! carries its generation, each dirty count is the sum of its live pieces' sectors, and each bucket
+//! that the clean volume offers is in exactly one of free, in use, waiting: the theorem `demand3`
+//! (docs/CLAIMS.md).
 //!
 //! # The caller's duties
 //!
-//! A history is a list of place, release and discard calls; each reads the volume last reached, of which
-//! nothing but field 1 and requests has changed. A piece is live from its applied placement to the applied
-//! release that names it by first sector and length.
+//! A history is a list of place, release and discard calls; each reads the volume last reached, of
+//! which nothing but field 1 and requests has changed. A piece is live from its applied placement
+//! to the applied release that names it by first sector and length.
 //!
 //! 1. The history starts from a clean volume.
 //! 2. A release names pieces that are live, none twice.
-//! 3. An accepted change is applied whole before the next call, and data is written only to places whose
-//!    change is applied.
+//! 3. An accepted change is applied whole before the next call, and data is written only to places
+//!    whose change is applied.
 //! 4. A refused apply drops its change.
 //! 5. Bucket sectors stay.
 //!
-//! No call tests whether they are kept, and nothing is claimed of a history that breaks one. A second
-//! release of a piece, for one, is accepted where other pieces hold enough sectors in its bucket; the
-//! bucket can then be emptied and given to other data while a piece lies in it.
+//! No call tests whether they are kept, and nothing is claimed of a history that breaks one. A
+//! second release of a piece, for one, is accepted where other pieces hold enough sectors in its
+//! bucket; the bucket can then be emptied and given to other data while a piece lies in it.
 //!
 //! A [`Volume`] keeps these duties for its caller, but for what cannot be known from bytes: its
 //! documentation says which part stays. It is plain Rust over the calls, tested and not proved.
 //!
-//! Outside all of this: what the device does with the data, power failures, the program's own records of
-//! which pieces make a file, buckets that hold metadata or cached data, and the compilers.
+//! Outside all of this: what the device does with the data, power failures, the program's own
+//! records of which pieces make a file, buckets that hold metadata or cached data, and the
+//! compilers.
 //!
 //! # Limits
 //!
-//! [`limits`] has them as constants, with the longest volume and the longest change list of each call, so
-//! that outputs can be sized once. A volume holds at most 4,096 live pieces, and at most 4,096 of its
-//! buckets are ever used. A save has at most 1,024 pieces, each of at most 128 sectors and one bucket, and
-//! leaves 32 buckets free, and the journal reserve.
+//! [`limits`] has them as constants, with the longest volume and the longest change list of each
+//! call, so that outputs can be sized once. A volume holds at most 4,096 live pieces, and at most
+//! 4,096 of its buckets are ever used. A save has at most 1,024 pieces, each of at most 128 sectors
+//! and one bucket, and leaves 32 buckets free, and the journal reserve.
 //!
-//! A bucket wears: a discard takes generations below 16, and each emptying adds one, so that a bucket that
-//! was emptied sixteen times is not used again. It counts as [retired](Usage::retired).
+//! A bucket wears: a discard takes generations below 16, and each emptying adds one, so that a
+//! bucket that was emptied sixteen times is not used again. It counts as [retired](Usage::retired).
 //!
 //! A call takes at most 512 KiB of stack, which is tested and not proved, and allocates nothing.
 //!
 //! # The raw calls
 //!
-//! A call reads a call list: a volume, and for a placement or a release its requests. It writes a change
-//! list, which [`apply`] carries over into the next volume. [`CallList`] and [`ChangeList`] build the
-//! lists; [`CallListRef`] and [`ChangeListRef`] read them where they stand, without copying keys. They are
-//! plain Rust, without proof: a list that they get wrong is refused by the calls or says something else,
-//! and breaks no call's promise. docs/FORMAT.md has the format.
+//! A call reads a call list: a volume, and for a placement or a release its requests. It writes a
+//! change list, which [`apply`] carries over into the next volume. [`CallList`] and [`ChangeList`]
+//! build the lists; [`CallListRef`] and [`ChangeListRef`] read them where they stand, without
+//! copying keys. They are plain Rust, without proof: a list that they get wrong is refused by the
+//! calls or says something else, and breaks no call's promise. docs/FORMAT.md has the format.
 //!
 //! ```
 //! use zerglaz::{apply, limits, place, Bucket, Call, CallListRef, ChangeListRef, Format, Piece};
@@ -124,9 +127,10 @@
 //!
 //! # Platform
 //!
-//! The calls are in an archive, libzerglaz.a, of x86-64 code; the crate is built for no other target. Only
-//! x86-64 Linux was tried. The build looks for the archive in the folder that `ZERGLAZ_LIB_DIR` names, or
-//! else in target/staticlib of the repository, where `rt staticlib zerglaz` writes it.
+//! The calls are in an archive, libzerglaz.a, of x86-64 code; the crate is built for no other
+//! target, and only x86-64 Linux was tried. The build looks for the archive in the folder that
+//! `ZERGLAZ_LIB_DIR` names, or else in target/staticlib of the repository, where
+//! `rt staticlib zerglaz` writes it.
 #![deny(unsafe_code, unsafe_op_in_unsafe_fn)]
 #![warn(missing_docs)]
 

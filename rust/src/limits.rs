@@ -1,5 +1,5 @@
-//! The limits that every call tests, and the longest lists that follow from them. The reasons of each
-//! length stand in docs/FORMAT.md, "Limits".
+//! The limits that every call tests, and the longest lists that follow from them. The reasons of
+//! each length stand in docs/FORMAT.md, "Lengths".
 //!
 //! An output that is as long as the constant says is never too short, so that it can be sized once.
 
@@ -48,20 +48,21 @@ const ROW_OF_THREE: usize = FIELD + 40;
 const SECTORS_FIELD: usize = FIELD + 8;
 const END_FIELD: usize = FIELD;
 
-/// The longest volume, and so the longest answer of apply: 7,303,210 bytes. All six trees are full of
-/// keys with the longest value, and all reserved buckets are there.
+/// The longest volume, and so the longest answer of apply: 7,303,210 bytes. All six trees are full
+/// of keys with the longest value, and all reserved buckets are there.
 pub const MAX_VOLUME: usize = HEAD_FIELD + 6 * MAX_KEYS * LONGEST_KEY + MAX_RESERVED * BUCKET_FIELD;
 
-/// The longest call list: 7,319,594 bytes. The longest volume, and all requests of a placement, which
-/// are longer than those of a release.
+/// The longest call list: 7,319,594 bytes. The longest volume, and all requests of a placement,
+/// which are longer than those of a release.
 pub const MAX_CALL_LIST: usize = MAX_VOLUME + MAX_REQUESTS * PIECE_FIELD;
 
 /// The longest change list of a placement: 476,805 bytes.
 ///
-/// Each piece opens a bucket of its own and leaves it part filled. A piece has an extent with two words
-/// of checksum and one of pointer, a backpointer of 32 bytes and a field 72; a bucket has an alloc key
-/// of 64 bytes, an LRU key and a field 71. All runs are walked: those walked to their end are deleted,
-/// and the last one, which is shortened, keeps its value. One root, all nine rows, one field 74.
+/// Each piece opens a bucket of its own and leaves it part filled. A piece has an extent with two
+/// words of checksum and one of pointer, a backpointer of 32 bytes and a field 72; a bucket has an
+/// alloc key of 64 bytes, an LRU key and a field 71. All runs are walked: those walked to their end
+/// are deleted, and the last one, which is shortened, keeps its value. One root, all nine rows, one
+/// field 74.
 pub const MAX_PLACE_CHANGE: usize = MAX_REQUESTS
     * ((KEY_FIELD + 24) + (KEY_FIELD + 32) + PLACED_FIELD)
     + MAX_REQUESTS * ((KEY_FIELD + 64) + KEY_FIELD + BUCKET_FIELD)
@@ -75,11 +76,11 @@ pub const MAX_PLACE_CHANGE: usize = MAX_REQUESTS
 
 /// The longest change list of a release: 729,212 bytes.
 ///
-/// Each piece is all that a part-filled bucket of its own holds, so that the bucket is emptied: an alloc
-/// key and a generation record with the longest values, a record once for each bucket, the deletion of
-/// the LRU key and a need-discard key. A bucket that keeps sectors has a second LRU key, and neither a
-/// record nor a need-discard key, which is less. Each piece has the deletion of its backpointer. Two
-/// roots, all three rows.
+/// Each piece is all that a part-filled bucket of its own holds, so that the bucket is emptied: an
+/// alloc key and a generation record with the longest values, a record once for each bucket, the
+/// deletion of the LRU key and a need-discard key. A bucket that keeps sectors has a second LRU
+/// key, and neither a record nor a need-discard key, which is less. Each piece has the deletion of
+/// its backpointer. Two roots, all three rows.
 pub const MAX_RELEASE_CHANGE: usize = MAX_REQUESTS
     * (2 * LONGEST_KEY + KEY_FIELD + KEY_FIELD + KEY_FIELD)
     + 2 * ROOT_FIELD
@@ -89,9 +90,9 @@ pub const MAX_RELEASE_CHANGE: usize = MAX_REQUESTS
 
 /// The longest change list of a discard: 1,933,312 bytes.
 ///
-/// All alloc keys have the longest value and wait, each in a batch of its own, so that neither runs nor
-/// rows are joined: the alloc key, a run, the deletion of the need-discard key, two rows, a field 75
-/// and the batch's end.
+/// All alloc keys have the longest value and wait, each in a batch of its own, so that neither runs
+/// nor rows are joined: the alloc key, a run, the deletion of the need-discard key, two rows, a
+/// field 75 and the batch's end.
 pub const MAX_DISCARD_CHANGE: usize =
     MAX_KEYS * (LONGEST_KEY + KEY_FIELD + KEY_FIELD + 2 * ROW_OF_THREE + BUCKET_FIELD + END_FIELD);
 

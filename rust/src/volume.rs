@@ -23,19 +23,19 @@ use std::fmt;
 /// A volume, with the memory that its steps need.
 ///
 /// Each step is a call and its apply in one: [`save`](Volume::save), [`delete`](Volume::delete) and
-/// [`discard`](Volume::discard) are refused whole or applied whole. After an error the volume's bytes
-/// are as they were.
+/// [`discard`](Volume::discard) are refused whole or applied whole. After an error the volume's
+/// bytes are as they were.
 ///
 /// # What it keeps for the caller
 ///
 /// The [caller's duties](crate#the-callers-duties) towards the four calls are kept like this:
 ///
-/// 1. [`Volume::format`] makes a clean volume and nothing else. [`Volume::open`] goes on with bytes that
-///    a `Volume` gave; what it checks of them, and what it cannot, stands there.
+/// 1. [`Volume::format`] makes a clean volume and nothing else. [`Volume::open`] goes on with bytes
+///    that a `Volume` gave; what it checks of them, and what it cannot, stands there.
 /// 2. [`delete`](Volume::delete) names pieces that are live and none twice, or is refused by
 ///    [`Error::NotLive`] or [`Error::NamedTwice`] before any call is made.
-/// 3. A step's change is applied whole before the step returns. To write data only to the places that a
-///    save gave, and after it gave them, stays with the caller.
+/// 3. A step's change is applied whole before the step returns. To write data only to the places
+///    that a save gave, and after it gave them, stays with the caller.
 /// 4. Where apply refuses, the change is dropped: [`Error::Dropped`].
 /// 5. Bucket sectors are chosen by [`Format`] and have no setter.
 ///
@@ -43,17 +43,17 @@ use std::fmt;
 ///
 /// # Journal numbers
 ///
-/// A step's changes carry the volume's journal number, and after each step that is applied, also one
-/// that changes nothing else, the number is one higher; 2^64 − 1 is followed by 0. A program with a
-/// journal of its own says by [`set_journal`](Volume::set_journal) which number comes next. The claim
-/// asks nothing of these numbers.
+/// A step's changes carry the volume's journal number, and after each step that is applied, also
+/// one that changes nothing else, the number is one higher; 2^64 − 1 is followed by 0. A program
+/// with a journal of its own says by [`set_journal`](Volume::set_journal) which number comes next.
+/// The claim asks nothing of these numbers.
 ///
 /// # Memory and time
 ///
-/// Two lists, a change list and the scratch are sized once by [`limits`](crate::limits), about 17 MB in
-/// all; what a small volume does not touch costs no memory on systems that hand out zeroed pages late.
-/// A step reads the volume's bytes once in the call and once in apply. A thread that makes a step needs
-/// 512 KiB of stack.
+/// Two lists, a change list and the scratch are sized once by [`limits`](crate::limits), about 17
+/// MB in all; where zeroed pages are handed out when they are touched, a small volume takes a part
+/// of it. A step costs the call and its apply, each of which reads the volume's bytes. A thread
+/// that makes one needs 512 KiB of stack.
 pub struct Volume {
     /// The volume; a call's requests stand after it while the call is made.
     list: Buffer,
@@ -81,17 +81,19 @@ impl Volume {
     /// [`into_bytes`](Volume::into_bytes), or that is clean.
     ///
     /// What is checked: the layout and the limits; that bucket sectors are above 0; that runs have
-    /// buckets and share none; that each live piece lies inside its bucket and has its generation, and
-    /// no two overlap; that each dirty count is the sum of its live pieces' sectors; that each bucket
-    /// with an alloc key is in exactly one of free, in use and waiting, and reserved where it is not
-    /// free; that LRU keys and generation records are those of the buckets; and that no other key stands
-    /// in any tree. So a volume that a history from a clean volume reaches is opened, and one that is
-    /// damaged in these points is not. Journal numbers, clocks, flags and roots are not checked.
+    /// buckets and share none; that each live piece lies inside its bucket and has its generation,
+    /// and no two overlap; that each dirty count is the sum of its live pieces' sectors; that each
+    /// bucket with an alloc key is in exactly one of free, in use and waiting, and reserved where
+    /// it is not free; that LRU keys and generation records are those of the buckets; and that no
+    /// other key stands in any tree. So a volume that a history from a clean volume reaches is
+    /// opened, and one that is damaged in these points is not. Journal numbers, clocks, flags and
+    /// roots are not checked.
     ///
-    /// What cannot be checked, and stays with the caller: that the bytes are the last that the history
-    /// reached and no older ones; that they are opened once, since two volumes opened from the same
-    /// bytes are two histories; and that the device holds the data that was written. Of bytes that no
-    /// history from a clean volume reached, and that pass the checks all the same, nothing is claimed.
+    /// What cannot be checked, and stays with the caller: that the bytes are the last that the
+    /// history reached and no older ones; that they are opened once, since two volumes of the same
+    /// bytes are two histories on one device (a `Volume` cannot be cloned for the same reason); and
+    /// that the device holds the data that was written. Of bytes that no history from a clean
+    /// volume reached, and that pass the checks all the same, nothing is claimed.
     ///
     /// # Errors
     /// [`Error::Refused`] with the refusal of apply or [`Refusal::NoBucketSectors`];
@@ -123,9 +125,9 @@ impl Volume {
         self.bytes().to_vec()
     }
 
-    /// Saves pieces of file `inode`, which hold its data from file sector `base` on, and gives where
-    /// each of them lies, in their order. The data is to be written there, and only there, once the
-    /// save has returned.
+    /// Saves pieces of file `inode`, which hold its data from file sector `base` on, and gives
+    /// where each of them lies, in their order. The data is to be written there, and only there,
+    /// once the save has returned.
     ///
     /// # Errors
     /// [`Error::Refused`] with refusals 3, 5 to 9 and 11 of a placement; [`Error::Dropped`] with
@@ -158,10 +160,10 @@ impl Volume {
     /// Deletes live pieces. A bucket that holds none afterwards waits for its discard.
     ///
     /// # Errors
-    /// [`Error::NotLive`] where a piece is not live, by its first sector, length and generation, and
-    /// [`Error::NamedTwice`] where one is named twice, of several the one with the lowest first sector;
-    /// [`Error::Refused`] with [`Refusal::LimitPassed`] for more than 1,024 pieces; [`Error::Dropped`]
-    /// with [`Refusal::LimitPassed`] where the volume would have too many keys.
+    /// [`Error::NotLive`] where a piece is not live, by its first sector, length and generation,
+    /// and [`Error::NamedTwice`] where one is named twice, of several the one with the lowest first
+    /// sector; [`Error::Refused`] with [`Refusal::LimitPassed`] for more than 1,024 pieces;
+    /// [`Error::Dropped`] with [`Refusal::LimitPassed`] where the volume would have too many keys.
     pub fn delete(&mut self, pieces: &[Live]) -> Result<(), Error> {
         self.change.clear();
         let mut requests = requests(pieces.len(), RELEASED_FIELD)?;
@@ -183,8 +185,8 @@ impl Volume {
         )
     }
 
-    /// Discards the waiting buckets, which are free afterwards, and gives them. Those that have been
-    /// emptied sixteen times go on waiting.
+    /// Discards the waiting buckets, which are free afterwards, and gives them. Those that have
+    /// been emptied sixteen times go on waiting.
     ///
     /// # Errors
     /// [`Error::Dropped`] with [`Refusal::LimitPassed`] where the volume would have too many runs.
@@ -202,8 +204,8 @@ impl Volume {
     }
 
     /// The change list of the last step, for the program's journal and for the extents and the
-    /// accounting, which a volume does not hold. No bytes where that step was refused or had nothing to
-    /// discard, and before the first step and after a choice of options.
+    /// accounting, which a volume does not hold. No bytes where that step was refused or had
+    /// nothing to discard, and before the first step and after a choice of options.
     pub fn change(&self) -> &[u8] {
         self.change.list()
     }
@@ -277,7 +279,7 @@ impl Volume {
     /// Choose anew for the steps to come.
     ///
     /// # Errors
-    /// [`Error::Refused`] with refusals 3, 5, 8 and 20, by the calls' own tests; the options are then as
+    /// [`Error::Refused`] with refusals 3, 5, 8 and 20, as the calls test; the options are then as
     /// they were.
     pub fn set_options(&mut self, options: Options) -> Result<(), Error> {
         let before = self.head();
@@ -342,23 +344,24 @@ impl Volume {
         Ok(())
     }
 
-    /// The calls' own tests of a head: a placement of nothing, too few free buckets aside, and a
-    /// discard. Their changes are not applied.
+    /// A head by place's own tests, too few free buckets aside, with a placement of nothing: its
+    /// change list changes nothing. A batch of 0 is refused as discard refuses it.
     fn judge(&mut self, head: Head) -> Result<(), Error> {
-        for call in [Call::Place, Call::Discard] {
-            self.set_head(Head { call, ..head });
-            let judged = self.ask(call, &[]);
-            self.change.clear();
-            match judged {
-                Err(Refusal::TooFewFreeBuckets) => (),
-                judged => judged?,
+        let call = Call::Place;
+        self.set_head(Head { call, ..head });
+        let judged = self.ask(call, &[]);
+        self.change.clear();
+        match judged {
+            Ok(()) | Err(Refusal::TooFewFreeBuckets) if head.batch == 0 => {
+                Err(Error::Refused(Refusal::NoBatch))
             }
+            Ok(()) | Err(Refusal::TooFewFreeBuckets) => Ok(()),
+            Err(refusal) => Err(Error::Refused(refusal)),
         }
-        Ok(())
     }
 
-    /// That pieces are live and none is named twice: the volume has a backpointer at the first sector,
-    /// with the length and the generation, which is the bucket's too.
+    /// That pieces are live and none is named twice: the volume has a backpointer at the first
+    /// sector, with the length and the generation, which is the bucket's too.
     fn check_live(&self, pieces: &[Live]) -> Result<(), Error> {
         let mut asked = pieces.to_vec();
         asked.sort();

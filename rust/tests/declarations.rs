@@ -1,5 +1,6 @@
-//! Each of the four functions that `src/ffi.rs` and `include/zerglaz.h` declare, held to answers that
-//! are written out here by hand from document 01.
+//! Each of the four functions that `src/ffi.rs` and `include/zerglaz.h` declare, held to answers
+//! that are written out here by hand from docs/FORMAT.md and its source; and the header's names,
+//! version and limits, held to the crate's.
 
 mod common;
 
@@ -55,7 +56,7 @@ fn hold(list: &CallList, batch: Batch) {
     assert_eq!(held, Ok(3));
 }
 
-/// The keys of P case 9: the extent, the bucket's alloc key, the run that is left, the backpointer.
+/// The keys of worked case 9: the extent, the bucket's alloc key, the run that is left, the backpointer.
 fn keys_of_place() -> Vec<(Tree, Key)> {
     let mut extent = key(
         key_type::EXTENT,
@@ -76,7 +77,7 @@ fn keys_of_place() -> Vec<(Tree, Key)> {
     ]
 }
 
-/// P case 9: one piece of 128 sectors fills bucket 0.
+/// Worked case 9: one piece of 128 sectors fills bucket 0.
 #[test]
 fn place() {
     let mut list = list(Call::Place, 128);
@@ -104,7 +105,7 @@ fn place() {
     hold(&list, batch);
 }
 
-/// P case 7: bucket 5 holds 96 sectors, and freeing 96 empties it.
+/// Worked case 7: bucket 5 holds 96 sectors, and freeing 96 empties it.
 #[test]
 fn release() {
     let mut list = list(Call::Release, 128);
@@ -144,7 +145,7 @@ fn release() {
     );
 }
 
-/// The discard whose lines document 01 prints.
+/// The printed case of docs/FORMAT.md, "The program bucketlines".
 #[test]
 fn discard() {
     let mut list = list(Call::Discard, 8);

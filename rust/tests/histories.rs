@@ -1,5 +1,6 @@
 //! Random histories through the archive: each number is the model's, each answer is applied by the
-//! archive and by the model with the same bytes, and demand 3 is counted on the volume after each step.
+//! archive and by the model with the same bytes, and demand 3 is counted on the volume after each
+//! step.
 
 mod common;
 
@@ -12,7 +13,7 @@ use lists::model::{verdict, SUMS};
 use lists::rng::Rng;
 use std::collections::BTreeSet;
 use zerglaz::limits::RETIRED_GENERATION;
-use zerglaz::ChangeListRef;
+use zerglaz::{CallListRef, ChangeListRef};
 
 /// How many histories, and how many steps each has.
 const HISTORIES: u64 = 80;
@@ -35,7 +36,8 @@ fn call(rng: &mut Rng, call: u8, list: &[u8]) -> Option<Vec<u8>> {
     Some(out)
 }
 
-/// The archive's apply gives the model's next volume, or its number.
+/// The archive's apply gives the model's next volume, or its number; that volume passes the checks
+/// of `Volume::open`.
 fn hold_apply(list: &[u8], change: &[u8]) {
     let volume = CallList::read(list).expect("a call list").volume().bytes();
     let (number, next) = apply(&volume, change, usize::MAX);
@@ -45,6 +47,10 @@ fn hold_apply(list: &[u8], change: &[u8]) {
     };
     let held = ARCHIVE.hold_apply(&volume, change, next.len() + 9, due);
     held.unwrap_or_else(|why| panic!("apply: {why}"));
+    if number == 0 {
+        let next = CallListRef::read(&next).expect("a volume");
+        next.check().expect("what a history reaches is opened");
+    }
 }
 
 #[test]
@@ -64,8 +70,8 @@ fn demand_3() {
     assert!(sum.highest_generation > 0);
 }
 
-/// One long history, in which buckets come round often: until they have had every generation but the
-/// one at which they retire.
+/// One long history, in which buckets come round often: until they have had every generation but
+/// the one at which they retire.
 #[test]
 fn a_long_history() {
     let mut history = History::new(7);

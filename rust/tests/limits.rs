@@ -97,8 +97,8 @@ fn volume() {
     assert_eq!(more, Err(Refusal::LimitPassed));
 }
 
-/// Pieces that do not go two into a bucket nor fill one, of all kinds that have a row, in sectors that
-/// are no whole buckets in all.
+/// Pieces that do not go two into a bucket nor fill one, of all kinds that have a row, in sectors
+/// that are no whole buckets in all.
 fn pieces() -> impl Iterator<Item = Place> {
     (0..MAX_REQUESTS as u16).map(|i| Place {
         file: if i % 4 == 3 { 100 } else { 128 },
@@ -108,8 +108,8 @@ fn pieces() -> impl Iterator<Item = Place> {
     })
 }
 
-/// Runs without buckets, which are walked and deleted, and a last one that is shortened and keeps its
-/// value.
+/// Runs without buckets, which are walked and deleted, and a last one that is shortened and keeps
+/// its value.
 fn runs() -> impl Iterator<Item = Key> {
     let empty = (1..MAX_KEYS as u64).map(|end| long_key(25, 0, end));
     let size = MAX_REQUESTS as u32 + KEPT_BACK;

@@ -5,8 +5,8 @@ use zerglaz::{
     Position, Refusal, Tree, Volume,
 };
 
-/// A volume of 60 buckets of 128 sectors: bucket 0 waits, bucket 1 was discarded, bucket 2 holds a piece
-/// of 100 sectors, bucket 3 pieces of 50 and 20, and the others were never used.
+/// A volume of 60 buckets of 128 sectors: bucket 0 waits, bucket 1 was discarded, bucket 2 holds a
+/// piece of 100 sectors, bucket 3 pieces of 50 and 20, and the others were never used.
 fn volume() -> Volume {
     let mut volume = Volume::format(&Format::new(128, 60)).expect("a clean volume");
     let pieces = [128, 128, 100, 50, 20].map(|n| Piece::plain(n, 7));
@@ -240,4 +240,43 @@ fn other_keys() {
     faulty(Fault::StrangeKey(Tree::Lru, full), |list| {
         list.insert(Tree::Lru, Key::new(key_type::SET, full));
     });
+}
+
+/// Save, delete and discard what can be, with the checks of an opening after each step.
+fn use_up(volume: &mut Volume) -> Result<(), Fault> {
+    for _ in 0..2 {
+        while let Ok(saved) = volume.save(1, FileSector(0), &[Piece::plain(100, 7); 5]) {
+            assert_eq!(saved.len(), 5);
+            volume.list().check()?;
+        }
+        let live: Vec<Live> = volume.live().collect();
+        volume.delete(&live).expect("live pieces");
+        volume.list().check()?;
+        volume.discard().expect("waiting buckets");
+        volume.list().check()?;
+    }
+    Ok(())
+}
+
+/// With one bit changed the volume is refused, or it is used up without a fault: every seventh bit.
+#[test]
+fn changed_bits() {
+    let bytes = volume().into_bytes();
+    let (mut refused, mut used) = (0, 0);
+    for bit in (0..bytes.len() * 8).step_by(7) {
+        let mut changed = bytes.clone();
+        changed[bit / 8] ^= 1 << (bit % 8);
+        let Ok(mut volume) = Volume::open(&changed) else {
+            refused += 1;
+            continue;
+        };
+        // Options that place refuses are no fault.
+        volume
+            .set_options(zerglaz::Options::default())
+            .expect("good options");
+        use_up(&mut volume).unwrap_or_else(|fault| panic!("bit {bit}: {fault}"));
+        used += 1;
+    }
+    println!("{refused} refused, {used} used");
+    assert!(refused > 300 && used > 300);
 }

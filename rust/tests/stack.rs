@@ -1,6 +1,6 @@
-//! Each call on lists at the limits, in a thread that has 512 KiB of stack in all: the bound that the
-//! header gives. A call that takes more ends the test's process. Each answer is the stored one, so that
-//! the lists that are to be accepted run through the whole call.
+//! Each call on lists at the limits, in a thread that has 512 KiB of stack in all: the bound that
+//! the header gives. A call that takes more ends the test's process. Each answer is the stored one,
+//! so that the lists that are to be accepted run through the whole call.
 
 use lists::call_list::{DISCARD, PLACE, RELEASE};
 use lists::vectors::{self, Held};

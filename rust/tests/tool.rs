@@ -94,7 +94,8 @@ fn lines_of_answers() {
     assert_eq!(text(&["lines"], &[76, 0, 0]), "end\n");
 }
 
-/// The calls and apply give the stored bytes, from files and from the standard input, in both forms.
+/// The calls and apply give the stored bytes, from files and from the standard input, in both
+/// forms.
 #[test]
 fn calls_and_applies() {
     for name in ["place", "release", "discard"] {
@@ -129,7 +130,8 @@ fn calls_and_applies() {
     }
 }
 
-/// The examples are hexadecimal text; a call list's requests are left out where a volume is asked for.
+/// The examples are hexadecimal text; a call list's requests are left out where a volume is asked
+/// for.
 #[test]
 fn examples() {
     let example = in_repository("examples/1-place.hex");

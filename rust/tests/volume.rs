@@ -87,9 +87,9 @@ impl Raw {
     }
 }
 
-/// What follows where the second duty is not kept: the raw calls know sums and not pieces, so that a
-/// second release of one piece takes the sectors of another, which then is placed over. The theorem
-/// says nothing of such calls, since this release names no live piece.
+/// What follows where the second duty is not kept: the raw calls know sums and not pieces, so that
+/// a second release of one piece takes the sectors of another, which then is placed over. The
+/// theorem says nothing of such calls, since this release names no live piece.
 #[test]
 fn the_raw_calls_accept_a_double_release() {
     let clean = Format::new(128, 40).to_list().expect("a clean volume");
@@ -121,66 +121,46 @@ fn the_raw_calls_accept_a_double_release() {
     assert!(matches!(opened, Err(Error::NotReached(_))), "{opened:?}");
 }
 
+/// Pieces that are not live while one of 60 sectors lies at the device's first sector, generation 0:
+/// each is wrong in its first sector, its sectors or its generation.
+fn not_live() -> impl Iterator<Item = Live> {
+    let wrong = [
+        (0, 59, 0),
+        (0, 61, 0),
+        (0, 0, 0),
+        (0, 60, 1),
+        (1, 60, 0),
+        (60, 60, 0),
+        (128 * 39, 60, 0),
+        (1 << 48, 60, 0),
+        (u64::MAX, 60, 0),
+    ];
+    wrong.into_iter().map(|(first, sectors, generation)| Live {
+        first: DeviceSector(first),
+        sectors,
+        generation,
+    })
+}
+
 /// Deletions that name no live piece, or one twice, are refused whole.
 #[test]
 fn wrong_deletions() {
     let mut volume = clean(40);
     let saved = save(&mut volume, &[60, 30, 128]);
-    let piece = saved[0];
-    let wrong = [
-        Live {
-            sectors: 59,
-            ..piece
-        },
-        Live {
-            sectors: 61,
-            ..piece
-        },
-        Live {
-            sectors: 0,
-            ..piece
-        },
-        Live {
-            generation: 1,
-            ..piece
-        },
-        Live {
-            first: DeviceSector(1),
-            ..piece
-        },
-        Live {
-            first: DeviceSector(60),
-            ..piece
-        },
-        Live {
-            first: DeviceSector(128 * 39),
-            ..piece
-        },
-        Live {
-            first: DeviceSector(1 << 48),
-            ..piece
-        },
-        Live {
-            first: DeviceSector(u64::MAX),
-            ..piece
-        },
-    ];
-    for wrong in wrong {
-        refused(&mut volume, Error::NotLive(wrong), |volume| {
-            volume.delete(&[wrong])
-        });
-        refused(&mut volume, Error::NotLive(wrong), |volume| {
-            volume.delete(&[saved[1], wrong, saved[2]])
-        });
+    for wrong in not_live() {
+        let due = Error::NotLive(wrong);
+        refused(&mut volume, due, |volume| volume.delete(&[wrong]));
+        let among = [saved[1], wrong, saved[2]];
+        refused(&mut volume, due, |volume| volume.delete(&among));
         assert!(!volume.is_live(wrong));
     }
-    refused(&mut volume, Error::NamedTwice(piece), |volume| {
-        volume.delete(&[piece, saved[1], piece])
+    let twice = [saved[0], saved[1], saved[0]];
+    refused(&mut volume, Error::NamedTwice(saved[0]), |volume| {
+        volume.delete(&twice)
     });
     assert!(saved.iter().all(|&piece| volume.is_live(piece)));
-    volume
-        .delete(&[saved[2], saved[0], saved[1]])
-        .expect("live pieces, in any order");
+    let in_any_order = [saved[2], saved[0], saved[1]];
+    volume.delete(&in_any_order).expect("live pieces");
     assert_eq!(volume.live().count(), 0);
 }
 
@@ -306,64 +286,54 @@ fn journal_numbers() {
     assert_eq!(volume.journal(), 1);
 }
 
-/// Options are judged by the calls, and stay where they are refused.
+/// Options that are taken.
+const OPTIONS: Options = Options {
+    block_sectors: 8,
+    checksum_option: 3,
+    journal_reserve: 8,
+    batch: 1,
+};
+
+/// Options with one that is refused, and the refusal.
+fn bad_options() -> [(Options, Refusal); 4] {
+    let with = |change: fn(&mut Options)| {
+        let mut options = OPTIONS;
+        change(&mut options);
+        options
+    };
+    [
+        (
+            with(|o| o.checksum_option = 4),
+            Refusal::UnknownChecksumOption,
+        ),
+        (with(|o| o.block_sectors = 3), Refusal::BlockDoesNotDivide),
+        (with(|o| o.journal_reserve = 65_537), Refusal::LimitPassed),
+        (with(|o| o.batch = 0), Refusal::NoBatch),
+    ]
+}
+
+/// Options are judged as the calls test, and stay where they are refused.
 #[test]
 fn options() {
     let mut volume = clean(40);
-    let options = Options {
-        block_sectors: 8,
-        checksum_option: 3,
-        journal_reserve: 8,
-        batch: 1,
-    };
-    volume.set_options(options).expect("good options");
-    assert_eq!(volume.options(), options);
-    let bad = [
-        (
-            Options {
-                checksum_option: 4,
-                ..options
-            },
-            Refusal::UnknownChecksumOption,
-        ),
-        (
-            Options {
-                block_sectors: 3,
-                ..options
-            },
-            Refusal::BlockDoesNotDivide,
-        ),
-        (
-            Options {
-                journal_reserve: 65_537,
-                ..options
-            },
-            Refusal::LimitPassed,
-        ),
-        (
-            Options {
-                batch: 0,
-                ..options
-            },
-            Refusal::NoBatch,
-        ),
-    ];
-    for (bad, refusal) in bad {
-        refused(&mut volume, Error::Refused(refusal), |volume| {
-            volume.set_options(bad)
-        });
+    volume.set_options(OPTIONS).expect("good options");
+    assert_eq!(volume.options(), OPTIONS);
+    for (options, refusal) in bad_options() {
+        let due = Error::Refused(refusal);
+        refused(&mut volume, due, |volume| volume.set_options(options));
         let format = Format {
-            options: bad,
+            options,
             ..Format::new(128, 40)
         };
         let made = Volume::format(&format).map(|_| ());
-        assert_eq!(made, Err(Error::Refused(refusal)));
+        assert_eq!(made, Err(due));
     }
-    refused(
-        &mut volume,
-        Error::Refused(Refusal::TooFewFreeBuckets),
-        |volume| volume.save(1, FileSector(0), &[Piece::plain(8, 7)]),
-    );
+    // The reserve and the 32 buckets leave no room.
+    let due = Error::Refused(Refusal::TooFewFreeBuckets);
+    let piece = Piece::plain(8, 7);
+    refused(&mut volume, due, |volume| {
+        volume.save(1, FileSector(0), &[piece])
+    });
 }
 
 /// The change list of a step is what the raw call gives on the same list, and the next volume what
@@ -389,9 +359,9 @@ fn same_as_the_raw_calls() {
 /// How many random steps are made in all.
 const STEPS: u64 = 100_000;
 
-/// 100,000 steps of saves and deletions in all, wrong deletions among them, on fresh volumes as they
-/// wear out. After each step the sectors that live pieces occupy are counted by the test itself, and
-/// the live pieces that the volume's bytes tell are those of the test.
+/// 100,000 steps of saves and deletions in all, wrong deletions among them, on fresh volumes as
+/// they wear out. After each step the sectors that live pieces occupy are counted by the test
+/// itself, and the live pieces that the volume's bytes tell are those of the test.
 #[test]
 fn random_steps() {
     let (mut steps, mut volumes) = (0, 0);

@@ -1,4 +1,4 @@
-/* The four calls from C, by the header: the discard that document 01 prints, its apply, and refusals. */
+/* The four calls from C, by the header: the printed case of docs/FORMAT.md, "The program bucketlines", its apply, and refusals. */
 #include <zerglaz.h>
 
 #include <stdio.h>
@@ -84,7 +84,7 @@ static struct list before(void) {
     return list;
 }
 
-/* The change list that document 01 prints. */
+/* The change list that is printed there. */
 static struct list printed(void) {
     struct list list = {{0}, 0};
     put_key(&list, 4, 27, 0, 0, 5, freed, 8);

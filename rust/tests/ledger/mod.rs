@@ -13,7 +13,8 @@ use zerglaz::{
 pub struct Ledger {
     volume: Volume,
     bucket_sectors: u16,
-    buckets: u32,
+    /// The buckets that the clean volume offers.
+    offered: Vec<u32>,
     /// For each sector of the device, whether a live piece occupies it.
     occupied: Vec<bool>,
     live: Vec<Live>,
@@ -25,17 +26,28 @@ pub struct Ledger {
 type Made = Result<&'static str, String>;
 
 impl Ledger {
-    /// A clean volume that the seed chooses.
+    /// A clean volume that the seed chooses: up to four runs, and some reserved buckets.
     pub fn new(seed: u64) -> Ledger {
         let mut rng = Rng::new(seed ^ 0x5eed);
-        let bucket_sectors = rng.pick(&[8, 16, 64, 100, 128, 256]);
-        let buckets = rng.from_to(40, 90) as u32;
-        let format = Format::new(bucket_sectors, buckets);
+        let mut format = Format::new(rng.pick(&[8, 16, 64, 100, 128, 256]), 1);
+        format.free.clear();
+        let mut end = rng.pick(&[0, 0, 250, 1_000]);
+        for _ in 0..rng.from_to(1, 4) {
+            let start = end + rng.below(3) as u32;
+            end = start + rng.from_to(12, 30) as u32;
+            format.free.push(Bucket(start)..Bucket(end));
+        }
+        format.free.push(Bucket(end)..Bucket(end + 33));
+        let reserved = (0..rng.below(6)).map(|_| Bucket(rng.below(u64::from(end)) as u32));
+        format.reserved = reserved.collect();
+        let runs = format.free.iter().flat_map(|run| run.start.0..run.end.0);
+        let offers = |bucket: &u32| !format.reserved.contains(&Bucket(*bucket));
+        let sectors = usize::from(format.bucket_sectors) * (end as usize + 33);
         Ledger {
             volume: Volume::format(&format).expect("a clean volume"),
-            bucket_sectors,
-            buckets,
-            occupied: vec![false; usize::from(bucket_sectors) * buckets as usize],
+            bucket_sectors: format.bucket_sectors,
+            offered: runs.filter(offers).collect(),
+            occupied: vec![false; sectors],
             live: Vec::new(),
             deleted: Vec::new(),
             steps: 0,
@@ -44,7 +56,7 @@ impl Ledger {
 
     /// No bucket is left over those that are kept back, also when all is deleted and discarded.
     pub fn is_worn_out(&self) -> bool {
-        self.steps % 50 == 0 && self.buckets - self.volume.usage().retired < 33
+        self.steps % 50 == 0 && self.offered.len() - self.volume.usage().retired as usize <= 32
     }
 
     /// A step, right or wrong, and the claim after it.
@@ -114,8 +126,8 @@ impl Ledger {
         Ok("deleted")
     }
 
-    /// A deletion that names up to three live pieces, and beside them one that is not live or one of
-    /// them again: refused, with no byte changed.
+    /// A deletion that names up to three live pieces, and beside them one that is not live or one
+    /// of them again: refused, with no byte changed.
     fn delete_wrongly(&mut self, rng: &mut Rng) -> Made {
         let mut pieces: Vec<Live> = (0..rng.below(4))
             .filter_map(|_| self.any_of(rng, &self.live))
@@ -223,7 +235,8 @@ impl Ledger {
             let bucket = piece.first.0 / u64::from(self.bucket_sectors);
             held.entry(bucket).or_default().push(*piece);
         }
-        for bucket in 0..u64::from(self.buckets) {
+        for &bucket in &self.offered {
+            let bucket = u64::from(bucket);
             let pieces = held.get(&bucket).map_or(&[][..], Vec::as_slice);
             let alloc = list.keys(ALLOC).iter().find(|key| key.offset == bucket);
             let dirty = alloc.map_or(0, |key| number(&key.value, 16, 4));

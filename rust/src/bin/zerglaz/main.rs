@@ -29,6 +29,7 @@ Exit status: 0; 1 where a call refuses, or bytes are no list of the kind or a vo
 history reaches; 2 for other words than these; 3 where a file cannot be read or written.
 ";
 
+/// Run the command that the words name, and end with its status.
 fn main() -> ExitCode {
     let words: Vec<String> = std::env::args().skip(1).collect();
     let words: Vec<&str> = words.iter().map(String::as_str).collect();

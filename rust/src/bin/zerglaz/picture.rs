@@ -122,7 +122,7 @@ fn note(list: &CallListRef, grid: &Grid) -> String {
     format!("a row has {columns} buckets; of the free ones {kept} are kept back")
 }
 
-/// The picture's opening: its size, its title for readers without eyes, its background.
+/// The picture's opening: its size, its title for programs that read aloud, its background.
 fn opening(grid: &Grid, title: &str) -> String {
     let legend_height = SHADES.len() * LINE;
     let width = LEFT + grid.width() + LEGEND;
@@ -191,8 +191,8 @@ fn row_numbers(grid: &Grid) -> String {
     format!("<g font-size=\"11\" fill=\"#666\" text-anchor=\"end\">\n{numbers}</g>\n")
 }
 
-/// The shades with their words, and how many buckets have each; those in two states only where there
-/// are any.
+/// The shades with their words, and how many buckets have each; those in two states only where
+/// there are any.
 fn legend(grid: &Grid, shades: &[usize]) -> String {
     let x = LEFT + grid.width() + 24;
     let count = |shade: usize| shades.iter().filter(|&&of| of == shade).count();

@@ -19,8 +19,8 @@ struct Row {
     cells: [String; 5],
 }
 
-/// The table of a volume: what is said of all, then a row for each bucket, or for neighbours of which
-/// the same is said.
+/// The table of a volume: what is said of all, then a row for each bucket, or for neighbours of
+/// which the same is said.
 pub fn table(list: &CallListRef) -> String {
     let bucket_sectors = list.head().bucket_sectors;
     let mut rows: Vec<Row> = Vec::new();
