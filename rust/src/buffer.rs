@@ -54,3 +54,40 @@ impl Buffer {
         self.length = 0;
     }
 }
+
+#[cfg(test)]
+mod tests {
+    use super::Buffer;
+    use crate::refusal::Refusal;
+
+    /// A buffer that holds the list 1, 2, 3.
+    fn held() -> Buffer {
+        let mut buffer = Buffer::new(8);
+        let answer = buffer.answer(|out| {
+            out[..3].copy_from_slice(&[1, 2, 3]);
+            Ok(3)
+        });
+        assert_eq!((answer, buffer.list()), (Ok(()), &[1, 2, 3][..]));
+        buffer
+    }
+
+    /// Bytes after the list are lent with it and are no part of it; its start is written over.
+    #[test]
+    fn lists() {
+        let mut buffer = held();
+        assert_eq!(buffer.with(&[7, 8]), [1, 2, 3, 7, 8]);
+        buffer.set_start(&[9]);
+        assert_eq!((buffer.start(), buffer.list()), ([9, 2], &[9, 2, 3][..]));
+    }
+
+    /// No list is held after a refusal.
+    #[test]
+    fn refusals() {
+        let mut buffer = held();
+        let refused = buffer.answer(|_| Err(Refusal::LimitPassed));
+        assert_eq!(
+            (refused, buffer.list()),
+            (Err(Refusal::LimitPassed), &[][..])
+        );
+    }
+}

@@ -33,7 +33,9 @@ use std::fmt;
 /// 1. [`Volume::format`] makes a clean volume and nothing else. [`Volume::open`] goes on with bytes
 ///    that a `Volume` gave; what it checks of them, and what it cannot, stands there.
 /// 2. [`delete`](Volume::delete) names pieces that are live and none twice, or is refused by
-///    [`Error::NotLive`] or [`Error::NamedTwice`] before any call is made.
+///    [`Error::NotLive`] or [`Error::NamedTwice`] before any call is made. Live are the pieces that
+///    the volume's own backpointers name: a placement writes one for each piece, and a release
+///    deletes it.
 /// 3. A step's change is applied whole before the step returns. To write data only to the places
 ///    that a save gave, and after it gave them, stays with the caller.
 /// 4. Where apply refuses, the change is dropped: [`Error::Dropped`].
@@ -50,10 +52,9 @@ use std::fmt;
 ///
 /// # Memory and time
 ///
-/// Two lists, a change list and the scratch are sized once by [`limits`](crate::limits), about 17
-/// MB in all; where zeroed pages are handed out when they are touched, a small volume takes a part
-/// of it. A step costs the call and its apply, each of which reads the volume's bytes. A thread
-/// that makes one needs 512 KiB of stack.
+/// Two lists, a change list and the scratch are sized once by [`limits`](crate::limits), in all
+/// about 17 MB, of which a small volume touches a part. A step costs the call and its apply, each
+/// of which reads the volume's bytes. A thread that makes one needs 512 KiB of stack.
 pub struct Volume {
     /// The volume; a call's requests stand after it while the call is made.
     list: Buffer,

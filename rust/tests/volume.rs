@@ -247,6 +247,8 @@ fn usage() {
         ..waiting
     };
     assert_eq!(volume.usage(), free);
+    let small = clean(20).usage();
+    assert_eq!((small.kept_back, small.available()), (20, 0));
     let status = volume.buckets().get(Bucket(4));
     assert_eq!((status.live_sectors, status.pieces), (50, 1));
 }
