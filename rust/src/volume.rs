@@ -86,9 +86,9 @@ impl Volume {
     /// and no two overlap; that each dirty count is the sum of its live pieces' sectors; that each
     /// bucket with an alloc key is in exactly one of free, in use and waiting, and reserved where
     /// it is not free; that LRU keys and generation records are those of the buckets; and that no
-    /// other key stands in any tree. So a volume that a history from a clean volume reaches is
-    /// opened, and one that is damaged in these points is not. Journal numbers, clocks, flags and
-    /// roots are not checked.
+    /// other key stands in any tree. Where bucket sectors are above 0, every volume that a history
+    /// from a clean volume reaches passes. Journal numbers, clocks, flags and roots are not checked,
+    /// and options are judged by the steps that use them.
     ///
     /// What cannot be checked, and stays with the caller: that the bytes are the last that the
     /// history reached and no older ones; that they are opened once, since two volumes of the same
@@ -144,16 +144,12 @@ impl Volume {
         for piece in pieces {
             piece.put(&mut requests);
         }
-        let call = Call::Place;
-        self.step(
-            Head {
-                call,
-                inode,
-                base,
-                ..self.head()
-            },
-            &requests,
-        )?;
+        let head = Head {
+            inode,
+            base,
+            ..self.asking(Call::Place)
+        };
+        self.step(head, &requests)?;
         let change = ChangeListRef::answer(self.change());
         Ok(change.placed().map(Live::from).collect())
     }
@@ -161,10 +157,9 @@ impl Volume {
     /// Deletes live pieces. A bucket that holds none afterwards waits for its discard.
     ///
     /// # Errors
-    /// [`Error::NotLive`] where a piece is not live, by its first sector, length and generation,
-    /// and [`Error::NamedTwice`] where one is named twice, of several the one with the lowest first
-    /// sector; [`Error::Refused`] with [`Refusal::LimitPassed`] for more than 1,024 pieces;
-    /// [`Error::Dropped`] with [`Refusal::LimitPassed`] where the volume would have too many keys.
+    /// [`Error::NotLive`] where a piece is not live, by its first sector, length and generation, and
+    /// [`Error::NamedTwice`] where one is named twice, of several the one with the lowest first
+    /// sector; [`Error::Refused`] with [`Refusal::LimitPassed`] for more than 1,024 pieces.
     pub fn delete(&mut self, pieces: &[Live]) -> Result<(), Error> {
         self.change.clear();
         let mut requests = requests(pieces.len(), RELEASED_FIELD)?;
@@ -176,30 +171,18 @@ impl Volume {
             };
             released.put(&mut requests);
         }
-        let call = Call::Release;
-        self.step(
-            Head {
-                call,
-                ..self.head()
-            },
-            &requests,
-        )
+        self.step(self.asking(Call::Release), &requests)
     }
 
     /// Discards the waiting buckets, which are free afterwards, and gives them. Those that have
     /// been emptied sixteen times go on waiting.
     ///
     /// # Errors
-    /// [`Error::Dropped`] with [`Refusal::LimitPassed`] where the volume would have too many runs.
+    /// [`Error::Dropped`] with [`Refusal::LimitPassed`] where the volume would have more than 4,096
+    /// runs; saves that use up a run make room. [`Error::Refused`] with [`Refusal::NoBatch`] where
+    /// the volume was opened with a batch of 0.
     pub fn discard(&mut self) -> Result<Vec<Bucket>, Error> {
-        let call = Call::Discard;
-        self.step(
-            Head {
-                call,
-                ..self.head()
-            },
-            &[],
-        )?;
+        self.step(self.asking(Call::Discard), &[])?;
         let change = ChangeListRef::answer(self.change());
         Ok(change.unreserved().collect())
     }
@@ -302,6 +285,14 @@ impl Volume {
     /// What the volume's head says.
     fn head(&self) -> Head {
         Head::first(self.bytes()).expect("apply writes a volume")
+    }
+
+    /// The head of a list that asks for a call.
+    fn asking(&self, call: Call) -> Head {
+        Head {
+            call,
+            ..self.head()
+        }
     }
 
     /// Write another head.

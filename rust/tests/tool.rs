@@ -151,7 +151,8 @@ fn table() {
     let clean = Volume::format(&clean).expect("a clean volume");
     let due = "\
 buckets of 128 sectors, blocks of 1, checksum option 1, journal number 1
-40 free (32 kept back), 0 in use, 0 waiting (0 retired), 1 reserved, 0 live pieces
+40 free (32 kept back), 0 in use, 0 waiting (0 retired), 1 reserved
+live pieces: 0
 
 buckets   state        sectors  full  generation  pieces
 0 to 39   free
@@ -161,7 +162,8 @@ buckets   state        sectors  full  generation  pieces
     assert_eq!(text(&["show"], clean.bytes()), due);
     let due = "\
 buckets of 128 sectors, blocks of 1, checksum option 1, journal number 3
-37 free (32 kept back), 2 in use, 1 waiting (0 retired), 0 reserved, 2 live pieces
+37 free (32 kept back), 2 in use, 1 waiting (0 retired), 0 reserved
+live pieces: 2
 
 buckets  state    sectors  full  generation  pieces
 0        in use   128      100%  0           1

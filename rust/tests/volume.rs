@@ -210,6 +210,44 @@ fn a_refused_apply_drops_its_change() {
     assert_eq!(volume.live().count(), 3_073);
 }
 
+/// A discard whose runs would be too many is dropped, until a save has used up a run.
+#[test]
+fn too_many_runs() {
+    let mut format = Format::new(8, 1);
+    let run = |n: u32| Bucket(n * 3)..Bucket(n * 3 + 2);
+    format.free = (0..limits::MAX_KEYS as u32).map(run).collect();
+    let mut volume = Volume::format(&format).expect("a clean volume");
+    let saved = save(&mut volume, &[8]);
+    volume.delete(&saved).expect("a live piece");
+    let due = Error::Dropped(Refusal::LimitPassed);
+    refused(&mut volume, due, Volume::discard);
+    let other = save(&mut volume, &[8]);
+    assert_eq!(other[0].bucket(8), Some(Bucket(1)));
+    assert_eq!(volume.discard(), Ok(vec![Bucket(0)]));
+}
+
+/// A bucket is filled sixteen times, and then retires.
+#[test]
+fn a_bucket_retires() {
+    let mut volume = clean(33);
+    for generation in 0..limits::RETIRED_GENERATION {
+        let saved = save(&mut volume, &[128]);
+        let got = (saved[0].bucket(128), saved[0].generation);
+        assert_eq!(got, (Some(Bucket(0)), generation));
+        assert_eq!(volume.usage().retired, 0);
+        volume.delete(&saved).expect("a live piece");
+        let last = generation + 1 == limits::RETIRED_GENERATION;
+        let freed = if last { vec![] } else { vec![Bucket(0)] };
+        assert_eq!(volume.discard(), Ok(freed));
+    }
+    let usage = volume.usage();
+    assert_eq!((usage.retired, usage.waiting, usage.free), (1, 1, 32));
+    let due = Error::Refused(Refusal::TooFewFreeBuckets);
+    refused(&mut volume, due, |volume| {
+        volume.save(1, FileSector(0), &[Piece::plain(1, 7)])
+    });
+}
+
 /// What is reported of the buckets, step by step.
 #[test]
 fn usage() {

@@ -54,7 +54,8 @@ fn summary(list: &CallListRef) -> String {
     format!(
         "buckets of {} sectors, blocks of {}, checksum option {}, journal number {}\n\
          {free} free ({kept_back} kept back), {in_use} in use, {waiting} waiting ({retired} retired), \
-         {reserved} reserved, {} live pieces\n",
+         {reserved} reserved\n\
+         live pieces: {}\n",
         head.bucket_sectors,
         head.block_sectors,
         head.checksum_option,
