@@ -86,9 +86,9 @@ impl Volume {
     /// and no two overlap; that each dirty count is the sum of its live pieces' sectors; that each
     /// bucket with an alloc key is in exactly one of free, in use and waiting, and reserved where
     /// it is not free; that LRU keys and generation records are those of the buckets; and that no
-    /// other key stands in any tree. Where bucket sectors are above 0, every volume that a history
-    /// from a clean volume reaches passes. Journal numbers, clocks, flags and roots are not checked,
-    /// and options are judged by the steps that use them.
+    /// other key stands in any tree. Volumes that histories from clean volumes reach pass, which is
+    /// tested. Journal numbers, clocks, flags and roots are not checked, and options are judged by
+    /// the steps that use them.
     ///
     /// What cannot be checked, and stays with the caller: that the bytes are the last that the
     /// history reached and no older ones; that they are opened once, since two volumes of the same
