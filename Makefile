@@ -52,4 +52,18 @@ else
 	@echo "The calls beside the Rust's own functions: make bench RUST=dir, where dir has the Rust text under its own paths"
 endif
 
+# Installs the header, the archive and a pkg-config file below PREFIX, and below DESTDIR where that is set. The archive is built where there is none.
+.PHONY: install
+PREFIX ?= /usr/local
+installed = $(DESTDIR)$(abspath $(PREFIX))
+version = $(shell sed -n 's/^version = "\(.*\)"/\1/p' rust/Cargo.toml)
+install: target/staticlib/libzerglaz.a
+	install -d "$(installed)/include" "$(installed)/lib/pkgconfig"
+	install -m 644 include/zerglaz.h "$(installed)/include/"
+	install -m 644 target/staticlib/libzerglaz.a "$(installed)/lib/"
+	sed -e 's|@PREFIX@|$(abspath $(PREFIX))|' -e 's|@VERSION@|$(version)|' include/zerglaz.pc.in > "$(installed)/lib/pkgconfig/zerglaz.pc"
+
+target/staticlib/libzerglaz.a:
+	rt staticlib zerglaz
+
 -include tests/headers/headers.mk

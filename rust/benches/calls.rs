@@ -1,11 +1,12 @@
 //! How long the calls take through the archive on lists at the limits, beside a copy of the bytes that
-//! they read: medians in nanoseconds and their ratio. Apply with changes of 1, 64 and 1,024 keys.
+//! they read: medians in nanoseconds and their ratio. Apply with changes of 1, 64 and 1,024 keys. Then
+//! the crate's two readers.
 
 use lists::call_list::{DISCARD, PLACE, RELEASE};
 use lists::{limits, timed};
 use std::hint::black_box;
 use std::time::Instant;
-use zerglaz::SUMS;
+use zerglaz::{CallList, CallListRef, DeviceSector, Position, Tree, SUMS};
 
 /// How often each piece of work is timed.
 const REPETITIONS: usize = 31;
@@ -86,6 +87,20 @@ fn applies() {
     }
 }
 
+/// The same volume read into a list of its own and where it stands, and one key of each looked up.
+fn readings() {
+    let bytes = timed::volume().bytes();
+    let at = Position::of_backpointer(DeviceSector(1));
+    row("CallList: every tree full", &bytes, || {
+        let list = CallList::read(black_box(&bytes)).expect("a volume");
+        usize::from(list.key(Tree::Backpointers, at).is_some())
+    });
+    row("CallListRef: every tree full", &bytes, || {
+        let list = CallListRef::read(black_box(&bytes)).expect("a volume");
+        usize::from(list.key(Tree::Backpointers, at).is_some())
+    });
+}
+
 fn main() {
     println!(
         "| what | bytes read | written | median ns | a tenth to nine tenths | copy ns | ratio |"
@@ -95,4 +110,5 @@ fn main() {
     calls(RELEASE, "release");
     calls(DISCARD, "discard");
     applies();
+    readings();
 }

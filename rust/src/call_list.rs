@@ -1,204 +1,16 @@
 //! Call lists, which every call reads, and volumes, which are call lists without requests.
 
-use crate::fields::{put, require, Body, BrokenLayout, Fields};
+use crate::call_list_ref::{CallListRef, RESERVED};
+use crate::fields::{put, BrokenLayout};
+use crate::head::{Call, Head};
 use crate::key::{Key, Position, Tree};
-use crate::kinds::{Bucket, DeviceSector, FileSector};
+use crate::kinds::Bucket;
+use crate::request::{Piece, Released};
 use std::collections::{BTreeMap, BTreeSet};
 use std::ops::Range;
 
-/// The tags beside those of the trees.
-const HEAD: u8 = 1;
-const RESERVED: u8 = 64;
-const PIECE: u8 = 65;
-const RELEASED: u8 = 66;
-
-/// The call that a list asks for.
-#[derive(Debug, Clone, Copy, PartialEq, Eq, Hash, Default)]
-#[repr(u8)]
-pub enum Call {
-    /// Place pieces.
-    #[default]
-    Place = 1,
-    /// Release pieces.
-    Release = 2,
-    /// Discard emptied buckets.
-    Discard = 3,
-}
-
-impl Call {
-    /// The call of a call byte.
-    pub fn from_byte(byte: u8) -> Option<Call> {
-        let calls = [Call::Place, Call::Release, Call::Discard];
-        calls.into_iter().find(|&call| call as u8 == byte)
-    }
-}
-
-/// Which roots exist.
-#[derive(Debug, Clone, Copy, PartialEq, Eq, Hash, Default)]
-pub struct Roots {
-    /// The LRU tree's.
-    pub lru: bool,
-    /// The need-discard tree's.
-    pub need_discard: bool,
-    /// The bucket generations' tree's.
-    pub bucket_gens: bool,
-}
-
-impl Roots {
-    /// The roots of bits 0 to 2; none where another bit is set.
-    pub fn from_bits(bits: u8) -> Option<Roots> {
-        (bits < 8).then_some(Roots {
-            lru: bits & 1 != 0,
-            need_discard: bits & 2 != 0,
-            bucket_gens: bits & 4 != 0,
-        })
-    }
-
-    /// Bits 0 to 2.
-    pub fn bits(self) -> u8 {
-        u8::from(self.lru) | u8::from(self.need_discard) << 1 | u8::from(self.bucket_gens) << 2
-    }
-}
-
-/// What a call list says of the volume and of the call.
-#[derive(Debug, Clone, PartialEq, Eq, Default)]
-pub struct Head {
-    /// The call asked for; apply takes each.
-    pub call: Call,
-    /// Sectors of a bucket.
-    pub bucket_sectors: u16,
-    /// Sectors of a block; 0 counts as 1.
-    pub block_sectors: u16,
-    /// The checksum option: 0 none, 1 crc32c, 2 crc64, 3 xxhash.
-    pub checksum_option: u8,
-    /// Which roots exist.
-    pub roots: Roots,
-    /// Buckets that a placement keeps back for the journal.
-    pub journal_reserve: u32,
-    /// How many buckets a discard puts into one batch.
-    pub batch: u32,
-    /// The journal number that the call's changes are written under.
-    pub journal: u64,
-    /// The inode whose data is placed.
-    pub inode: u64,
-    /// The file sector where the placed data begins.
-    pub base: FileSector,
-}
-
-impl Head {
-    /// The head in a field's body.
-    fn read(mut body: Body) -> Result<Head, BrokenLayout> {
-        let head = Head {
-            call: Call::from_byte(body.u8()?).ok_or(BrokenLayout)?,
-            bucket_sectors: body.u16()?,
-            block_sectors: body.u16()?,
-            checksum_option: body.u8()?,
-            roots: Roots::from_bits(body.u8()?).ok_or(BrokenLayout)?,
-            journal_reserve: body.u32()?,
-            batch: body.u32()?,
-            journal: body.u64()?,
-            inode: body.u64()?,
-            base: FileSector(body.u64()?),
-        };
-        body.end()?;
-        Ok(head)
-    }
-
-    /// Append the head's field.
-    fn put(&self, out: &mut Vec<u8>) {
-        let parts: [&[u8]; 10] = [
-            &[self.call as u8],
-            &self.bucket_sectors.to_le_bytes(),
-            &self.block_sectors.to_le_bytes(),
-            &[self.checksum_option],
-            &[self.roots.bits()],
-            &self.journal_reserve.to_le_bytes(),
-            &self.batch.to_le_bytes(),
-            &self.journal.to_le_bytes(),
-            &self.inode.to_le_bytes(),
-            &self.base.0.to_le_bytes(),
-        ];
-        put(out, HEAD, &parts);
-    }
-}
-
-/// A piece to place.
-#[derive(Debug, Clone, Copy, PartialEq, Eq, Hash)]
-pub struct Piece {
-    /// Sectors of the file that the piece holds.
-    pub file_sectors: u16,
-    /// Sectors that it takes on the device.
-    pub stored_sectors: u16,
-    /// The compression kind: 0 none, 2 LZ4, 3 gzip, 4 zstd, 5 incompressible.
-    pub compression: u8,
-    /// The checksum of what is stored.
-    pub checksum: u64,
-}
-
-impl Piece {
-    /// A piece that is not compressed.
-    pub fn plain(sectors: u16, checksum: u64) -> Piece {
-        Piece {
-            file_sectors: sectors,
-            stored_sectors: sectors,
-            compression: 0,
-            checksum,
-        }
-    }
-
-    /// The piece in a field's body.
-    fn read(mut body: Body) -> Result<Piece, BrokenLayout> {
-        let piece = Piece {
-            file_sectors: body.u16()?,
-            stored_sectors: body.u16()?,
-            compression: body.u8()?,
-            checksum: body.u64()?,
-        };
-        body.end()?;
-        Ok(piece)
-    }
-
-    /// Append the piece's field.
-    fn put(&self, out: &mut Vec<u8>) {
-        let parts: [&[u8]; 4] = [
-            &self.file_sectors.to_le_bytes(),
-            &self.stored_sectors.to_le_bytes(),
-            &[self.compression],
-            &self.checksum.to_le_bytes(),
-        ];
-        put(out, PIECE, &parts);
-    }
-}
-
-/// A piece to release.
-#[derive(Debug, Clone, Copy, PartialEq, Eq, Hash)]
-pub struct Released {
-    /// Its first sector.
-    pub first: DeviceSector,
-    /// How many sectors it has.
-    pub sectors: u16,
-}
-
-impl Released {
-    /// The piece in a field's body.
-    fn read(mut body: Body) -> Result<Released, BrokenLayout> {
-        let released = Released {
-            first: DeviceSector(body.u64()?),
-            sectors: body.u16()?,
-        };
-        body.end()?;
-        Ok(released)
-    }
-
-    /// Append the piece's field.
-    fn put(&self, out: &mut Vec<u8>) {
-        let (first, sectors) = (self.first.0.to_le_bytes(), self.sectors.to_le_bytes());
-        put(out, RELEASED, &[&first, &sectors]);
-    }
-}
-
-/// A call list, or a volume where it has no requests. Keys and reserved buckets are kept in the order
-/// that the layout asks for.
+/// A call list, or a volume where it has no requests. Keys and reserved buckets are kept in the
+/// order that the layout asks for.
 #[derive(Debug, Clone, PartialEq, Eq, Default)]
 pub struct CallList {
     /// What it says of the volume and of the call.
@@ -313,57 +125,31 @@ impl CallList {
         out
     }
 
-    /// The list in `bytes`, of whichever call.
+    /// The list in `bytes`, of whichever call. [`CallListRef`] reads a list without copying it.
     ///
     /// # Errors
     /// Where the bytes break the layout of a call list.
     pub fn read(bytes: &[u8]) -> Result<CallList, BrokenLayout> {
-        let mut fields = Fields::new(bytes);
-        let (mut last, body) = fields.next().ok_or(BrokenLayout)??;
-        require(last == HEAD)?;
-        let mut list = CallList::new(Head::read(body)?);
-        for field in fields {
-            let (tag, body) = field?;
-            require(tag >= last)?;
-            list.take(tag, body)?;
-            last = tag;
-        }
-        Ok(list)
-    }
-
-    /// Take a field after the head.
-    fn take(&mut self, tag: u8, body: Body) -> Result<(), BrokenLayout> {
-        match tag {
-            RESERVED => self.take_reserved(body),
-            PIECE => Piece::read(body).map(|piece| self.pieces.push(piece)),
-            RELEASED => Released::read(body).map(|released| self.released.push(released)),
-            _ => self.take_key(Tree::from_tag(tag).ok_or(BrokenLayout)?, body),
-        }
-    }
-
-    /// Take a key, which stands after all keys before it.
-    fn take_key(&mut self, tree: Tree, body: Body) -> Result<(), BrokenLayout> {
-        let key = Key::read(tree, body)?;
-        let place = (tree, key.position);
-        require(self.keys.last_key_value().is_none_or(|(k, _)| *k < place))?;
-        self.keys.insert(place, key);
-        Ok(())
-    }
-
-    /// Take a reserved bucket, which is above all before it.
-    fn take_reserved(&mut self, mut body: Body) -> Result<(), BrokenLayout> {
-        let bucket = Bucket(body.u32()?);
-        body.end()?;
-        require(self.reserved.last().is_none_or(|&b| b < bucket))?;
-        self.reserved.insert(bucket);
-        Ok(())
+        let list = CallListRef::read(bytes)?;
+        let of_tree = |tree| list.keys(tree).map(move |key| (tree, key));
+        let keys = Tree::STORED.into_iter().flat_map(of_tree);
+        Ok(CallList {
+            head: list.head(),
+            keys: keys
+                .map(|(tree, key)| ((tree, key.position), key.to_key()))
+                .collect(),
+            reserved: list.reserved().collect(),
+            pieces: list.pieces().collect(),
+            released: list.released().collect(),
+        })
     }
 }
 
 #[cfg(test)]
 mod tests {
-    use super::{Call, CallList, Head, Piece, Released, Roots};
+    use super::{Call, CallList, Head, Piece, Released};
     use crate::fields::{put, BrokenLayout};
+    use crate::head::Roots;
     use crate::key::{key_type, Key, Position, Tree};
     use crate::kinds::{Bucket, DeviceSector, FileSector};
 
@@ -410,7 +196,7 @@ mod tests {
         assert_eq!(CallList::read(&placing.to_bytes()), Ok(placing));
     }
 
-    /// Document 01's bytes of a head.
+    /// The bytes of a head: docs/FORMAT.md, "Call list".
     #[test]
     fn head_bytes() {
         let bytes = list().to_bytes();

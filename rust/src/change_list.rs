@@ -1,17 +1,20 @@
 //! Change lists, which the calls write and apply reads.
 
-use crate::fields::{put, require, Body, BrokenLayout, Fields};
+use crate::change_list_ref::{ChangeField, ChangeListRef};
+use crate::fields::{put, Body, BrokenLayout};
 use crate::key::{Key, Tree};
 use crate::kinds::{Bucket, DeviceSector};
 
 /// The tags beside those of the trees.
-const ROOT: u8 = 70;
-const TAKEN: u8 = 71;
-const PLACED: u8 = 72;
-const ROW: u8 = 73;
-const FILE_SECTORS: u8 = 74;
-const UNRESERVED: u8 = 75;
-const END: u8 = 76;
+pub(crate) mod tag {
+    pub(crate) const ROOT: u8 = 70;
+    pub(crate) const TAKEN: u8 = 71;
+    pub(crate) const PLACED: u8 = 72;
+    pub(crate) const ROW: u8 = 73;
+    pub(crate) const FILE_SECTORS: u8 = 74;
+    pub(crate) const UNRESERVED: u8 = 75;
+    pub(crate) const END: u8 = 76;
+}
 
 /// A root that a change makes.
 #[derive(Debug, Clone, Copy, PartialEq, Eq, Hash)]
@@ -48,7 +51,7 @@ pub struct Placed {
 
 impl Placed {
     /// The placed piece in a field's body.
-    fn read(mut body: Body) -> Result<Placed, BrokenLayout> {
+    pub(crate) fn read(mut body: Body) -> Result<Placed, BrokenLayout> {
         let placed = Placed {
             first: DeviceSector(body.u64()?),
             stored_sectors: body.u16()?,
@@ -67,7 +70,7 @@ impl Placed {
             &self.bucket.0.to_le_bytes(),
             &[self.generation],
         ];
-        put(out, PLACED, &parts);
+        put(out, tag::PLACED, &parts);
     }
 }
 
@@ -93,7 +96,7 @@ pub struct Row {
 
 impl Row {
     /// The row in a field's body of 24 or 40 bytes.
-    fn read(mut body: Body) -> Result<Row, BrokenLayout> {
+    pub(crate) fn read(mut body: Body) -> Result<Row, BrokenLayout> {
         let one = body.len() == 24;
         let row = Row {
             inode: body.u64()?,
@@ -112,10 +115,10 @@ impl Row {
     fn put(&self, out: &mut Vec<u8>) {
         let (inode, offset) = (self.inode.to_le_bytes(), self.offset.to_le_bytes());
         match self.counters {
-            Counters::One(n) => put(out, ROW, &[&inode, &offset, &n.to_le_bytes()]),
+            Counters::One(n) => put(out, tag::ROW, &[&inode, &offset, &n.to_le_bytes()]),
             Counters::Three(n) => {
                 let [a, b, c] = n.map(i64::to_le_bytes);
-                put(out, ROW, &[&inode, &offset, &a, &b, &c]);
+                put(out, tag::ROW, &[&inode, &offset, &a, &b, &c]);
             }
         }
     }
@@ -142,33 +145,17 @@ pub struct Batch {
 
 impl Batch {
     /// Take a field other than the last.
-    fn take(&mut self, tag: u8, mut body: Body) -> Result<(), BrokenLayout> {
-        match tag {
-            PLACED => self.placed.push(Placed::read(body)?),
-            ROW => self.rows.push(Row::read(body)?),
-            ROOT => {
-                let root = Root::from_id(body.u8()?).ok_or(BrokenLayout)?;
-                self.roots.push(root);
-                body.end()?;
-            }
-            FILE_SECTORS => {
-                self.file_sectors.push(body.u64()?);
-                body.end()?;
-            }
-            TAKEN | UNRESERVED => {
-                let bucket = Bucket(body.u32()?);
-                body.end()?;
-                match tag {
-                    TAKEN => self.taken.push(bucket),
-                    _ => self.unreserved.push(bucket),
-                }
-            }
-            _ => {
-                let tree = Tree::from_tag(tag).ok_or(BrokenLayout)?;
-                self.keys.push((tree, Key::read(tree, body)?));
-            }
+    fn take(&mut self, field: ChangeField) {
+        match field {
+            ChangeField::Key(tree, key) => self.keys.push((tree, key.to_key())),
+            ChangeField::Root(root) => self.roots.push(root),
+            ChangeField::Taken(bucket) => self.taken.push(bucket),
+            ChangeField::Placed(placed) => self.placed.push(placed),
+            ChangeField::Row(row) => self.rows.push(row),
+            ChangeField::FileSectors(sectors) => self.file_sectors.push(sectors),
+            ChangeField::Unreserved(bucket) => self.unreserved.push(bucket),
+            ChangeField::End => (),
         }
-        Ok(())
     }
 
     /// Append the batch: ascending tags, queue order within a tree.
@@ -179,10 +166,10 @@ impl Batch {
             }
         }
         for root in &self.roots {
-            put(out, ROOT, &[&[*root as u8]]);
+            put(out, tag::ROOT, &[&[*root as u8]]);
         }
         for bucket in &self.taken {
-            put(out, TAKEN, &[&bucket.0.to_le_bytes()]);
+            put(out, tag::TAKEN, &[&bucket.0.to_le_bytes()]);
         }
         for placed in &self.placed {
             placed.put(out);
@@ -191,12 +178,12 @@ impl Batch {
             row.put(out);
         }
         for sectors in &self.file_sectors {
-            put(out, FILE_SECTORS, &[&sectors.to_le_bytes()]);
+            put(out, tag::FILE_SECTORS, &[&sectors.to_le_bytes()]);
         }
         for bucket in &self.unreserved {
-            put(out, UNRESERVED, &[&bucket.0.to_le_bytes()]);
+            put(out, tag::UNRESERVED, &[&bucket.0.to_le_bytes()]);
         }
-        put(out, END, &[]);
+        put(out, tag::END, &[]);
     }
 }
 
@@ -225,26 +212,19 @@ impl ChangeList {
         out
     }
 
-    /// The list in `bytes`.
+    /// The list in `bytes`. [`ChangeListRef`] reads a list without copying it.
     ///
     /// # Errors
     /// Where the bytes break the layout of a change list.
     pub fn read(bytes: &[u8]) -> Result<ChangeList, BrokenLayout> {
         let mut list = ChangeList::default();
-        let mut open: Option<(u8, Batch)> = None;
-        for field in Fields::new(bytes) {
-            let (tag, body) = field?;
-            let (last, mut batch) = open.take().unwrap_or_default();
-            require(tag >= last)?;
-            if tag == END {
-                body.end()?;
-                list.batches.push(batch);
-            } else {
-                batch.take(tag, body)?;
-                open = Some((tag, batch));
+        let mut open = Batch::default();
+        for field in ChangeListRef::read(bytes)?.fields() {
+            match field {
+                ChangeField::End => list.batches.push(std::mem::take(&mut open)),
+                field => open.take(field),
             }
         }
-        require(open.is_none())?;
         Ok(list)
     }
 }

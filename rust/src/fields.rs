@@ -2,6 +2,7 @@
 
 use std::error::Error;
 use std::fmt;
+use std::ops::RangeInclusive;
 
 /// Bytes that are no list of the kind asked for.
 #[derive(Debug, Clone, Copy, PartialEq, Eq)]
@@ -16,6 +17,7 @@ impl fmt::Display for BrokenLayout {
 impl Error for BrokenLayout {}
 
 /// The fields of a list, in order.
+#[derive(Debug, Clone)]
 pub(crate) struct Fields<'a> {
     rest: &'a [u8],
 }
@@ -31,6 +33,27 @@ impl<'a> Fields<'a> {
         let (&[tag, low, high], rest) = self.rest.split_first_chunk()?;
         let (body, rest) = rest.split_at_checked(usize::from(u16::from_le_bytes([low, high])))?;
         Some((tag, body, rest))
+    }
+
+    /// Take the fields at the front that have this tag, all together; an error where one of them
+    /// passes the list's end or its body is not as long as `lengths` says.
+    pub(crate) fn stretch(
+        &mut self,
+        tag: u8,
+        lengths: RangeInclusive<usize>,
+    ) -> Result<&'a [u8], BrokenLayout> {
+        let all = self.rest;
+        while self.rest.first() == Some(&tag) {
+            let (_, body, rest) = self.first().ok_or(BrokenLayout)?;
+            require(lengths.contains(&body.len()))?;
+            self.rest = rest;
+        }
+        Ok(&all[..all.len() - self.rest.len()])
+    }
+
+    /// No field is left.
+    pub(crate) fn end(self) -> Result<(), BrokenLayout> {
+        require(self.rest.is_empty())
     }
 }
 
@@ -156,6 +179,23 @@ mod tests {
         for list in [&[1][..], &[1, 0], &[1, 1, 0], &[1, 0, 1, 9]] {
             assert_eq!(split(list), Err(BrokenLayout));
         }
+    }
+
+    /// A stretch has the fields of its tag and no others, and leaves the rest.
+    #[test]
+    fn stretches() {
+        let mut list = Vec::new();
+        put(&mut list, 4, &[&[1]]);
+        put(&mut list, 4, &[&[2, 3]]);
+        put(&mut list, 9, &[]);
+        let mut fields = Fields::new(&list);
+        assert_eq!(fields.stretch(3, 0..=9), Ok(&list[..0]));
+        assert_eq!(fields.stretch(4, 1..=2), Ok(&list[..9]));
+        assert_eq!(fields.clone().end(), Err(BrokenLayout));
+        assert_eq!(fields.stretch(9, 0..=0), Ok(&list[9..]));
+        assert_eq!(fields.end(), Ok(()));
+        assert_eq!(Fields::new(&list).stretch(4, 2..=2), Err(BrokenLayout));
+        assert_eq!(Fields::new(&list[..8]).stretch(4, 1..=2), Err(BrokenLayout));
     }
 
     /// Numbers are little-endian, and a body ends where its last byte is read.

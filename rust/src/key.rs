@@ -1,7 +1,9 @@
 //! Keys of the trees, and where they stand.
 
-use crate::fields::{put, require, Body, BrokenLayout};
+use crate::alloc_value;
+use crate::fields::put;
 use crate::kinds::{Bucket, DeviceSector};
+use std::fmt;
 use std::ops::Range;
 
 /// The types of keys that the calls read or make.
@@ -19,9 +21,6 @@ pub mod key_type {
     /// The generations of 256 buckets.
     pub const BUCKET_GENS: u8 = 30;
 }
-
-/// The longest value of a key.
-pub const VALUE_MAX: usize = 256;
 
 /// A tree of keys, by its tag.
 #[derive(Debug, Clone, Copy, PartialEq, Eq, PartialOrd, Ord, Hash)]
@@ -44,6 +43,16 @@ pub enum Tree {
 }
 
 impl Tree {
+    /// The trees of a volume, by tag: all but the extents.
+    pub const STORED: [Tree; 6] = [
+        Tree::Alloc,
+        Tree::Lru,
+        Tree::Freespace,
+        Tree::NeedDiscard,
+        Tree::Backpointers,
+        Tree::BucketGens,
+    ];
+
     /// All trees, by tag.
     pub const ALL: [Tree; 7] = [
         Tree::Extents,
@@ -66,6 +75,20 @@ impl Tree {
     }
 }
 
+impl fmt::Display for Tree {
+    fn fmt(&self, f: &mut fmt::Formatter<'_>) -> fmt::Result {
+        f.write_str(match self {
+            Tree::Extents => "extent",
+            Tree::Alloc => "alloc",
+            Tree::Lru => "LRU",
+            Tree::Freespace => "freespace",
+            Tree::NeedDiscard => "need-discard",
+            Tree::Backpointers => "backpointer",
+            Tree::BucketGens => "bucket gens",
+        })
+    }
+}
+
 /// Where a key stands in its tree; keys ascend by it.
 #[derive(Debug, Clone, Copy, PartialEq, Eq, PartialOrd, Ord, Hash, Default)]
 pub struct Position {
@@ -78,6 +101,9 @@ pub struct Position {
 }
 
 impl Position {
+    /// How far apart the backpointers of neighbouring sectors stand.
+    pub(crate) const BACKPOINTER_STEP: u64 = 65_536;
+
     /// A position with snapshot 0.
     pub const fn new(inode: u64, offset: u64) -> Position {
         Position {
@@ -104,12 +130,25 @@ impl Position {
 
     /// Where the backpointer stands of an extent that begins at `first`.
     pub fn of_backpointer(first: DeviceSector) -> Position {
-        Position::new(0, first.0.wrapping_mul(65_536))
+        Position::new(0, first.0.wrapping_mul(Position::BACKPOINTER_STEP))
+    }
+
+    /// Where the LRU key stands of a bucket that holds `dirty` of its `bucket_sectors`, which are
+    /// above 0.
+    pub(crate) fn of_lru(bucket: Bucket, dirty: u32, bucket_sectors: u16) -> Position {
+        let full = (u64::from(dirty) << 31) / u64::from(bucket_sectors);
+        Position::new((1 << 61) + full, u64::from(bucket.0))
     }
 
     /// Where the generation record of a bucket stands.
     pub fn of_generations(bucket: Bucket) -> Position {
         Position::new(0, u64::from(bucket.0 / 256))
+    }
+}
+
+impl fmt::Display for Position {
+    fn fmt(&self, f: &mut fmt::Formatter<'_>) -> fmt::Result {
+        write!(f, "{}:{}:{}", self.inode, self.offset, self.snapshot)
     }
 }
 
@@ -126,7 +165,8 @@ pub struct Key {
     pub version_low: u64,
     /// Where the key stands.
     pub position: Position,
-    /// The value, of at most [`VALUE_MAX`] bytes; a longer one breaks a list's layout.
+    /// The value, of at most [`MAX_VALUE`](crate::limits::MAX_VALUE) bytes; a longer one breaks a
+    /// list's layout.
     pub value: Vec<u8>,
 }
 
@@ -159,37 +199,17 @@ impl Key {
 
     /// The generation in an alloc value.
     pub fn generation(&self) -> Option<u8> {
-        self.value.get(12).copied()
+        alloc_value::generation(&self.value)
     }
 
     /// The data type in an alloc value: 0 free, 4 user data, 9 waiting for its discard.
     pub fn data_type(&self) -> Option<u8> {
-        self.value.get(14).copied()
+        alloc_value::data_type(&self.value)
     }
 
     /// The dirty sectors in an alloc value.
     pub fn dirty_sectors(&self) -> Option<u32> {
-        let bytes = self.value.get(16..20)?.try_into().ok()?;
-        Some(u32::from_le_bytes(bytes))
-    }
-
-    /// The key in a field's body; outside the extents its snapshot is 0.
-    pub(crate) fn read(tree: Tree, mut body: Body) -> Result<Key, BrokenLayout> {
-        let key = Key {
-            key_type: body.u8()?,
-            size: body.u32()?,
-            version_high: body.u32()?,
-            version_low: body.u64()?,
-            position: Position {
-                inode: body.u64()?,
-                offset: body.u64()?,
-                snapshot: body.u32()?,
-            },
-            value: body.rest().to_vec(),
-        };
-        require(key.value.len() <= VALUE_MAX)?;
-        require(tree == Tree::Extents || key.position.snapshot == 0)?;
-        Ok(key)
+        alloc_value::dirty_sectors(&self.value)
     }
 
     /// Append the key as a field of its tree.
@@ -217,6 +237,7 @@ impl Key {
 mod tests {
     use super::{Key, Position, Tree};
     use crate::fields::{BrokenLayout, Fields};
+    use crate::key_ref::KeyRef;
     use crate::kinds::{Bucket, DeviceSector};
 
     /// A key with every part set.
@@ -237,7 +258,7 @@ mod tests {
         key.put(tree, &mut out);
         let (tag, body) = Fields::new(&out).next().expect("a field")?;
         assert_eq!(Tree::from_tag(tag), Some(tree));
-        Key::read(tree, body)
+        KeyRef::read(body).map(KeyRef::to_key)
     }
 
     /// A key that is put is read again, with a value of any length up to 256.
@@ -251,16 +272,7 @@ mod tests {
         }
     }
 
-    /// A snapshot stands in the extents alone.
-    #[test]
-    fn snapshots() {
-        let mut extent = key(8);
-        extent.position.snapshot = u32::MAX;
-        assert_eq!(again(Tree::Extents, &extent), Ok(extent.clone()));
-        assert_eq!(again(Tree::Alloc, &extent), Err(BrokenLayout));
-    }
-
-    /// Positions of document 01.
+    /// The positions of docs/FORMAT.md, "Keys".
     #[test]
     fn positions() {
         let run = Key::run(Bucket(10)..Bucket(20));
@@ -269,6 +281,8 @@ mod tests {
         assert_eq!(Position::of_backpointer(first), Position::new(0, 196_608));
         assert_eq!(Position::of_generations(Bucket(515)), Position::new(0, 2));
         assert_eq!(Position::of_need_discard(8, Bucket(5)), Position::new(8, 5));
+        let lru = Position::of_lru(Bucket(5), 96, 128);
+        assert_eq!(lru, Position::new((1 << 61) + 1_610_612_736, 5));
         assert!(Position::new(0, 9) < Position::new(1, 0));
     }
 
@@ -277,6 +291,7 @@ mod tests {
     fn tags() {
         let tags: Vec<u8> = (0..=255).filter(|&t| Tree::from_tag(t).is_some()).collect();
         assert_eq!(tags, [0, 4, 10, 11, 12, 13, 14]);
+        assert_eq!(Tree::ALL[1..], Tree::STORED);
     }
 
     /// An alloc value's parts, and none where the value is too short.

@@ -1,4 +1,4 @@
-//! The refusals of document 01.
+//! The refusals: docs/FORMAT.md, "Refusals".
 
 use std::error::Error;
 use std::fmt;
@@ -78,7 +78,7 @@ impl Refusal {
         Refusal::OutputTooShort,
     ];
 
-    /// Document 01's number, 1 to 21.
+    /// Its number, 1 to 21.
     pub const fn number(self) -> u32 {
         self as u32
     }

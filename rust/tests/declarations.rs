@@ -1,13 +1,14 @@
-//! Each of the four functions that `src/ffi.rs` and `include/zerglaz.h` declare, held to answers that
-//! are written out here by hand from document 01.
+//! Each of the four functions that `src/ffi.rs` and `include/zerglaz.h` declare, held to answers
+//! that are written out here by hand from docs/FORMAT.md and its source; and the header's names,
+//! version and limits, held to the crate's.
 
 mod common;
 
 use common::ARCHIVE;
 use lists::lent::Due;
 use zerglaz::{
-    key_type, Batch, Bucket, Call, CallList, ChangeList, Counters, DeviceSector, Head, Key, Piece,
-    Placed, Position, Refusal, Released, Root, Row, Tree, SUMS,
+    key_type, limits, Batch, Bucket, Call, CallList, ChangeList, Counters, DeviceSector, Head, Key,
+    Piece, Placed, Position, Refusal, Released, Root, Row, Tree, SUMS,
 };
 
 /// The bytes of words, each little-endian.
@@ -55,7 +56,7 @@ fn hold(list: &CallList, batch: Batch) {
     assert_eq!(held, Ok(3));
 }
 
-/// The keys of P case 9: the extent, the bucket's alloc key, the run that is left, the backpointer.
+/// The keys of worked case 9: the extent, the bucket's alloc key, the run that is left, the backpointer.
 fn keys_of_place() -> Vec<(Tree, Key)> {
     let mut extent = key(
         key_type::EXTENT,
@@ -76,7 +77,7 @@ fn keys_of_place() -> Vec<(Tree, Key)> {
     ]
 }
 
-/// P case 9: one piece of 128 sectors fills bucket 0.
+/// Worked case 9: one piece of 128 sectors fills bucket 0.
 #[test]
 fn place() {
     let mut list = list(Call::Place, 128);
@@ -104,7 +105,7 @@ fn place() {
     hold(&list, batch);
 }
 
-/// P case 7: bucket 5 holds 96 sectors, and freeing 96 empties it.
+/// Worked case 7: bucket 5 holds 96 sectors, and freeing 96 empties it.
 #[test]
 fn release() {
     let mut list = list(Call::Release, 128);
@@ -144,7 +145,7 @@ fn release() {
     );
 }
 
-/// The discard whose lines document 01 prints.
+/// The printed case of docs/FORMAT.md, "The program bucketlines".
 #[test]
 fn discard() {
     let mut list = list(Call::Discard, 8);
@@ -285,7 +286,74 @@ fn header_names_the_refusals() {
         let end = if number == 21 { " " } else { "," };
         assert!(list.contains(&format!(" {name} = {number}{end}")), "{name}");
     }
-    assert!(header.contains(&format!("#define ZERGLAZ_SUMS {SUMS} ")));
+    assert_eq!(number("SUMS"), SUMS);
+}
+
+/// What the header's macro of a name is defined to be.
+fn macro_of(name: &str) -> String {
+    let header = header();
+    let defined = header.split(&format!("#define ZERGLAZ_{name} ")).nth(1);
+    let word = defined.and_then(|rest| rest.split(' ').next());
+    word.unwrap_or_else(|| panic!("the header defines ZERGLAZ_{name}"))
+        .to_string()
+}
+
+/// The number that the header's macro of a name is defined to be.
+fn number(name: &str) -> usize {
+    let word = macro_of(name);
+    word.parse()
+        .unwrap_or_else(|_| panic!("ZERGLAZ_{name} is {word}"))
+}
+
+/// The header's version is the crate's.
+#[test]
+fn header_has_the_version() {
+    let version = env!("CARGO_PKG_VERSION");
+    assert_eq!(zerglaz::VERSION, version);
+    assert_eq!(macro_of("VERSION"), format!("\"{version}\""));
+    let parts = ["VERSION_MAJOR", "VERSION_MINOR", "VERSION_PATCH"].map(macro_of);
+    assert_eq!(parts.join("."), version);
+}
+
+/// The header's limits are the crate's.
+#[test]
+fn header_has_the_limits() {
+    let due = [
+        ("MAX_KEYS", limits::MAX_KEYS),
+        ("MAX_RESERVED", limits::MAX_RESERVED),
+        ("MAX_REQUESTS", limits::MAX_REQUESTS),
+        ("MAX_BUCKETS", limits::MAX_BUCKETS as usize),
+        ("MAX_VALUE", limits::MAX_VALUE),
+        ("MAX_VOLUME", limits::MAX_VOLUME),
+        ("MAX_CALL_LIST", limits::MAX_CALL_LIST),
+        ("MAX_PLACE_CHANGE", limits::MAX_PLACE_CHANGE),
+        ("MAX_RELEASE_CHANGE", limits::MAX_RELEASE_CHANGE),
+        ("MAX_DISCARD_CHANGE", limits::MAX_DISCARD_CHANGE),
+    ];
+    for (name, limit) in due {
+        assert_eq!(number(name), limit, "ZERGLAZ_{name}");
+    }
+}
+
+/// What a history and a live piece are, and the caller's duties, in the words that every page has.
+const DUTIES: &str = "A history is a list of place, release and discard calls; each reads the volume \
+    last reached, of which nothing but field 1 and requests has changed. A piece is live from its \
+    applied placement to the applied release that names it by first sector and length. \
+    1. The history starts from a clean volume. \
+    2. A release names pieces that are live, none twice. \
+    3. An accepted change is applied whole before the next call, and data is written only to places \
+    whose change is applied. \
+    4. A refused apply drops its change. \
+    5. Bucket sectors stay. ";
+
+/// The crate's documentation has the duties word for word.
+#[test]
+fn documentation_lists_the_duties() {
+    let path = format!("{}/src/lib.rs", env!("CARGO_MANIFEST_DIR"));
+    let text = std::fs::read_to_string(&path).expect("the crate's root");
+    let lines = text.lines().filter_map(|line| line.strip_prefix("//!"));
+    let words: Vec<&str> = lines.flat_map(str::split_whitespace).collect();
+    assert!(words.join(" ").contains(DUTIES));
 }
 
 /// The header has the declarations that `src/ffi.rs` has.

@@ -1,5 +1,6 @@
 //! Random histories through the archive: each number is the model's, each answer is applied by the
-//! archive and by the model with the same bytes, and demand 3 is counted on the volume after each step.
+//! archive and by the model with the same bytes, and demand 3 is counted on the volume after each
+//! step.
 
 mod common;
 
@@ -10,6 +11,9 @@ use lists::history::{History, Tally};
 use lists::lent::Due;
 use lists::model::{verdict, SUMS};
 use lists::rng::Rng;
+use std::collections::BTreeSet;
+use zerglaz::limits::RETIRED_GENERATION;
+use zerglaz::{CallListRef, ChangeListRef};
 
 /// How many histories, and how many steps each has.
 const HISTORIES: u64 = 80;
@@ -32,7 +36,8 @@ fn call(rng: &mut Rng, call: u8, list: &[u8]) -> Option<Vec<u8>> {
     Some(out)
 }
 
-/// The archive's apply gives the model's next volume, or its number.
+/// The archive's apply gives the model's next volume, or its number; that volume passes the checks
+/// of `Volume::open`.
 fn hold_apply(list: &[u8], change: &[u8]) {
     let volume = CallList::read(list).expect("a call list").volume().bytes();
     let (number, next) = apply(&volume, change, usize::MAX);
@@ -42,6 +47,10 @@ fn hold_apply(list: &[u8], change: &[u8]) {
     };
     let held = ARCHIVE.hold_apply(&volume, change, next.len() + 9, due);
     held.unwrap_or_else(|why| panic!("apply: {why}"));
+    if number == 0 {
+        let next = CallListRef::read(&next).expect("a volume");
+        next.check().expect("what a history reaches is opened");
+    }
 }
 
 #[test]
@@ -61,15 +70,35 @@ fn demand_3() {
     assert!(sum.highest_generation > 0);
 }
 
-/// One long history, in which buckets come round often.
+/// One long history, in which buckets come round often: until they have had every generation but
+/// the one at which they retire.
 #[test]
 fn a_long_history() {
     let mut history = History::new(7);
     let mut rng = Rng::new(7);
+    let mut uses: BTreeSet<(u32, u8)> = BTreeSet::new();
     for step in 0..1_500 {
-        let made = history.step(&mut |byte, list| call(&mut rng, byte, list));
+        let made = history.step(&mut |byte, list| {
+            let change = call(&mut rng, byte, list)?;
+            let placed = ChangeListRef::read(&change)
+                .expect("a change list")
+                .placed();
+            uses.extend(placed.map(|piece| (piece.bucket.0, piece.generation)));
+            Some(change)
+        });
         made.unwrap_or_else(|why| panic!("step {step}: {why}"));
     }
-    println!("1,500 steps: {:?}", history.tally);
-    assert!(history.tally.placed > 0 && history.tally.discarded > 0);
+    let buckets: BTreeSet<u32> = uses.iter().map(|&(bucket, _)| bucket).collect();
+    let (uses, buckets) = (uses.len(), buckets.len());
+    println!(
+        "1,500 steps, {buckets} buckets used {uses} times: {:?}",
+        history.tally
+    );
+    assert!(history.tally.placed > 200 && history.tally.released > 400);
+    assert!(history.tally.discarded > 200 && history.tally.refused > 400);
+    assert_eq!(history.tally.highest_generation, RETIRED_GENERATION - 1);
+    assert!(
+        uses >= 10 * buckets,
+        "each bucket is used ten times, on average"
+    );
 }

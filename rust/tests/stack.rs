@@ -1,55 +1,80 @@
-//! Each call on lists at the limits, in a thread that has 512 KiB of stack in all: the bound that the
-//! header gives. A call that takes more ends the test's process.
+//! Each call on lists at the limits, in a thread that has 512 KiB of stack in all: the bound that
+//! the header gives. A call that takes more ends the test's process. Each answer is the stored one,
+//! so that the lists that are to be accepted run through the whole call.
 
 use lists::call_list::{DISCARD, PLACE, RELEASE};
+use lists::vectors::{self, Held};
 use lists::{changes, limits};
+use zerglaz::limits::{MAX_CHANGE, MAX_VOLUME};
 use zerglaz::{Refusal, SUMS};
 
 /// The bound that the header gives.
 const STACK: usize = 512 * 1024;
 
-/// Make a call in a thread of that stack.
-fn within(call: impl FnOnce() -> Result<usize, Refusal> + Send + 'static) {
-    let thread = std::thread::Builder::new().stack_size(STACK).spawn(call);
-    let answer = thread.expect("a thread").join().expect("no panic");
-    assert_ne!(answer, Err(Refusal::BrokenLayout));
+/// What a call answers: its number, and its bytes by length and digest.
+type Answer = (u32, Held);
+
+/// Make a call in a thread of that stack, with this much room.
+fn within(
+    room: usize,
+    call: impl FnOnce(&mut [u8]) -> Result<usize, Refusal> + Send + 'static,
+) -> Answer {
+    let made = move || {
+        let mut out = vec![0; room];
+        match call(&mut out) {
+            Ok(length) => (0, Held::of(&out[..length])),
+            Err(refusal) => (refusal.number(), Held::of(&[])),
+        }
+    };
+    let thread = std::thread::Builder::new().stack_size(STACK).spawn(made);
+    thread.expect("a thread").join().expect("no panic")
 }
 
-/// The bytes of every list at the limits of a call.
-fn lists_of(call: u8) -> impl Iterator<Item = Vec<u8>> {
-    (0..limits::LISTS).map(move |index| limits::list(limits::SEED, call, index).0.bytes())
+/// The text of a file of `vectors/`.
+fn file(name: &str) -> String {
+    let path = format!("{}/../vectors/{name}.txt", env!("CARGO_MANIFEST_DIR"));
+    std::fs::read_to_string(&path).unwrap_or_else(|e| panic!("{path}: {e}"))
 }
 
-/// An output for any answer at the limits.
-fn output() -> Vec<u8> {
-    vec![0; 1 << 22]
+/// Hold a call to all of its stored answers at the limits, of which so many are accepted.
+fn hold(call: u8, accepted: usize, make: fn(&[u8], &mut [u8]) -> Result<usize, Refusal>) {
+    let stored = vectors::limits(&file("limits"));
+    let stored: Vec<_> = stored.into_iter().filter(|v| v.call == call).collect();
+    assert_eq!(stored.len() as u64, limits::LISTS);
+    assert_eq!(stored.iter().filter(|v| v.number == 0).count(), accepted);
+    for v in stored {
+        let (list, what) = limits::list(limits::SEED, call, v.index);
+        let list = list.bytes();
+        let answer = within(MAX_CHANGE, move |out| make(&list, out));
+        assert_eq!(answer, (v.number, v.answer), "{what}");
+    }
 }
 
 #[test]
 fn place() {
-    for list in lists_of(PLACE) {
-        within(move || zerglaz::place(&list, &mut output()));
-    }
+    hold(PLACE, 9, zerglaz::place);
 }
 
 #[test]
 fn release() {
-    for list in lists_of(RELEASE) {
-        within(move || zerglaz::release(&list, &mut vec![0; SUMS], &mut output()));
-    }
+    hold(RELEASE, 9, |list, out| {
+        zerglaz::release(list, &mut vec![0; SUMS], out)
+    });
 }
 
 #[test]
 fn discard() {
-    for list in lists_of(DISCARD) {
-        within(move || zerglaz::discard(&list, &mut output()));
-    }
+    hold(DISCARD, 11, zerglaz::discard);
 }
 
 #[test]
 fn apply() {
-    for index in 0..changes::LIMITS {
-        let (volume, change) = changes::at_the_limits(limits::SEED, index);
-        within(move || zerglaz::apply(&volume, &change, &mut output()));
+    let stored = vectors::apply_limits(&file("apply-limits"));
+    assert_eq!(stored.len() as u64, changes::LIMITS);
+    assert_eq!(stored.iter().filter(|v| v.number == 0).count(), 5);
+    for v in stored {
+        let (volume, change) = changes::at_the_limits(limits::SEED, v.index);
+        let answer = within(MAX_VOLUME, move |out| zerglaz::apply(&volume, &change, out));
+        assert_eq!(answer, (v.number, v.next), "{}", v.index);
     }
 }

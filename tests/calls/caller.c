@@ -1,5 +1,5 @@
-/* The four calls from C, by the header: the discard that FORMAT.md prints, its apply, and refusals. */
-#include "../../include/zerglaz.h"
+/* The four calls from C, by the header: the printed case of docs/FORMAT.md, "The program bucketlines", its apply, and refusals. */
+#include <zerglaz.h>
 
 #include <stdio.h>
 #include <string.h>
@@ -84,7 +84,7 @@ static struct list before(void) {
     return list;
 }
 
-/* The change list that FORMAT.md prints. */
+/* The change list that is printed there. */
 static struct list printed(void) {
     struct list list = {{0}, 0};
     put_key(&list, 4, 27, 0, 0, 5, freed, 8);
@@ -146,6 +146,9 @@ int main(void) {
     memset(out, 0xa5, sizeof out);
     number = zerglaz_apply(volume.bytes, volume.length, change.bytes, change.length, out, sizeof out, &written);
     expect("apply", number == ZERGLAZ_ACCEPTED && holds(&next, written));
+#ifdef INSTALLED_VERSION
+    expect("the version", strcmp(ZERGLAZ_VERSION, INSTALLED_VERSION) == 0);
+#endif
     printf("%d passed, %d failed\n", passed, failed);
     return failed != 0;
 }
