@@ -52,12 +52,12 @@ else
 	@echo "The calls beside the Rust's own functions: make bench RUST=dir, where dir has the Rust text under its own paths"
 endif
 
-# Installs the header, the archive and a pkg-config file below PREFIX, and below DESTDIR where that is set. The archive is built where there is none.
+# Below DESTDIR too, where that is set. The archive is built where there is none.
 .PHONY: install
 PREFIX ?= /usr/local
 installed = $(DESTDIR)$(abspath $(PREFIX))
 version = $(shell sed -n 's/^version = "\(.*\)"/\1/p' rust/Cargo.toml)
-install: target/staticlib/libzerglaz.a
+install: target/staticlib/libzerglaz.a ## PREFIX=dir: installs the header, the archive and a pkg-config file below dir.
 	install -d "$(installed)/include" "$(installed)/lib/pkgconfig"
 	install -m 644 include/zerglaz.h "$(installed)/include/"
 	install -m 644 target/staticlib/libzerglaz.a "$(installed)/lib/"
