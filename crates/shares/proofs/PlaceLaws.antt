@@ -1,15 +1,15 @@
 -- Keys at their places.
-use mathlib.Core.Path.{_≡_, refl, sym, ap, _∙_}
+use mathlib.Core.Path.{_≡_, refl, sym, ap, _∙_, subst}
 use Prim.Native.Nat.{ℕ, _+_, _≤_, _<_}
 use native.Mathlib.Omega.{arith}
 use mathlib.Core.List.{List, _∷_}
-use mathlib.Core.Option.{Option, none, some}
+use mathlib.Core.Option.{Option, none, some, Option·none-ne-some, Option·some-injective}
 use lib.ListN.{length, getD, drop}
 use Rattle.wire.specs.Keys.{Key}
 use Rattle.wire.proofs.OutputLaws.{drop-next}
 use Rattle.format.specs.Packing.{Member, get}
 use Rattle.reader.specs.KeyHere.{valueAt, keyHere, Whole, keysHere}
-use Rattle.reader.specs.Located.{noKey}
+use Rattle.reader.specs.Located.{KeyAt, noKey}
 use Rattle.reader.proofs.KeyHereLaws.{value-length-here, member-here}
 use Rattle.shares.specs.Places.{Keyed, PlaceOf, missing, found}
 
@@ -26,6 +26,11 @@ place-some (found k) h = (ap some (sym (k .is)), k .whole)
 pub place-none : {s : List ℕ} {at : ℕ} {o : Option Key} → PlaceOf s at o → at ≡ 0 → o ≡ none
 place-none missing h = refl
 place-none (found k) h = absurd (omega (arith, k .whole .after))
+
+-- a key that is not missing stands at its place
+pub place-found : {s : List ℕ} {at : ℕ} {o : Option Key} {k : Key} → PlaceOf s at o → o ≡ some k → KeyAt s at k
+place-found {k = k} missing e = absurd (Option·none-ne-some k e)
+place-found {s} {at} {k = k} (found {k = j} a) e = subst (λ (x : Key). KeyAt s at x) (Option·some-injective j k e) a
 
 module _ {s : List ℕ} {at : ℕ} (w : Whole s at) where
   -- the most that its value has

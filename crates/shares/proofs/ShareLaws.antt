@@ -1,7 +1,6 @@
 -- The freed buckets that no refusal stops. Assumes nothing.
-use mathlib.Core.Path.{_≡_, sym, ap, _∙_, subst}
+use mathlib.Core.Path.{_≡_, sym, ap, _∙_}
 use mathlib.Core.List.{List, [], _∷_, map}
-use mathlib.Core.Option.{Option, some, Option·none-ne-some, Option·some-injective}
 use Prim.Native.Nat.{ℕ, zero, suc, _+_, _≤_, _<_}
 use native.Mathlib.Omega.{arith}
 use lib.ListN.{length, getD, drop, length-map, drop-of-length-le, List·getD-map}
@@ -18,13 +17,11 @@ use Rattle.calls.proofs.RefusalLaws.{verdict-ok}
 use Rattle.calls.proofs.ReleaseLaws.{Held, held-of}
 use Rattle.calls.proofs.View.{bucket}
 use Rattle.reader.specs.KeyHere.{keyHere, Whole}
-use Rattle.reader.specs.Located.{KeyAt}
-use Rattle.shares.specs.Places.{PlaceOf, found, missing}
 use Rattle.shares.specs.Buckets.{bucketsIn}
 use Rattle.shares.specs.Shares.{shareOf}
 use Rattle.shares.specs.declared.shares.Share.{Share}
 use Rattle.shares.specs.Tables.{ShareAt, Tabled, Passed}
-use Rattle.shares.proofs.PlaceLaws.{place-some}
+use Rattle.shares.proofs.PlaceLaws.{place-some, place-found}
 use Rattle.shares.proofs.RefusalLaws.{dirty-is}
 
 -- the bucket at an index
@@ -63,10 +60,6 @@ pub record Ready (s : List ℕ) (sectors b amount place : ℕ) : Type 0 where
   pub small : get dirtySectors (keyHere s place .value) ≤ sectors
   pub held : amount ≤ get dirtySectors (keyHere s place .value)
   pub low : b < 65536
-
-place-found : {s : List ℕ} {at : ℕ} {o : Option Key} {k : Key} → PlaceOf s at o → o ≡ some k → KeyAt s at k
-place-found {k = k} missing e = absurd (Option·none-ne-some k e)
-place-found {s} {at} {k = k} (found {k = j} a) e = subst (λ (x : Key). KeyAt s at x) (Option·some-injective j k e) a
 
 module _ {s buckets amounts places : List ℕ} (p : Passed s buckets amounts places) (k : ℕ) (h : k < length buckets) where
   pub held-at : Held (p .volume) (p .requests) (bucket (getD buckets k 0))
