@@ -20,7 +20,7 @@ use Rattle.calls.specs.Lists.{fromOption}
 use Rattle.calls.specs.Trees.{onEq, lookup}
 use Rattle.calls.specs.Generations.{ofType30, genRecord, genOf}
 use Rattle.calls.proofs.BoolLaws.{parts as and-true}
-use Rattle.choose.specs.Parts.{keyHere, Whole}
+use Rattle.reader.specs.KeyHere.{keyHere, Whole}
 use Rattle.choose.specs.Records.{noted, recordAt, RecordsFound}
 
 -- what the code stores, by its tests

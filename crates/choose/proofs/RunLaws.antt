@@ -221,8 +221,14 @@ run-end k h = go (isRun k) refl
     go true f = h f
     go false f = omega arith
 
--- a run begun before bucket 0, as the code tests it
+-- a run, and one begun before bucket 0, as the code tests them
 module _ (k : Key) where
+  pub run-not : (k .type ≡ 25 → ⊥) → isRun k ≡ false
+  run-not n = rw (ne-eqb (k .type) 25 n)
+
+  pub run-else : k .type ≡ 25 → isRun k ≡ eqb (k .pos .inode) 0
+  run-else e = rw (eq-eqb (k .type) 25 e)
+
   pub early-not : isRun k ≡ false → beganEarly k ≡ false
   unfolding beganEarly
   early-not e = rw e

@@ -9,7 +9,7 @@ use lib.ListN.{length, getD, set}
 use Rattle.wire.specs.Keys.{Key}
 use Rattle.wire.specs.declared.kinds.Bucket.{Bucket}
 use Rattle.calls.specs.Generations.{genRecord}
-use Rattle.choose.specs.Parts.{keyHere, Whole}
+use Rattle.reader.specs.KeyHere.{keyHere, Whole}
 
 -- the table after the key at an offset: a record is noted, another key at a record's place takes it out
 unfoldable pub noted : ℕ → Key → List ℕ → List ℕ

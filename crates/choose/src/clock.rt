@@ -2,11 +2,11 @@
 ghost use mathlib.Core.Path.{_≡_};
 ghost use Rattle.calls.specs.Answers.{readVolume};
 ghost use Rattle.calls.specs.Clock.{clockOf};
+ghost use Rattle.reader.specs.KeyHere.{Whole, keyHere};
 ghost use Rattle.reader.specs.Located.{KeysAt};
-ghost use Rattle.choose.specs.Parts.{Whole, keyHere};
 ghost use Rattle.choose.specs.Times.{laterOf};
-use crate::located;
 use format::alloc;
+use reader::key;
 
 // The largest clock so far, where a key had one.
 pub struct Latest {
@@ -19,14 +19,14 @@ fn later(s: &[u8], at: usize, latest: Latest) -> Latest
     requires { ⌜ Whole (now s) at ⌝ }
     ensures { λ r. ⌜ r ≡ laterOf latest (keyHere (now (s .entry)) at) ⌝ }
 {
-    if located::type_at(s, at) != 27 {
+    if key::type_at(s, at) != 27 {
         return latest;
     }
-    if located::value_len(s, at) < 40 {
+    if key::value_len(s, at) < 40 {
         return latest;
     }
     let before = latest.time;
-    let time = alloc::write_time(s, at + 37);
+    let time = alloc::write_time(s, key::value_at(s, at));
     if time < before {
         return Latest {
             found: true,

@@ -4,10 +4,10 @@ ghost use Prim.Native.Nat.{_<_};
 ghost use lib.ListN.{replicate};
 ghost use Rattle.calls.specs.Answers.{readVolume};
 ghost use Rattle.calls.specs.Generations.{genOf};
+ghost use Rattle.reader.specs.KeyHere.{Whole, keyHere};
 ghost use Rattle.reader.specs.Located.{KeysAt};
-ghost use Rattle.choose.specs.Parts.{Whole, keyHere};
 ghost use Rattle.choose.specs.Records.{noted, RecordsFound};
-use crate::located;
+use reader::key;
 use wire::kinds::Bucket;
 use wire::le;
 use wire::positions;
@@ -17,7 +17,7 @@ fn note_record(s: &[u8], at: u32, table: &mut [u32; 256])
     requires { ⌜ Whole (now s) at ⌝ }
     ensures { λ _. ⌜ now (table .exit) ≡ noted at (keyHere (now (s .entry)) at) (now (table .entry)) ⌝ }
 {
-    let p = located::pos_at(s, at as usize);
+    let p = key::pos_at(s, at as usize);
     if p.inode != 0 {
         return;
     }
@@ -28,7 +28,7 @@ fn note_record(s: &[u8], at: u32, table: &mut [u32; 256])
         return;
     }
     let o = p.offset as usize;
-    if located::type_at(s, at as usize) == 30 {
+    if key::type_at(s, at as usize) == 30 {
         table[o] = at;
     } else {
         table[o] = 0;
@@ -53,13 +53,14 @@ pub fn bucket_gen(s: &[u8], table: &[u32; 256], b: Bucket) -> u8
     ensures { λ r. ⌜ r ≡ genOf (readVolume (now (s .entry)) .trees .gens) b ⌝ }
 {
     let o = (b.0 / 256) as usize;
-    let at = located::wide(table[o]);
-    if at == 0 {
+    let entry = table[o];
+    if entry == 0 {
         return 0;
     }
+    let at = entry as usize;
     let i = positions::gens_byte(b);
-    if located::value_len(s, at) <= i {
+    if key::value_len(s, at) <= i {
         return 0;
     }
-    le::le8(s, at + 37 + i)
+    le::le8(s, key::value_at(s, at) + i)
 }

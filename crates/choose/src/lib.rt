@@ -1,7 +1,6 @@
 // What a placement chooses: refusals 4 to 13, take_buckets, bucket_gen, write_clock.
 pub mod clock;
 pub mod gens;
-pub mod located;
 pub mod marks;
 pub mod refusals;
 pub mod requests;

@@ -4,12 +4,12 @@ ghost use Prim.Native.Nat.{_<_};
 ghost use lib.ListN.{replicate};
 ghost use Rattle.calls.specs.Answers.{readVolume};
 ghost use Rattle.calls.specs.Freespace.{isIn, isUsed};
+ghost use Rattle.reader.specs.KeyHere.{Whole, keyHere};
 ghost use Rattle.reader.specs.Located.{KeysAt, BucketsAt};
 ghost use Rattle.choose.specs.Checked.{Checked};
-ghost use Rattle.choose.specs.Parts.{Whole, keyHere};
 ghost use Rattle.choose.specs.Bits.{hasBit, withBit, marked, withMark, inUse, usedMark, Marks};
-use crate::located;
 use format::alloc;
+use reader::key;
 use wire::kinds;
 use wire::kinds::Bucket;
 use wire::positions;
@@ -58,14 +58,14 @@ fn mark_key(s: &[u8], at: usize, bits: &mut [u8; 8192])
     requires { ⌜ Whole (now s) at × (keyHere (now s) at .pos .inode ≡ 0 → keyHere (now s) at .pos .offset < 65536) ⌝ }
     ensures { λ _. ⌜ now (bits .exit) ≡ usedMark (keyHere (now (s .entry)) at) (now (bits .entry)) ⌝ }
 {
-    let p = located::pos_at(s, at);
+    let p = key::pos_at(s, at);
     if p.inode != 0 {
         return;
     }
-    if located::value_len(s, at) < 16 {
+    if key::value_len(s, at) < 16 {
         return;
     }
-    if alloc::data_type(s, at + 37) == 0 {
+    if alloc::data_type(s, key::value_at(s, at)) == 0 {
         return;
     }
     mark(bits, positions::bucket_in(p));

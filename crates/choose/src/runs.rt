@@ -5,15 +5,15 @@ ghost use Prim.Native.Nat.{_≤_};
 ghost use lib.ListN.{length};
 ghost use Rattle.wire.specs.Kinds.{runStart, beganBefore, bucketsUpTo};
 ghost use Rattle.calls.specs.Answers.{readVolume};
+ghost use Rattle.calls.specs.Limits.{isRun};
 ghost use Rattle.calls.specs.Freespace.{isIn, runsOf, overlaps, freeCount};
+ghost use Rattle.reader.specs.KeyHere.{Whole, keyHere};
 ghost use Rattle.reader.specs.Located.{KeysAt, BucketsAt};
 ghost use Rattle.choose.specs.Checked.{Checked};
-ghost use Rattle.choose.specs.Parts.{Whole, keyHere};
 ghost use Rattle.choose.specs.Runs.{beganEarly, runIn, countBelow};
-use crate::located;
+use reader::key;
 use wire::kinds;
 use wire::kinds::Bucket;
-use wire::positions;
 
 // The buckets that a run covers, the end left out.
 pub struct Run {
@@ -21,34 +21,42 @@ pub struct Run {
     pub end: Bucket,
 }
 
-// Whether the key at an offset is a run that began before bucket 0. The reader shows that a key stands there, here and below.
+// Whether the key at a place is a run of free buckets. The reader shows that a key stands there, here and below.
+pub fn is_run(s: &[u8], at: usize) -> bool
+    requires { ⌜ Whole (now s) at ⌝ }
+    ensures { λ r. ⌜ r ≡ isRun (keyHere (now (s .entry)) at) ⌝ }
+{
+    if key::type_at(s, at) != 25 {
+        return false;
+    }
+    key::pos_at(s, at).inode == 0
+}
+
+// Whether it is one that began before bucket 0.
 pub fn began_early(s: &[u8], at: usize) -> bool
     requires { ⌜ Whole (now s) at ⌝ }
     ensures { λ r. ⌜ r ≡ beganEarly (keyHere (now (s .entry)) at) ⌝ }
 {
-    if !located::is_run(s, at) {
+    if !is_run(s, at) {
         return false;
     }
-    kinds::began_before(
-        positions::bucket_in(located::pos_at(s, at)),
-        located::size_at(s, at),
-    )
+    kinds::began_before(key::bucket_at(s, at), key::size_at(s, at))
 }
 
-// The run at an offset, or none where the key there is no run.
+// The run at a place, or none where the key there is no run.
 pub fn run_of(s: &[u8], at: usize) -> Run
     requires { ⌜ Whole (now s) at ⌝ }
     ensures { λ r. ⌜ r ≡ runIn (keyHere (now (s .entry)) at) ⌝ }
 {
-    if !located::is_run(s, at) {
+    if !is_run(s, at) {
         return Run {
             start: Bucket(0),
             end: Bucket(0),
         };
     }
-    let end = positions::bucket_in(located::pos_at(s, at));
+    let end = key::bucket_at(s, at);
     Run {
-        start: kinds::run_start(end, located::size_at(s, at)),
+        start: kinds::run_start(end, key::size_at(s, at)),
         end,
     }
 }

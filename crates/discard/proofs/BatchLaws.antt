@@ -17,7 +17,7 @@ use Rattle.wire.proofs.EmitLaws.{done}
 use Rattle.wire.proofs.EncodeLaws.{encode-none, encode-append}
 use Rattle.calls.specs.ChangeList.{Batch, batchFields, changeFields, changeBytes}
 use Rattle.calls.specs.Discard.{chunks, discardBatch}
-use Rattle.waiting.specs.Offsets.{keysFrom}
+use Rattle.reader.specs.KeyHere.{keysHere}
 use Rattle.waiting.specs.Chosen.{needTrees}
 use Rattle.discard.specs.Emitted.{batchBytes, changesFrom, batchEnd}
 
@@ -87,7 +87,7 @@ module _ (s needs : List ℕ) (size : ℕ) (os : List ℕ) {xs : List ℕ} {at :
   batches-more a {e} q h l n w =
       let d = length-drop a os in
       let c : changesFrom s needs size (drop a os) ≡ batchBytes s needs (take size (drop a os)) ++ changesFrom s needs size (drop size (drop a os)) =
-      ap (λ (l : List (List ℕ)). changeBytes (map (λ part. discardBatch (needTrees s needs) (keysFrom s part)) l)) (chunks-next size h (drop a os) (omega arith))
+      ap (λ (l : List (List ℕ)). changeBytes (map (λ part. discardBatch (needTrees s needs) (keysHere s part)) l)) (chunks-next size h (drop a os) (omega arith))
       ∙ change-next _ _ in
       turn (changesFrom s needs size (drop e os)) q (rw (n, cut-take os a size, cut-drop os a size) c) w
 

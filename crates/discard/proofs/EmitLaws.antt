@@ -1,5 +1,5 @@
 -- What the emitters of a batch write, put together. Assumes nothing.
-use Prim.Native.Nat.{ℕ, zero, suc, _+_, _-_, _≤_, _<_}
+use Prim.Native.Nat.{ℕ, zero, suc, _+_, _≤_, _<_}
 use mathlib.Core.Path.{_≡_, refl, sym, ap, _∙_}
 use mathlib.Core.List.{List, [], _∷_, _++_, map, flatMap, map-map, append-nil}
 use mathlib.Core.Option.{Option, none, some}
@@ -29,12 +29,12 @@ use Rattle.calls.specs.Accounting.{countedRows, bucketsRow}
 use Rattle.calls.specs.ChangeList.{batchFields, endField}
 use Rattle.calls.specs.Discard.{waitingKey, waitingDeletions, discardBatch}
 use Rattle.calls.specs.Trees.{deletion, withValue}
-use Rattle.waiting.specs.Offsets.{sizeAt, keyFrom, keysFrom, bucketFrom, Kept}
+use Rattle.reader.specs.KeyHere.{keyHere, keysHere}
+use Rattle.waiting.specs.Kept.{bucketHere}
 use Rattle.waiting.specs.Table.{waitsOf}
 use Rattle.discard.specs.Emitted.{keyBytes, allocBytes, bucketsAt, runsBytes, deletionBytes, rowsBytes, unreservedBytes, batchBytes}
 use Rattle.waiting.specs.declared.waiting.Waits.{Waits}
 use Rattle.waiting.specs.declared.waiting.Waits.the-variants.{At, Not}
-use Rattle.waiting.proofs.OffsetLaws.{value-size}
 
 -- lists of bytes, one after the other
 
@@ -69,14 +69,14 @@ module _ (f : ℕ → List ℕ) (os : List ℕ) {xs : List ℕ} {at : ℕ} where
   emits-all i q h = done q (each-none f (drop-of-length-le os h))
 
 -- the key at an offset with its value discarded
-module _ {s : List ℕ} {o : ℕ} (h : Kept s o) {k : Bkey} (e : k ≡ held (keyFrom s o)) where
-  pub held-length : k .value .len ≡ sizeAt s o - 37
-  held-length = rw e (value-size h)
+module _ (s : List ℕ) (o : ℕ) {k : Bkey} (e : k ≡ held (keyHere s o)) where
+  pub held-length : k .value .len ≡ length (keyHere s o .value)
+  held-length = rw e
 
   pub discarded-is : (v : Value) → valueIn v ≡ discarded (valueIn (k .value))
       → keyIn (record { «key_type» = k .«key_type»; size = k .size; «version_hi» = k .«version_hi»; «version_lo» = k .«version_lo»; pos = k .pos; value = v })
-      ≡ withValue (keyFrom s o) (discarded (keyFrom s o .value))
-  discarded-is v w = simp (w, e, value-in (keyFrom s o .value))
+      ≡ withValue (keyHere s o) (discarded (keyHere s o .value))
+  discarded-is v w = simp (w, e, value-in (keyHere s o .value))
 
 -- the deletion of the key that stands for a bucket
 module _ (needs : List Key) (b : Bucket) where
@@ -121,8 +121,8 @@ unfolding each encodeField
 end-is = simp append-nil
 
 module _ (s needs os : List ℕ) where
-  buckets-are : map (λ (k : Key). bucketIn (k .pos)) (keysFrom s os) ≡ bucketsAt s os
-  buckets-are = map-map (λ (k : Key). bucketIn (k .pos)) (keyFrom s) os
+  buckets-are : map (λ (k : Key). bucketIn (k .pos)) (keysHere s os) ≡ bucketsAt s os
+  buckets-are = map-map (λ (k : Key). bucketIn (k .pos)) (keyHere s) os
 
   pub batch-is : each (allocBytes s) os ++ runsBytes s os ++ each (deletionBytes s needs) os ++ rowsBytes (length os) ++ each (unreservedBytes s) os ++ headBytes 76 0
       ≡ batchBytes s needs os
@@ -130,10 +130,10 @@ module _ (s needs os : List ℕ) where
   batch-is = sym (simp (append-nil, each-append, end-is, buckets-are, each-map, each-flat, length-map))
 
 module _ (s needs : List ℕ) (o : ℕ) where
-  pub no-deletion : {r : Waits} → r ≡ waitsOf (waitingKey (keysFrom s needs) (bucketFrom s o)) → r ≡ Not → deletionBytes s needs o ≡ []
+  pub no-deletion : {r : Waits} → r ≡ waitsOf (waitingKey (keysHere s needs) (bucketHere s o)) → r ≡ Not → deletionBytes s needs o ≡ []
   unfolding each
-  no-deletion p q = rw (none-waits (keysFrom s needs) (bucketFrom s o) p q)
+  no-deletion p q = rw (none-waits (keysHere s needs) (bucketHere s o) p q)
 
-  pub one-deletion : {r : Waits} {x : Bpos} → r ≡ waitsOf (waitingKey (keysFrom s needs) (bucketFrom s o)) → r ≡ At x
+  pub one-deletion : {r : Waits} {x : Bpos} → r ≡ waitsOf (waitingKey (keysHere s needs) (bucketHere s o)) → r ≡ At x
       → keyBytes 12 (deletion x) ≡ deletionBytes s needs o
-  one-deletion {x = x} p q = rw (one-waits (keysFrom s needs) (bucketFrom s o) p q) (sym (each-one (keyBytes 12) (deletion x)))
+  one-deletion {x = x} p q = rw (one-waits (keysHere s needs) (bucketHere s o) p q) (sym (each-one (keyBytes 12) (deletion x)))

@@ -1,5 +1,5 @@
 -- The answer to a discard: the offsets that the reader gives find the keys of the definition, and its tests in their order. Assumes nothing.
-use Prim.Native.Nat.{ℕ, zero, suc, _+_, _-_, _≤_, _<_}
+use Prim.Native.Nat.{ℕ, zero, suc, _≤_, _<_}
 use mathlib.Core.Path.{_≡_, refl, sym, ap, _∙_}
 use mathlib.Core.Bool.{Bool, true, false, not, _||_, cond}
 use mathlib.Core.List.{List, [], _∷_, map, map-map}
@@ -26,45 +26,13 @@ use Rattle.reader.specs.Located.{KeyAt, KeysAt}
 use Rattle.reader.specs.Readings.{callRefusal, ListRead}
 use Rattle.reader.specs.declared.head.Head.{Head}
 use Rattle.reader.specs.declared.table.Ends.{Ends}
+use Rattle.reader.proofs.KeyHereLaws.{keys-tail, keys-here}
 use Rattle.reader.proofs.PartsLaws.{passed, read-on, read-refused, between, alloc-part, need-discard-part}
-use Rattle.waiting.specs.Offsets.{sizeAt, keyFrom, keysFrom, Kept, AllocKept, NeedKept}
+use Rattle.reader.specs.KeyHere.{keyHere, keysHere}
+use Rattle.waiting.specs.Kept.{AllocKept, NeedKept}
 use Rattle.waiting.specs.Chosen.{needTrees, freedFrom}
 use Rattle.discard.specs.Emitted.{batchesFrom, changesFrom}
 use Rattle.discard.specs.Given.{Ready}
-
--- offsets that find keys
-
-module _ {s : List ℕ} {o : ℕ} {k : Key} (h : KeyAt s o k) where
-  size-of : sizeAt s o ≡ h .size
-  unfolding sizeAt
-  size-of = h .sized
-
-  kept-of : Kept s o
-  kept-of =
-      let e = size-of in
-      record {
-        after = h .after;
-        long = omega (arith, h .long);
-        short = omega (arith, h .short);
-        within = omega (arith, h .within);
-      }
-
-  key-of : keyFrom s o ≡ k
-  unfolding keyFrom
-  key-of = rw size-of (h .is)
-
-tail-at : {s os : List ℕ} {ks : List Key} {o : ℕ} {k : Key} → KeysAt s (o ∷ os) (k ∷ ks) → KeysAt s os ks
-tail-at q = record { count = omega (arith, q .count); at = λ i h. q .at (suc i) (omega arith) }
-
--- the keys are those that the offsets find
-pub keys-are : {s os : List ℕ} {ks : List Key} → KeysAt s os ks → ks ≡ keysFrom s os
-keys-are {os = []} {ks = []} q = refl
-keys-are {os = []} {ks = k ∷ ks} q = absurd (omega (arith, q .count))
-keys-are {os = o ∷ os} {ks = []} q = absurd (omega (arith, q .count))
-keys-are {os = o ∷ os} {ks = k ∷ ks} q =
-    let e = key-of (q .at 0 (omega arith)) in
-    let r = keys-are (tail-at q) in
-    λ i. sym e i ∷ r i
 
 -- what the offsets have of a test that each key passes
 found : {P : ℕ → Type 0} {s os : List ℕ} {ks : List Key} (t : Key → Bool) → ((o : ℕ) (k : Key) → KeyAt s o k → t k ≡ true → P o)
@@ -75,20 +43,20 @@ found {os = []} {ks = k ∷ ks} t f q h = absurd (omega (arith, q .count))
 found {os = o ∷ os} {ks = []} t f q h = absurd (omega (arith, q .count))
 found {os = o ∷ os} {ks = k ∷ ks} t f q h =
     let p = parts (t k) (allOf t ks) h in
-    more (f o k (q .at 0 (omega arith)) (p .0)) (found t f (tail-at q) (p .1))
+    more (f o k (q .at 0 (omega arith)) (p .0)) (found t f (keys-tail q) (p .1))
 
 pub alloc-kept : {s os : List ℕ} {ks : List Key} → KeysAt s os ks → allOf (λ k. not (atInode0 k) || bucketInRange (bucketIn (k .pos))) ks ≡ true
     → All (AllocKept s) os
 alloc-kept q h =
     found _
-    (λ o k r t. record { kept = kept-of r; below = λ z. rw (key-of r) (ltb-true (k .pos .offset) 65536 (or-then (atInode0 k) _ t (eq-eqb _ 0 (rw (key-of r) at z)))) })
+    (λ o k r t. record { kept = r .whole; below = λ z. rw (r .is) (ltb-true (k .pos .offset) 65536 (or-then (atInode0 k) _ t (eq-eqb _ 0 (rw (r .is) at z)))) })
     q h
 
 pub needs-kept : {s os : List ℕ} {ks : List Key} → KeysAt s os ks → allOf (λ k. not (isSet k) || bucketInRange (bucketIn (k .pos))) ks ≡ true
     → All (NeedKept s) os
 needs-kept q h =
     found _
-    (λ o k r t. record { kept = kept-of r; below = λ z. rw (key-of r) (ltb-true (k .pos .offset) 65536 (or-then (isSet k) _ t (eq-eqb _ 25 (rw (key-of r) at z)))) })
+    (λ o k r t. record { kept = r .whole; below = λ z. rw (r .is) (ltb-true (k .pos .offset) 65536 (or-then (isSet k) _ t (eq-eqb _ 25 (rw (r .is) at z)))) })
     q h
 
 -- what the reader shows, as the parts of a discard want it
@@ -150,7 +118,7 @@ those-map t f (x ∷ xs) = rw (those-map t f xs) (go (t (f x)))
     go false = refl
 
 -- trees with the same need-discard keys discard the same
-module _ (t : Trees) (s needs : List ℕ) (e : t .needDiscard ≡ keysFrom s needs) where
+module _ (t : Trees) (s needs : List ℕ) (e : t .needDiscard ≡ keysHere s needs) where
   same-choice : isDiscarded t ≡ isDiscarded (needTrees s needs)
   unfolding isDiscarded
   same-choice = let p : (k : Key) → isDiscarded t k ≡ isDiscarded (needTrees s needs) k = λ k. rw e in λ i k. p k i
@@ -159,16 +127,16 @@ module _ (t : Trees) (s needs : List ℕ) (e : t .needDiscard ≡ keysFrom s nee
   unfolding discardBatch
   same-batch = let p : (ks : List Key) → discardBatch t ks ≡ discardBatch (needTrees s needs) ks = λ ks. rw e in λ i ks. p ks i
 
-  keys-chosen : (alloc : List ℕ) → t .alloc ≡ keysFrom s alloc → discardedKeys t ≡ keysFrom s (freedFrom s needs alloc)
+  keys-chosen : (alloc : List ℕ) → t .alloc ≡ keysHere s alloc → discardedKeys t ≡ keysHere s (freedFrom s needs alloc)
   unfolding discardedKeys
-  keys-chosen alloc f = rw (same-choice, f) (those-map (isDiscarded (needTrees s needs)) (keyFrom s) alloc)
+  keys-chosen alloc f = rw (same-choice, f) (those-map (isDiscarded (needTrees s needs)) (keyHere s) alloc)
 
-  batches-are : (alloc : List ℕ) (size : ℕ) → t .alloc ≡ keysFrom s alloc
+  batches-are : (alloc : List ℕ) (size : ℕ) → t .alloc ≡ keysHere s alloc
       → map (discardBatch t) (chunks (length (discardedKeys t)) size (discardedKeys t)) ≡ batchesFrom s needs size (freedFrom s needs alloc)
   batches-are alloc size f =
       let os = freedFrom s needs alloc in
-      rw (keys-chosen alloc f, same-batch, length-map os (keyFrom s), chunks-map (keyFrom s) (length os) size os)
-      (map-map (discardBatch (needTrees s needs)) (map (keyFrom s)) (chunks (length os) size os))
+      rw (keys-chosen alloc f, same-batch, length-map os (keyHere s), chunks-map (keyHere s) (length os) size os)
+      (map-map (discardBatch (needTrees s needs)) (map (keyHere s)) (chunks (length os) size os))
 
 pub changes-are : {s alloc needs : List ℕ} {head : Head} → Ready s alloc needs head
     → changesFrom s needs (head .batch) (freedFrom s needs alloc) ≡ changeBytes (discardBatches (readVolume s))
@@ -176,7 +144,7 @@ unfolding discardBatches
 changes-are {s} {alloc} {needs} {head} r =
     let v = readVolume s in
     let b : head .batch ≡ v .head .batch = ap (λ h. h .batch) (r .headed) in
-    ap changeBytes (rw b (sym (batches-are (v .trees) s needs (keys-are (r .needsAt)) alloc (v .head .batch) (keys-are (r .allocAt)))))
+    ap changeBytes (rw b (sym (batches-are (v .trees) s needs (keys-here (r .needsAt)) alloc (v .head .batch) (keys-here (r .allocAt)))))
 
 -- the answer of the definition: the tests of the reader, then 20, then 21
 module _ (s : List ℕ) (room : ℕ) where

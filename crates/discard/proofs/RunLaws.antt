@@ -14,7 +14,7 @@ use Rattle.wire.proofs.OutputLaws.{Part, begin, turn, drop-next}
 use Rattle.wire.proofs.EmitLaws.{done}
 use Rattle.wire.proofs.EncodeLaws.{each-append}
 use Rattle.calls.specs.Trees.{newKey}
-use Rattle.waiting.specs.Offsets.{bucketFrom}
+use Rattle.waiting.specs.Kept.{bucketHere}
 use Rattle.discard.proofs.EmitLaws.{each-one}
 use Rattle.wire.specs.Keys.{Key}
 use Rattle.wire.specs.Kinds.{sameBucket, nextBucket}
@@ -128,12 +128,12 @@ module _ (s os : List ℕ) {xs : List ℕ} {at : ℕ} where
   runs-none e h = rw (open-none e (bucketsAt s os)) (begin xs at (runsBytes s os) h)
 
   pub runs-more : {ys : List ℕ} {p m : ℕ} {zs : List ℕ} {q : ℕ} (r : Run) {b : Bucket} (i : ℕ) → Runs s os xs at ys p r i → i < length os
-      → b ≡ bucketFrom s (getD os i 0) → Wrote ys p m (each (keyBytes 11) (endedRun r b)) zs q
+      → b ≡ bucketHere s (getD os i 0) → Wrote ys p m (each (keyBytes 11) (endedRun r b)) zs q
       → Runs s os xs at zs q (withBucket r b) (i + 1)
   runs-more r {b} i q h e w =
       let d : drop i (bucketsAt s os) ≡ b ∷ drop (i + 1) (bucketsAt s os) =
-      drop-next (bucketFrom s 0) (bucketsAt s os) i (omega (arith, length-map os (bucketFrom s)))
-      ∙ rw (List·getD-map (bucketFrom s) os i 0, e) in
+      drop-next (bucketHere s 0) (bucketsAt s os) i (omega (arith, length-map os (bucketHere s)))
+      ∙ rw (List·getD-map (bucketHere s) os i 0, e) in
       turn (each (keyBytes 11) (openRuns (withBucket r b) (drop (i + 1) (bucketsAt s os)))) q
       (ap (each (keyBytes 11)) (open-more r d) ∙ each-append (keyBytes 11) (endedRun r b) _) w
 
@@ -141,7 +141,7 @@ module _ (s os : List ℕ) {xs : List ℕ} {at : ℕ} where
       → Wrote ys p m (each (keyBytes 11) (shownRun r)) zs q
       → Emitted xs at (runsBytes s os) zs q
   runs-all r i q h w =
-      let d : drop i (bucketsAt s os) ≡ [] = drop-of-length-le (bucketsAt s os) {i = i} (omega (arith, length-map os (bucketFrom s))) in
+      let d : drop i (bucketsAt s os) ≡ [] = drop-of-length-le (bucketsAt s os) {i = i} (omega (arith, length-map os (bucketHere s))) in
       done (turn [] q (ap (each (keyBytes 11)) (open-last r d) ∙ sym (append-nil _)) w) refl
 
 -- what the emitters of a run write

@@ -17,7 +17,8 @@ use Rattle.calls.specs.Accounting.{countedRows, bucketsRow}
 use Rattle.calls.specs.ChangeList.{Batch, batchFields, changeBytes, discardedField}
 use Rattle.calls.specs.Discard.{chunks, joinedRuns, runKey, waitingDeletions, discardBatch}
 use Rattle.calls.specs.Trees.{newKey, withValue}
-use Rattle.waiting.specs.Offsets.{keyFrom, keysFrom, bucketFrom}
+use Rattle.reader.specs.KeyHere.{keyHere, keysHere}
+use Rattle.waiting.specs.Kept.{bucketHere}
 use Rattle.waiting.specs.Chosen.{needTrees}
 use Rattle.discard.specs.declared.runs.Run.{Run}
 
@@ -27,11 +28,11 @@ keyBytes tree k = encodeField (keyField tree k)
 
 -- tree 4: the alloc key with its value discarded
 abbrev pub allocBytes : List ℕ → ℕ → List ℕ
-allocBytes s o = keyBytes 4 (withValue (keyFrom s o) (discarded (keyFrom s o .value)))
+allocBytes s o = keyBytes 4 (withValue (keyHere s o) (discarded (keyHere s o .value)))
 
 -- tree 11: the runs of neighbouring buckets
 abbrev pub bucketsAt : List ℕ → List ℕ → List Bucket
-bucketsAt s os = map (bucketFrom s) os
+bucketsAt s os = map (bucketHere s) os
 
 abbrev pub runsBytes : List ℕ → List ℕ → List ℕ
 runsBytes s os = each (keyBytes 11) (map runKey (joinedRuns (bucketsAt s os)))
@@ -50,7 +51,7 @@ withBucket r b = record { end = nextBucket b; size = cond (sameBucket (r .end) b
 
 -- tree 12: the deletion of the need-discard key that stands for the bucket
 abbrev pub deletionBytes : List ℕ → List ℕ → ℕ → List ℕ
-deletionBytes s needs o = each (keyBytes 12) (waitingDeletions (keysFrom s needs) (bucketFrom s o))
+deletionBytes s needs o = each (keyBytes 12) (waitingDeletions (keysHere s needs) (bucketHere s o))
 
 -- 73: n buckets more that are free, and n fewer that wait
 abbrev pub rowsBytes : ℕ → List ℕ
@@ -60,15 +61,15 @@ rowsBytes n =
 
 -- 75: the bucket is unreserved
 abbrev pub unreservedBytes : List ℕ → ℕ → List ℕ
-unreservedBytes s o = encodeField (discardedField (bucketFrom s o))
+unreservedBytes s o = encodeField (discardedField (bucketHere s o))
 
 -- the batch of the alloc keys at some offsets
 abbrev pub batchBytes : List ℕ → List ℕ → List ℕ → List ℕ
-batchBytes s needs os = encode (batchFields (discardBatch (needTrees s needs) (keysFrom s os)))
+batchBytes s needs os = encode (batchFields (discardBatch (needTrees s needs) (keysHere s os)))
 
 -- all batches of the alloc keys at some offsets, so many to a batch
 abbrev pub batchesFrom : List ℕ → List ℕ → ℕ → List ℕ → List Batch
-batchesFrom s needs size os = map (λ part. discardBatch (needTrees s needs) (keysFrom s part)) (chunks (length os) size os)
+batchesFrom s needs size os = map (λ part. discardBatch (needTrees s needs) (keysHere s part)) (chunks (length os) size os)
 
 abbrev pub changesFrom : List ℕ → List ℕ → ℕ → List ℕ → List ℕ
 changesFrom s needs size os = changeBytes (batchesFrom s needs size os)

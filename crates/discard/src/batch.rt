@@ -9,12 +9,13 @@ ghost use Rattle.wire.specs.Output.{Wrote, Emitted};
 ghost use Rattle.wire.specs.Rows.{countersIn};
 ghost use Rattle.calls.specs.Accounting.{row3};
 ghost use Rattle.calls.specs.Trees.{deletion};
-ghost use Rattle.waiting.specs.Offsets.{sizeAt, FreedKept};
+ghost use Rattle.reader.specs.KeyHere.{keyHere};
+ghost use Rattle.waiting.specs.Kept.{FreedKept};
 ghost use Rattle.waiting.specs.Table.{Tabled};
 ghost use Rattle.discard.specs.Emitted.{keyBytes, allocBytes, deletionBytes, rowsBytes, unreservedBytes, batchBytes};
 use crate::runs;
 use format::alloc;
-use waiting::found;
+use reader::key;
 use waiting::waiting as waiting_keys;
 use waiting::waiting::Waits;
 use wire::bpos::Bpos;
@@ -33,9 +34,9 @@ const WAITING: u64 = 0x0300_0900_0000_0000;
 // The alloc key at an offset, its value discarded. `freed_keys` shows what is required of the offsets, here and below.
 fn put_alloc_key(out: &mut [u8], at: usize, s: &[u8], o: u32) -> usize
     requires { ⌜ FreedKept (now s) o ⌝ }
-    ensures { λ r. ⌜ Wrote (now (out .entry)) at (3 + sizeAt (now (s .entry)) o) (allocBytes (now (s .entry)) o) (now (out .exit)) r ⌝ }
+    ensures { λ r. ⌜ Wrote (now (out .entry)) at (40 + length (keyHere (now (s .entry)) o .value)) (allocBytes (now (s .entry)) o) (now (out .exit)) r ⌝ }
 {
-    let k = found::key_at(s, o);
+    let k = key::key_at(s, o as usize);
     let v = k.value;
     let pos = k.pos;
     emit_key::put_key(
@@ -90,7 +91,8 @@ fn put_waiting(out: &mut [u8], at: usize, s: &[u8], o: u32, needs: &[u32], table
     requires { ⌜ FreedKept (now s) o × Tabled (now s) (now needs) (now table) ⌝ }
     ensures { λ r. ⌜ Emitted (now (out .entry)) at (deletionBytes (now (s .entry)) (now (needs .entry)) o) (now (out .exit)) r ⌝ }
 {
-    let Waits::At(pos) = waiting_keys::waiting_at(s, needs, table, found::bucket_at(s, o)) else {
+    let Waits::At(pos) = waiting_keys::waiting_at(s, needs, table, key::bucket_at(s, o as usize))
+    else {
         return at;
     };
     put_deletion(out, at, 12, pos)
@@ -141,7 +143,7 @@ fn put_unreserved(out: &mut [u8], at: usize, s: &[u8], freed: &[u32]) -> usize
     let mut p = at;
     let mut i: usize = 0;
     while i < freed.len() {
-        p = emit::put_bucket(out, p, 75, found::bucket_at(s, freed[i]));
+        p = emit::put_bucket(out, p, 75, key::bucket_at(s, freed[i] as usize));
         i += 1;
     }
     p

@@ -8,7 +8,7 @@ ghost use Rattle.wire.specs.Output.{Emitted};
 ghost use Rattle.calls.specs.ChangeList.{changeBytes};
 ghost use Rattle.calls.specs.Discard.{discardBatches};
 ghost use Rattle.calls.specs.Answers.{readVolume, answer, made, outcome};
-ghost use Rattle.waiting.specs.Offsets.{FreedKept};
+ghost use Rattle.waiting.specs.Kept.{FreedKept};
 ghost use Rattle.waiting.specs.Table.{Tabled};
 ghost use Rattle.discard.specs.Emitted.{batchEnd, changesFrom};
 ghost use Rattle.discard.specs.Given.{Ready};

@@ -5,9 +5,9 @@ ghost use lib.ListN.{length};
 ghost use Rattle.wire.specs.Bytes.{All};
 ghost use Rattle.wire.specs.Numbers.{each};
 ghost use Rattle.wire.specs.Output.{Emitted};
-ghost use Rattle.waiting.specs.Offsets.{FreedKept};
+ghost use Rattle.waiting.specs.Kept.{FreedKept};
 ghost use Rattle.discard.specs.Emitted.{keyBytes, shownRun, endedRun, withBucket, runsBytes};
-use waiting::found;
+use reader::key;
 use wire::emit_key;
 use wire::keys::KeyHead;
 use wire::kinds;
@@ -78,7 +78,7 @@ pub fn put_runs(out: &mut [u8], at: usize, s: &[u8], freed: &[u32]) -> usize
     };
     let mut i: usize = 0;
     while i < freed.len() {
-        let b = found::bucket_at(s, freed[i]);
+        let b = key::bucket_at(s, freed[i] as usize);
         p = put_ended(out, p, r, b);
         r = with_bucket(r, b);
         i += 1;

@@ -8,8 +8,6 @@ use lib.Dec.{ltb}
 use Rattle.wire.specs.Output.{put}
 use Rattle.wire.specs.Positions.{gensByte}
 use Rattle.wire.specs.declared.kinds.Bucket.{Bucket}
-use Rattle.format.specs.declared.gens.GenByte.{GenByte}
-use Rattle.format.specs.declared.gens.GenByte.the-variants.{Byte, Short}
 
 -- the generation in a record, or none where the record is too short for its byte
 unfoldable pub genIn : List ℕ → Bucket → Option ℕ
@@ -22,8 +20,3 @@ withGen b generation v = put v (gensByte b) (generation ∷ [])
 -- release starts a missing record as 256 zeros
 unfoldable pub noGens : List ℕ
 noGens = replicate 256 0
-
--- what each answer of the code stands for
-abbrev pub genByteIs : GenByte → Option ℕ
-genByteIs (Byte g) = some g
-genByteIs Short = none

@@ -3,32 +3,10 @@ ghost use mathlib.Core.Path.{_≡_};
 ghost use Prim.Native.Nat.{_<_, _≤_};
 ghost use Rattle.wire.specs.Held.{valueIn};
 ghost use Rattle.wire.specs.Positions.{gensByte};
-ghost use Rattle.format.specs.Gens.{genIn, withGen, noGens, genByteIs};
+ghost use Rattle.format.specs.Gens.{withGen, noGens};
 use wire::keys::Value;
 use wire::kinds::Bucket;
 use wire::positions;
-
-// What a record says of a bucket.
-pub enum GenByte {
-    // Its generation.
-    Byte(u8),
-    // The record is too short for its byte.
-    Short,
-}
-
-// The generation of a bucket in its record. `read_key` shows the bound.
-pub fn gen_byte(v: Value, b: Bucket) -> GenByte
-    requires { ⌜ v .len ≤ 256 ⌝ }
-    ensures { λ r. ⌜ genByteIs r ≡ genIn (valueIn v) b ⌝ }
-{
-    let i = positions::gens_byte(b);
-    let len = v.len;
-    if len <= i {
-        return GenByte::Short;
-    }
-    let bytes = v.bytes;
-    GenByte::Byte(bytes[i])
-}
 
 // The record with a bucket's generation. Refusal 19 shows that it has the byte.
 pub fn with_gen(v: Value, b: Bucket, generation: u8) -> Value

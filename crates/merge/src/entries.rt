@@ -10,7 +10,14 @@ use wire::fields;
 use wire::fields::NextField;
 use wire::kinds;
 use wire::positions;
-use wire::walk::NextKey;
+
+// What stands next of a section.
+pub enum NextEntry {
+    // A key: its body starts at start and is len bytes long.
+    Found { start: usize, len: usize },
+    // No key of the section is left.
+    Stop,
+}
 
 // The section of the reserved buckets.
 pub const BUCKETS: u8 = 64;
@@ -73,35 +80,35 @@ pub fn type_at(s: &[u8], o: usize, section: u8) -> u8
 }
 
 // The next key of a section from a place on. The place after a key, or 0, shows the bound.
-pub fn next_entry(s: &[u8], from: usize, section: u8) -> NextKey
+pub fn next_entry(s: &[u8], from: usize, section: u8) -> NextEntry
     requires { ⌜ from ≤ length (now s) ⌝ }
     ensures { λ r. ⌜ EntryStepped (now (s .entry)) from section r ⌝ }
 {
     let mut at = from;
     loop {
         let NextField::Found { tag, start, len } = fields::next_field(s, at) else {
-            return NextKey::Stop;
+            return NextEntry::Stop;
         };
         if is_entry(section, tag, len) {
-            return NextKey::Found { start, len };
+            return NextEntry::Found { start, len };
         }
         at = start + len;
     }
 }
 
 // The key of a section at a place of a volume, if one stands there. The place after a key, or a section's first, shows the bound.
-pub fn leading_at(vol: &[u8], at: usize, section: u8) -> NextKey
+pub fn leading_at(vol: &[u8], at: usize, section: u8) -> NextEntry
     requires { ⌜ at ≤ length (now vol) ⌝ }
     ensures { λ r. ⌜ LeadStepped (now (vol .entry)) at section r ⌝ }
 {
     let NextField::Found { tag, start, len } = fields::next_field(vol, at) else {
-        return NextKey::Stop;
+        return NextEntry::Stop;
     };
     if tag != section {
-        return NextKey::Stop;
+        return NextEntry::Stop;
     }
     if !is_entry(section, tag, len) {
-        return NextKey::Stop;
+        return NextEntry::Stop;
     }
-    NextKey::Found { start, len }
+    NextEntry::Found { start, len }
 }

@@ -4,48 +4,32 @@ use mathlib.Core.Bool.{Bool, true, false, cond}
 use mathlib.Core.List.{List, [], _∷_, _++_, map, map-append, append-nil}
 use Prim.Native.Nat.{ℕ, suc, _+_, _-_, _<_}
 use native.Mathlib.Omega.{arith}
-use lib.ListN.{take, drop}
 use borrow.Author.Tests.{ne-eqb, eq-eqb}
-use Rattle.wire.specs.Numbers.{le}
-use Rattle.wire.specs.Keys.{Key, posOf}
-use Rattle.wire.specs.Encode.{encode, keyField, keyStart, keyBody}
-use Rattle.wire.specs.declared.bpos.Bpos.{Bpos}
+use Rattle.wire.specs.Keys.{Key}
+use Rattle.wire.specs.Held.{held, keyIn}
+use Rattle.wire.specs.Encode.{encode, keyField}
+use Rattle.wire.specs.declared.keys.Bkey.{Bkey}
 use Rattle.wire.proofs.EncodeLaws.{encode-append}
+use Rattle.wire.proofs.KeyLaws.{value-in}
 use Rattle.calls.specs.Trees.{deletion}
 use Rattle.calls.specs.Limits.{isRun}
 use Rattle.calls.specs.Freespace.{shortened}
 use Rattle.calls.specs.Place.{walkOf}
 use Rattle.calls.specs.Answers.{readCall, readVolume}
-use Rattle.choose.specs.Parts.{Whole, keyHere, bodyLen}
 use Rattle.choose.specs.Walks.{leftOf, keyQueue, queueOf}
-use Rattle.choose.proofs.PartLaws.{here-at}
 use Rattle.placed.specs.Queue.{Walk}
 
--- a key's position, read at its place
-pub here-pos : {s : List ℕ} {at : ℕ} → Whole s at → posOf (drop (at + 17) s) ≡ keyHere s at .pos
-here-pos {s} {at} w = ap (λ (k : Key). k .pos) (sym (here-at s at w))
-
--- a run with some buckets left
-pub kept : (k : Key) {left : ℕ} → (left ≡ 0 → ⊥)
-    → shortened k left
-    ≡ record { type = k .type; size = left; versionHi = k .versionHi; versionLo = k .versionLo; pos = k .pos; value = k .value }
+-- a run with some buckets left, as the code holds it
+pub kept : (k : Key) {h : Bkey} {left : ℕ} → h ≡ held k → (left ≡ 0 → ⊥)
+    → keyIn (record { «key_type» = h .«key_type»; size = left; «version_hi» = h .«version_hi»; «version_lo» = h .«version_lo»; pos = h .pos; value = h .value })
+    ≡ shortened k left
 unfolding shortened
-kept k {left} h = simp (ne-eqb left 0 h)
+kept k {left = left} e z = simp (ne-eqb left 0 z, e, value-in (k .value))
 
 -- a run with none left
 pub deleted : (k : Key) {left : ℕ} → left ≡ 0 → shortened k left ≡ deletion (k .pos)
 unfolding shortened
 deleted k {left} h = simp (eq-eqb left 0 h)
-
--- the body of a run with some buckets left: its parts as they were read, and its value
-pub kept-body : {s : List ℕ} {at : ℕ} {type hi lo n : ℕ} {p : Bpos} (left : ℕ) → Whole s at → (left ≡ 0 → ⊥)
-    → n ≡ bodyLen s at → type ≡ le 1 (drop at s) → hi ≡ le 4 (drop (at + 5) s) → lo ≡ le 8 (drop (at + 9) s) → p ≡ posOf (drop (at + 17) s)
-    → keyStart (record { type = type; size = left; versionHi = hi; versionLo = lo; pos = p; value = [] }) ++ take (n - 37) (drop (at + 37) s)
-    ≡ keyBody (shortened (keyHere s at) left)
-unfolding keyBody keyStart
-kept-body {s} {at} {n = n} left w z en et eh el ep =
-    let with-left : Key → Key = λ k. record { type = k .type; size = left; versionHi = k .versionHi; versionLo = k .versionLo; pos = k .pos; value = k .value } in
-    rw (kept (keyHere s at) z, en, et, eh, el, ep) (sym (ap (λ (k : Key). keyBody (with-left k)) (here-at s at w)))
 
 -- the fields of the keys passed from one on: what that one queues, and what those after it queue
 abbrev pub queueBytes : List Key → List ℕ

@@ -86,8 +86,18 @@ pub record Stepped (s numbers : List ℕ) (h : Head) (i : ℕ) (o : Cursor) (r :
 pub record Dirty (ps : List calls.Placed) (numbers counts : List ℕ) : Type 0 where
   pub at : (i : ℕ) → i < length numbers → getD counts i 0 ≡ dirtyIn ps (bucketIs (getD numbers i 0))
 
+-- those of some placed pieces
+pub record DirtyKnown (numbers counts : List ℕ) : Type 0 where
+  pub placed : List calls.Placed
+  pub dirty : Dirty placed numbers counts
+
 -- what the alloc keys of the buckets taken hold of a volume: the journal number, the generations and the clock
 pub record AllocsOf (v : Volume) (numbers generations : List ℕ) (journal clock : ℕ) : Type 0 where
   pub number : v .head .journal ≡ journal
   pub gens : generations ≡ map (genOf (v .trees .gens)) (bucketsIn numbers)
   pub time : clockOf (v .trees .alloc) ≡ clock
+
+-- those of some volume
+pub record AllocsKnown (numbers generations : List ℕ) (journal clock : ℕ) : Type 0 where
+  pub volume : Volume
+  pub allocs : AllocsOf volume numbers generations journal clock

@@ -11,7 +11,7 @@ ghost use Rattle.calls.specs.Extents as calls;
 ghost use Rattle.calls.specs.Place.{newAllocKey};
 ghost use Rattle.placed.specs.Pieces.{bucketsIn};
 ghost use Rattle.wire.specs.Output.{Emitted};
-ghost use Rattle.placed.specs.Plan.{Dirty, AllocsOf};
+ghost use Rattle.placed.specs.Plan.{Dirty, DirtyKnown, AllocsOf, AllocsKnown};
 use format::alloc;
 use wire::emit_key;
 use wire::keys::KeyHead;
@@ -41,7 +41,7 @@ pub fn put_alloc(
     emit_key::put_words_key(out, at, 4, head, w, 8)
 }
 
-// The alloc keys of the buckets taken, in order, by their generations and dirty counts.
+// The alloc keys of the buckets taken, in order, by their generations and dirty counts. `put_keys` shows whose they are.
 pub fn put_allocs(
     out: &mut [u8],
     at: usize,
@@ -52,6 +52,7 @@ pub fn put_allocs(
     clock: u64,
 ) -> usize
     requires { ⌜ (length (now taken) ≤ length (now gens)) × (length (now taken) ≤ length (now dirty)) ⌝ }
+    requires { ⌜ AllocsKnown (now taken) (now gens) journal clock × DirtyKnown (now taken) (now dirty) ⌝ }
     ensures { λ r. ⌜ ((v : Volume) (ps : List calls.Placed) → AllocsOf v (now (taken .entry)) (now (gens .entry)) journal clock → Dirty ps (now (taken .entry)) (now (dirty .entry)) → Emitted (now (out .entry)) at (encode (map (keyField 4) (map (newAllocKey v ps) (bucketsIn (now (taken .entry)))))) (now (out .exit)) r) ⌝ }
 {
     let mut p = at;

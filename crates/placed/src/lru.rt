@@ -8,7 +8,7 @@ ghost use Rattle.calls.specs.Lru.{lruKeys};
 ghost use Rattle.calls.specs.Place.{dirtyIn};
 ghost use Rattle.placed.specs.Pieces.{bucketsIn};
 ghost use Rattle.wire.specs.Output.{Emitted};
-ghost use Rattle.placed.specs.Plan.{Dirty};
+ghost use Rattle.placed.specs.Plan.{Dirty, DirtyKnown};
 use format::lru;
 use wire::emit_key;
 use wire::keys::KeyHead;
@@ -34,9 +34,10 @@ pub fn put_lru(out: &mut [u8], at: usize, b: Bucket, dirty: u32, sectors: u64) -
     emit_key::put_bare_key(out, at, 10, head)
 }
 
-// The LRU keys of the buckets taken, in order, by their dirty counts.
+// The LRU keys of the buckets taken, in order, by their dirty counts. `put_keys` shows whose they are.
 pub fn put_lrus(out: &mut [u8], at: usize, taken: &[u64], dirty: &[u32], sectors: u64) -> usize
     requires { ⌜ (length (now taken) ≤ length (now dirty)) × (0 < sectors) ⌝ }
+    requires { ⌜ DirtyKnown (now taken) (now dirty) ⌝ }
     ensures { λ r. ⌜ ((ps : List calls.Placed) → Dirty ps (now (taken .entry)) (now (dirty .entry)) → Emitted (now (out .entry)) at (encode (map (keyField 10) (flatMap (λ b. lruKeys sectors b (dirtyIn ps b)) (bucketsIn (now (taken .entry)))))) (now (out .exit)) r) ⌝ }
 {
     let mut p = at;

@@ -6,15 +6,13 @@ ghost use Rattle.calls.specs.Trees.{deletion};
 ghost use Rattle.calls.specs.Freespace.{shortened};
 ghost use Rattle.calls.specs.Place.{walkOf};
 ghost use Rattle.calls.specs.Answers.{readCall};
-ghost use Rattle.choose.specs.Parts.{Whole, keyHere};
+ghost use Rattle.reader.specs.KeyHere.{Whole, keyHere};
 ghost use Rattle.choose.specs.Walks.{keyQueue};
 ghost use Rattle.placed.specs.Queue.{Walk};
-use choose::located;
-use wire::bpos;
-use wire::emit;
+use choose::runs;
+use reader::key;
 use wire::emit_key;
 use wire::keys::KeyHead;
-use wire::le;
 
 // The deletion of the run whose body starts at a place. The reader shows that a key stands there, here and below.
 pub fn put_deletion(out: &mut [u8], at: usize, s: &[u8], from: usize) -> usize
@@ -26,7 +24,7 @@ pub fn put_deletion(out: &mut [u8], at: usize, s: &[u8], from: usize) -> usize
         size: 0,
         version_hi: 0,
         version_lo: 0,
-        pos: bpos::read_pos(s, from + 17),
+        pos: key::pos_at(s, from),
     };
     emit_key::put_bare_key(out, at, 11, head)
 }
@@ -39,17 +37,9 @@ pub fn put_shortened(out: &mut [u8], at: usize, s: &[u8], from: usize, left: u32
     if left == 0 {
         return put_deletion(out, at, s, from);
     }
-    let n = le::le16(s, from - 2) as usize;
-    let p = emit::put_head(out, at, 11, n);
-    let head = KeyHead {
-        key_type: le::le8(s, from),
-        size: left,
-        version_hi: le::le32(s, from + 5),
-        version_lo: le::le64(s, from + 9),
-        pos: bpos::read_pos(s, from + 17),
-    };
-    let p = emit_key::put_key_start(out, p, head);
-    emit::put_bytes(out, p, s, from + 37, n - 37)
+    let mut k = key::key_at(s, from);
+    k.size = left;
+    emit_key::put_key(out, at, 11, k)
 }
 
 // A key that the walk passed, with so many buckets left; one that is no run is left out.
@@ -57,7 +47,7 @@ pub fn put_passed(out: &mut [u8], at: usize, s: &[u8], from: usize, left: u32) -
     requires { ⌜ Whole (now s) from ⌝ }
     ensures { λ r. ⌜ Emitted (now (out .entry)) at (encode (map (keyField 11) (keyQueue (keyHere (now (s .entry)) from) left))) (now (out .exit)) r ⌝ }
 {
-    if !located::is_run(s, from) {
+    if !runs::is_run(s, from) {
         return at;
     }
     put_shortened(out, at, s, from, left)

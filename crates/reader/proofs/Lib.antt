@@ -1,6 +1,7 @@
 pub mod BoolLaws
 pub mod ChangeLaws
 pub mod HeadLaws
+pub mod KeyHereLaws
 pub mod LayoutLaws
 pub mod LimitLaws
 pub mod ListLaws

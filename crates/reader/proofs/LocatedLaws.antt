@@ -15,6 +15,7 @@ use Rattle.wire.specs.declared.kinds.Bucket.{Bucket}
 use Rattle.calls.specs.CallList.{Piece, Freed, bodies, pieceOf, freedOf}
 use Rattle.reader.specs.Table.{FieldHere, Tabled}
 use Rattle.reader.specs.Readings.{listRefusal}
+use Rattle.reader.specs.KeyHere.{keyHere}
 use Rattle.reader.specs.Located.{KeyAt, noKey, KeysAt, BucketAt, BucketsAt, PieceAt, noPiece, PiecesAt, FreedAt, noFreed, FreedsAt}
 use Rattle.reader.proofs.OfferedLaws.{body-listed, here-length, key-ready, reserved-size, piece-size, freed-size}
 
@@ -50,6 +51,7 @@ module _ (call : ℕ) (any : Bool) (s : List ℕ) (h : 0 ≡ listRefusal call an
   -- the keys of a tree
   pub keys-located : (t : ℕ) → 1 < t → t ≤ 14 → base + length (bodies t (fields s)) ≤ length index → Tabled s index base (bodies t (fields s))
       → KeysAt s (take (length (bodies t (fields s))) (drop base index)) (map keyOf (bodies t (fields s)))
+  unfolding keyHere
   keys-located t l m fits tab =
       let bs = bodies t (fields s) in
       record {
@@ -59,12 +61,7 @@ module _ (call : ℕ) (any : Bool) (s : List ℕ) (h : 0 ≡ listRefusal call an
             let f = tab i k in
             let r = key-ready m f (body-listed call any s h t i l k) in
             rw (part-at index base (length bs) fits i k) (record {
-              size = _;
-              after = f .after;
-              long = r .long;
-              short = r .short;
-              within = r .within;
-              sized = refl;
+              whole = record { after = f .after; long = r .long; short = r .short; within = r .within };
               is = read-at keyOf noKey no-key bs i _ (f .here);
             });
       }

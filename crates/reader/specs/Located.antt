@@ -1,23 +1,18 @@
 -- Where fields stand: offsets that find, one for one, the keys of a tree, the reserved buckets and the requests.
-use Prim.Native.Nat.{ℕ, _+_, _-_, _≤_, _<_}
+use Prim.Native.Nat.{ℕ, _+_, _≤_, _<_}
 use mathlib.Core.Path.{_≡_}
 use mathlib.Core.List.{List, [], _∷_}
 use lib.ListN.{length, take, drop, getD}
-use Rattle.wire.specs.Numbers.{le}
-use Rattle.wire.specs.Keys.{Key, keyOf}
+use Rattle.wire.specs.Keys.{Key}
 use Rattle.wire.specs.Kinds.{bucketRead, noBucket, noSector}
 use Rattle.wire.specs.declared.kinds.Bucket.{Bucket}
 use Rattle.calls.specs.CallList.{Piece, Freed, pieceOf, freedOf}
+use Rattle.reader.specs.KeyHere.{keyHere, Whole}
 
--- a key's body of `size` bytes starts at a place, with its length two bytes before it
+-- a key stands at a place
 pub record KeyAt (s : List ℕ) (at : ℕ) (k : Key) : Type 0 where
-  pub size : ℕ
-  pub after : 3 ≤ at
-  pub long : 37 ≤ size
-  pub short : size ≤ 293
-  pub within : at + size ≤ length s
-  pub sized : le 2 (drop (at - 2) s) ≡ size
-  pub is : keyOf (take size (drop at s)) ≡ k
+  pub whole : Whole s at
+  pub is : keyHere s at ≡ k
 
 -- a place that no key has
 abbrev pub noKey : Key

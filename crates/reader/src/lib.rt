@@ -2,6 +2,7 @@
 pub mod call;
 pub mod change;
 pub mod head;
+pub mod key;
 pub mod keys;
 pub mod limits;
 pub mod order;

@@ -34,7 +34,7 @@ use Rattle.freed.specs.Summing.{Sums, sumOf, summedBuckets, Listed}
 use Rattle.freed.proofs.FoundLaws.{freed-up, found-freed}
 use Rattle.shares.specs.Counting.{keptOf, lostOf}
 use Rattle.shares.specs.FieldBytes.{keysBytes, rowsBytes, rootsBytes}
-use Rattle.shares.specs.Located.{bucketsIn}
+use Rattle.shares.specs.Buckets.{bucketsIn}
 use Rattle.shares.specs.Tables.{Passed, PassedIn}
 use Rattle.release.specs.Outcomes.{Drafted}
 

@@ -2,7 +2,7 @@
 use mathlib.Core.Path.{_≡_, refl, sym, ap, _∙_, subst}
 use mathlib.Core.Bool.{Bool, true}
 use mathlib.Core.List.{List, [], _∷_, _++_, map}
-use Prim.Native.Nat.{ℕ, zero, suc, _+_, _-_, _≤_, _<_}
+use Prim.Native.Nat.{ℕ, suc, _-_, _≤_, _<_}
 use native.Mathlib.Omega.{arith}
 use lib.ListN.{length, getD, take, drop, replicate, length-append, length-take, length-drop, length-replicate, List·getD-append}
 use lib.Seq.{drop-at}
@@ -23,27 +23,21 @@ use Rattle.calls.proofs.AnswerLaws.{release-is}
 use Rattle.calls.proofs.BoolLaws.{parts}
 use Rattle.calls.proofs.OutcomeLaws.{answer-next, answer-stops, refused}
 use Rattle.calls.proofs.SixTrees.{EachTree, trees-each}
+use Rattle.reader.specs.KeyHere.{keysHere}
 use Rattle.reader.specs.Heads.{headIn}
-use Rattle.reader.specs.Located.{KeyAt, noKey, KeysAt, FreedAt, noFreed, FreedsAt}
+use Rattle.reader.specs.Located.{KeysAt, FreedAt, noFreed, FreedsAt}
 use Rattle.reader.specs.Readings.{callRefusal, ListRead}
 use Rattle.reader.specs.declared.head.Head.{Head}
 use Rattle.reader.specs.declared.table.Ends.{Ends}
+use Rattle.reader.proofs.KeyHereLaws.{keys-here}
 use Rattle.reader.proofs.PartsLaws.{passed, read-on, read-refused, between, Part, alloc-part, gens-part, freeds-part}
 use Rattle.freed.specs.Freeds.{freedsIn, Requested}
 use Rattle.freed.specs.Summing.{Cleared}
-use Rattle.shares.specs.Located.{keyFound, keysIn, Keyed}
-use Rattle.shares.proofs.LocatedLaws.{key-is}
+use Rattle.shares.specs.Places.{Keyed}
 use Rattle.release.specs.Outcomes.{volumeOf}
 use Rattle.release.proofs.TopLaws.{zeros-at}
 
 -- ---- what offsets find
-keys-map : (s os : List ℕ) (ks : List Key) → length os ≡ length ks → ((i : ℕ) → i < length os → KeyAt s (getD os i 0) (getD ks i noKey)) → map (keyFound s) os ≡ ks
-keys-map s [] [] e h = refl
-keys-map s [] (k ∷ ks) e h = absurd (omega arith)
-keys-map s (o ∷ os) [] e h = absurd (omega arith)
-keys-map s (o ∷ os) (k ∷ ks) e h =
-    λ x. sym (key-is (h 0 (omega arith))) x ∷ keys-map s os ks (omega arith) (λ i l. h (suc i) (omega arith)) x
-
 freeds-map : (s os : List ℕ) (rs : List Freed) → length os ≡ length rs → ((i : ℕ) → i < length os → FreedAt s (getD os i 0) (getD rs i noFreed))
     → map (λ at. freedOf (take 10 (drop at s))) os ≡ rs
 freeds-map s [] [] e h = refl
@@ -52,16 +46,9 @@ freeds-map s (o ∷ os) [] e h = absurd (omega arith)
 freeds-map s (o ∷ os) (r ∷ rs) e h = λ x. h 0 (omega arith) .is x ∷ freeds-map s os rs (omega arith) (λ i l. h (suc i) (omega arith)) x
 
 module _ {s os : List ℕ} {ks : List Key} (q : KeysAt s os ks) where
-  keys-found : keysIn s os ≡ ks
-  unfolding keysIn
-  keys-found = keys-map s os ks (q .count) (q .at)
-
-  keyed : Keyed s os
-  keyed = subst (λ (l : List Key). KeysAt s os l) (sym keys-found) q
-
   -- keys that ascend
-  pub keyed-ok : keysOk ks ≡ true → Keyed s os × (keysOk (keysIn s os) ≡ true)
-  keyed-ok h = (keyed, ap keysOk keys-found ∙ h)
+  pub keyed-ok : keysOk ks ≡ true → Keyed s os × (keysOk (keysHere s os) ≡ true)
+  keyed-ok h = (subst (λ (l : List Key). KeysAt s os l) (keys-here q) q, ap keysOk (sym (keys-here q)) ∙ h)
 
 module _ {s os : List ℕ} {rs : List Freed} (q : FreedsAt s os rs) where
   freeds-found : freedsIn s os ≡ rs
@@ -111,13 +98,13 @@ module _ (s : List ℕ) (n room : ℕ) where
   -- the answer of the parts
   parts-answer : {h : Head} {alloc gens requests : List ℕ} → 65536 ≤ n → 0 ≡ callRefusal 2 s → headIn h ≡ readVolume s .head → KeysAt s alloc (readVolume s .trees .alloc)
       → KeysAt s gens (readVolume s .trees .gens) → FreedsAt s requests (readCall s .releases)
-      → answerOf (headIn h) (keysIn s alloc) (keysIn s gens) (freedsIn s requests) room ≡ release s n room
+      → answerOf (headIn h) (keysHere s alloc) (keysHere s gens) (freedsIn s requests) room ≡ release s n room
   parts-answer {h} {alloc} {gens} {requests} l z e a g f =
       let v = readVolume s in
       let rs = readCall s .releases in
-      ap (λ x. answerOf x (keysIn s alloc) (keysIn s gens) (freedsIn s requests) room) e
-      ∙ ap (λ x. answerOf (v .head) x (keysIn s gens) (freedsIn s requests) room) (keys-found a)
-      ∙ ap (λ x. answerOf (v .head) (v .trees .alloc) x (freedsIn s requests) room) (keys-found g)
+      ap (λ x. answerOf x (keysHere s alloc) (keysHere s gens) (freedsIn s requests) room) e
+      ∙ ap (λ x. answerOf (v .head) x (keysHere s gens) (freedsIn s requests) room) (sym (keys-here a))
+      ∙ ap (λ x. answerOf (v .head) (v .trees .alloc) x (freedsIn s requests) room) (sym (keys-here g))
       ∙ ap (λ x. answerOf (v .head) (v .trees .alloc) (v .trees .gens) x room) (freeds-found f)
       ∙ ap (λ x. answer x (changeBytes (releaseBatch (volumeOf (v .head) (v .trees .alloc) (v .trees .gens)) rs ∷ [])) room) (same-tests v rs)
       ∙ ap (λ x. answer later (changeBytes (x ∷ [])) room) (same-batch v rs)
@@ -193,7 +180,7 @@ module _ {s index : List ℕ} {h : Head} {e : Ends} (q : ListRead 2 s index h e)
   requests-at = freeds-part s index h e z q .1
 
   -- what `release_lists` requires
-  pub parts-keyed : Keyed s allocs × (keysOk (keysIn s allocs) ≡ true) × Keyed s records × (keysOk (keysIn s records) ≡ true)
+  pub parts-keyed : Keyed s allocs × (keysOk (keysHere s allocs) ≡ true) × Keyed s records × (keysOk (keysHere s records) ≡ true)
   parts-keyed =
       let ok = trees-ok s z in
       let a = keyed-ok allocs-at (ok .alloc) in
@@ -208,7 +195,7 @@ module _ {s index : List ℕ} {h : Head} {e : Ends} (q : ListRead 2 s index h e)
 
   -- its outcome is the call's
   pub parts-outcome : (n : ℕ) → 65536 ≤ n → (out : List ℕ) {after : List ℕ} {written number : ℕ}
-      → made number written after ≡ outcome (answerOf (headIn h) (keysIn s allocs) (keysIn s records) (freedsIn s requests) (length out)) out
+      → made number written after ≡ outcome (answerOf (headIn h) (keysHere s allocs) (keysHere s records) (freedsIn s requests) (length out)) out
       → made number written after ≡ outcome (release s n (length out)) out
   parts-outcome n l out p = p ∙ ap (λ (a : Answer). outcome a out) (parts-answer s n (length out) {h = h} l z (q .head) allocs-at records-at requests-at)
 

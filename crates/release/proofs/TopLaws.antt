@@ -22,7 +22,7 @@ use Rattle.calls.proofs.View.{bucket}
 use Rattle.freed.specs.Freeds.{freedsIn, Requested}
 use Rattle.freed.specs.Summing.{Cleared, Listed}
 use Rattle.freed.proofs.FoundLaws.{freed-up}
-use Rattle.shares.specs.Located.{bucketsIn}
+use Rattle.shares.specs.Buckets.{bucketsIn}
 use Rattle.shares.specs.Tables.{PlacesOf, Tabled, Passed}
 use Rattle.shares.proofs.QueueLaws.{age-at}
 use Rattle.release.specs.Outcomes.{Summed, Laid, Drafted, bucketTests}

@@ -10,7 +10,7 @@ use Rattle.calls.specs.Lists.{allOf, those}
 use Rattle.calls.specs.Refusals.{verdict}
 use Rattle.calls.specs.Release.{freedOk, freedBuckets, freedIn, isEmptied, bucketRefusal, emptiedGen}
 use Rattle.freed.specs.Freeds.{freedsIn, Requested}
-use Rattle.shares.specs.Located.{bucketsIn}
+use Rattle.shares.specs.Buckets.{bucketsIn}
 use Rattle.shares.specs.Tables.{RecordsOf, Tabled}
 
 -- what a release reads of a volume: its head, its alloc keys and its generation records

@@ -11,10 +11,11 @@ ghost use Rattle.calls.specs.CallList.{keysOk};
 ghost use Rattle.calls.specs.ChangeList.{batchFields, changeBytes};
 ghost use Rattle.calls.specs.Lists.{allOf};
 ghost use Rattle.calls.specs.Release.{freedOk, freedBuckets, freedIn, releaseTests, releaseBatch};
+ghost use Rattle.reader.specs.KeyHere.{keysHere};
 ghost use Rattle.reader.specs.Heads.{headIn};
 ghost use Rattle.freed.specs.Freeds.{freedsIn, Requested};
 ghost use Rattle.freed.specs.Summing.{Cleared, Listed};
-ghost use Rattle.shares.specs.Located.{keysIn, Keyed};
+ghost use Rattle.shares.specs.Places.{Keyed};
 ghost use Rattle.release.specs.Outcomes.{volumeOf, Summed, Laid, Drafted, bucketTests};
 use freed::requests;
 use freed::sums;
@@ -178,9 +179,9 @@ fn release_buckets(
     out: &mut [u8],
     written: &mut usize,
 ) -> u32
-    requires { ⌜ Keyed (now s) (now alloc) × (keysOk (keysIn (now s) (now alloc)) ≡ true) × Keyed (now s) (now gens) × (keysOk (keysIn (now s) (now gens)) ≡ true) ⌝ }
+    requires { ⌜ Keyed (now s) (now alloc) × (keysOk (keysHere (now s) (now alloc)) ≡ true) × Keyed (now s) (now gens) × (keysOk (keysHere (now s) (now gens)) ≡ true) ⌝ }
     requires { ⌜ Summed (now s) (headIn head .bucketSectors) (now requests) (now buckets) (now amounts) × (now written ≡ 0) ⌝ }
-    ensures { λ r. ⌜ made r (now (written .exit)) (now (out .exit)) ≡ outcome (answer (bucketTests (volumeOf (headIn head) (keysIn (now (s .entry)) (now (alloc .entry))) (keysIn (now (s .entry)) (now (gens .entry)))) (freedsIn (now (s .entry)) (now (requests .entry)))) (changeBytes (releaseBatch (volumeOf (headIn head) (keysIn (now (s .entry)) (now (alloc .entry))) (keysIn (now (s .entry)) (now (gens .entry)))) (freedsIn (now (s .entry)) (now (requests .entry))) ∷ [])) (length (now (out .entry)))) (now (out .entry)) ⌝ }
+    ensures { λ r. ⌜ made r (now (written .exit)) (now (out .exit)) ≡ outcome (answer (bucketTests (volumeOf (headIn head) (keysHere (now (s .entry)) (now (alloc .entry))) (keysHere (now (s .entry)) (now (gens .entry)))) (freedsIn (now (s .entry)) (now (requests .entry)))) (changeBytes (releaseBatch (volumeOf (headIn head) (keysHere (now (s .entry)) (now (alloc .entry))) (keysHere (now (s .entry)) (now (gens .entry)))) (freedsIn (now (s .entry)) (now (requests .entry))) ∷ [])) (length (now (out .entry)))) (now (out .entry)) ⌝ }
 {
     let n = buckets.len();
     let mut places = [0u32; 1024];
@@ -229,9 +230,9 @@ pub fn release_lists(
     out: &mut [u8],
     written: &mut usize,
 ) -> u32
-    requires { ⌜ Keyed (now s) (now alloc) × (keysOk (keysIn (now s) (now alloc)) ≡ true) × Keyed (now s) (now gens) × (keysOk (keysIn (now s) (now gens)) ≡ true) ⌝ }
+    requires { ⌜ Keyed (now s) (now alloc) × (keysOk (keysHere (now s) (now alloc)) ≡ true) × Keyed (now s) (now gens) × (keysOk (keysHere (now s) (now gens)) ≡ true) ⌝ }
     requires { ⌜ Requested (now s) (now requests) × (length (now requests) ≤ 1024) × Cleared (now scratch) × (now written ≡ 0) ⌝ }
-    ensures { λ r. ⌜ (made r (now (written .exit)) (now (out .exit)) ≡ outcome (answer (releaseTests (volumeOf (headIn head) (keysIn (now (s .entry)) (now (alloc .entry))) (keysIn (now (s .entry)) (now (gens .entry)))) (freedsIn (now (s .entry)) (now (requests .entry)))) (changeBytes (releaseBatch (volumeOf (headIn head) (keysIn (now (s .entry)) (now (alloc .entry))) (keysIn (now (s .entry)) (now (gens .entry)))) (freedsIn (now (s .entry)) (now (requests .entry))) ∷ [])) (length (now (out .entry)))) (now (out .entry))) × (now (scratch .exit) ≡ replicate 65536 0 ++ drop 65536 (now (scratch .entry))) ⌝ }
+    ensures { λ r. ⌜ (made r (now (written .exit)) (now (out .exit)) ≡ outcome (answer (releaseTests (volumeOf (headIn head) (keysHere (now (s .entry)) (now (alloc .entry))) (keysHere (now (s .entry)) (now (gens .entry)))) (freedsIn (now (s .entry)) (now (requests .entry)))) (changeBytes (releaseBatch (volumeOf (headIn head) (keysHere (now (s .entry)) (now (alloc .entry))) (keysHere (now (s .entry)) (now (gens .entry)))) (freedsIn (now (s .entry)) (now (requests .entry))) ∷ [])) (length (now (out .entry)))) (now (out .entry))) × (now (scratch .exit) ≡ replicate 65536 0 ++ drop 65536 (now (scratch .entry))) ⌝ }
 {
     let sectors = head.bucket_sectors as u64;
     if sectors == 0 {

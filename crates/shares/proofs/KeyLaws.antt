@@ -3,10 +3,10 @@ use mathlib.Core.Path.{_≡_, sym, ap, _∙_}
 use mathlib.Core.Bool.{Bool, true, false, cond}
 use mathlib.Core.List.{List, [], _∷_, _++_, append-nil}
 use mathlib.Core.Option.{some}
-use Prim.Native.Nat.{ℕ, _+_, _-_, _*_, _/_, _^_, _≤_, _<_}
+use Prim.Native.Nat.{ℕ, _-_, _*_, _/_, _^_, _≤_, _<_}
 use native.Mathlib.Nat.{div-lt-iff-lt-mul}
 use native.Mathlib.Omega.{arith}
-use lib.ListN.{length, drop}
+use lib.ListN.{drop}
 use lib.Dec.{ltb, eqb}
 use borrow.Author.Tests.{lt-ltb, le-ltb, eq-eqb, ne-eqb}
 use Rattle.wire.specs.Keys.{Key}
@@ -23,20 +23,16 @@ use Rattle.calls.specs.Lru.{lruKeys, lruDeletions, needDiscardKey}
 use Rattle.calls.specs.Release.{isEmptied, releasedKey, releasedLru, emptiedGen}
 use Rattle.calls.specs.Trees.{lookup, newKey, withValue}
 use Rattle.calls.proofs.View.{bucket}
+use Rattle.reader.specs.KeyHere.{valueAt, keyHere}
 use Rattle.freed.proofs.FreedLaws.{Within}
 use Rattle.shares.specs.FieldBytes.{keysBytes}
-use Rattle.shares.specs.Located.{keyFound, KeyThere}
 use Rattle.shares.specs.Shares.{shareOf}
 use Rattle.shares.specs.declared.shares.Share.{Share}
 use Rattle.shares.specs.Tables.{ShareAt}
 use Rattle.shares.proofs.FieldBytesLaws.{keys-append, keys-one, keys-none}
-use Rattle.shares.proofs.LocatedLaws.{place-some, value-there, member-there}
+use Rattle.shares.proofs.PlaceLaws.{place-some, member-there}
 use Rattle.shares.proofs.RefusalLaws.{value-is}
 use Rattle.shares.proofs.ShareLaws.{Ready}
-
--- the length of its value
-pub held-short : {s : List ℕ} {at : ℕ} → KeyThere s at → length (keyFound s at .value) ≤ 256
-held-short h = omega (arith, value-there h, h .sized, h .short)
 
 -- a bucket whose share is x is emptied where all of it is freed
 pub emptied-is : (v : Volume) (rs : List Freed) (b : Bucket) (x : Share) → x ≡ shareOf v rs b → isEmptied v rs b ≡ eqb (x .freed) (x .old)
@@ -44,30 +40,30 @@ unfolding isEmptied shareOf
 emptied-is v rs b x e = ap (λ (y : Share). eqb (y .freed) (y .old)) (sym e)
 
 module _ {s : List ℕ} {v : Volume} {rs : List Freed} {b amount place sectors : ℕ} (a : ShareAt s v rs b amount place) (r : Ready s sectors b amount place) where
-  its-key : lookup (allocAt (bucket b)) (v .trees .alloc) ≡ some (keyFound s place)
+  its-key : lookup (allocAt (bucket b)) (v .trees .alloc) ≡ some (keyHere s place)
   its-key = place-some (a .key) (omega (arith, r .there .after)) .0
 
   -- its alloc key
   pub released-is : (x : Share) → x ≡ shareOf v rs (bucket b)
-      → releasedKey v rs (bucket b) ≡ withValue (keyFound s place) (cond (eqb (x .freed) (x .old)) (emptied (v .head .journal) (keyFound s place .value)) (withDirty (x .old - x .freed) (keyFound s place .value)))
+      → releasedKey v rs (bucket b) ≡ withValue (keyHere s place) (cond (eqb (x .freed) (x .old)) (emptied (v .head .journal) (keyHere s place .value)) (withDirty (x .old - x .freed) (keyHere s place .value)))
   unfolding releasedKey shareOf isEmptied
-  released-is x e = rw (its-key, value-is v rs (bucket b) (keyFound s place) its-key, ap (λ (y : Share). y .freed) e, ap (λ (y : Share). y .old) e)
+  released-is x e = rw (its-key, value-is v rs (bucket b) (keyHere s place) its-key, ap (λ (y : Share). y .freed) e, ap (λ (y : Share). y .old) e)
 
   -- the key that the code makes
   pub released-key : {journal : ℕ} {k : Key} → v .head .journal ≡ journal → (x : Share) → x ≡ shareOf v rs (bucket b)
-      → k ≡ withValue (keyFound s place) (cond (eqb (x .freed) (x .old)) (emptied journal (keyFound s place .value)) (withDirty (x .old - x .freed) (keyFound s place .value)))
+      → k ≡ withValue (keyHere s place) (cond (eqb (x .freed) (x .old)) (emptied journal (keyHere s place .value)) (withDirty (x .old - x .freed) (keyHere s place .value)))
       → k ≡ releasedKey v rs (bucket b)
   released-key e x i f =
       f
-      ∙ ap (λ (j : ℕ). withValue (keyFound s place) (cond (eqb (x .freed) (x .old)) (emptied j (keyFound s place .value)) (withDirty (x .old - x .freed) (keyFound s place .value)))) (sym e)
+      ∙ ap (λ (j : ℕ). withValue (keyHere s place) (cond (eqb (x .freed) (x .old)) (emptied j (keyHere s place .value)) (withDirty (x .old - x .freed) (keyHere s place .value)))) (sym e)
       ∙ sym (released-is x i)
 
   -- its generation
-  pub age-is : (n : ℕ) → n ≡ get gen (drop (place + 37) s) → nextGen n ≡ emptiedGen (v .trees) (bucket b)
+  pub age-is : (n p : ℕ) → p ≡ valueAt place → n ≡ get gen (drop p s) → nextGen n ≡ emptiedGen (v .trees) (bucket b)
   unfolding emptiedGen
-  age-is n e =
-      rw (value-is v rs (bucket b) (keyFound s place) its-key)
-      (ap nextGen (e ∙ member-there (r .there) gen (omega (arith, r .long))))
+  age-is n p f e =
+      rw (value-is v rs (bucket b) (keyHere s place) its-key)
+      (ap nextGen (e ∙ member-there (r .there) gen (omega (arith, r .long)) p f))
 
 -- its LRU keys
 pub lru-is : (v : Volume) (rs : List Freed) (b : Bucket) (x : Share) → x ≡ shareOf v rs b → (sectors : ℕ) → v .head .bucketSectors ≡ sectors

@@ -1,5 +1,5 @@
-pub mod LocatedLaws
 pub mod PlaceLaws
+pub mod AllocLaws
 pub mod RecordLaws
 pub mod RefusalLaws
 pub mod ShareLaws

@@ -29,14 +29,16 @@ use Rattle.calls.specs.Trees.{lookup, newKey}
 use Rattle.calls.proofs.TreeLaws.{onEq-ne}
 use Rattle.calls.proofs.GensLaws.{key-is}
 use Rattle.calls.proofs.View.{bucket}
+use Rattle.reader.specs.KeyHere.{keyHere}
 use Rattle.shares.specs.FieldBytes.{keysBytes}
-use Rattle.shares.specs.Located.{keyFound, PlaceOf, bucketsIn}
+use Rattle.shares.specs.Places.{PlaceOf}
+use Rattle.shares.specs.Buckets.{bucketsIn}
 use Rattle.shares.specs.Queueing.{continued, Next}
 use Rattle.shares.specs.declared.queued.Queued.{Queued}
 use Rattle.shares.specs.Tables.{RecordsOf}
 use Rattle.shares.proofs.FieldBytesLaws.{keys-append, keys-one, keys-none}
-use Rattle.shares.proofs.LocatedLaws.{place-some, place-none}
-use Rattle.shares.proofs.PlaceLaws.{order-at}
+use Rattle.shares.proofs.PlaceLaws.{place-some, place-none}
+use Rattle.shares.proofs.AllocLaws.{order-at}
 use Rattle.shares.proofs.ShareLaws.{buckets-next, buckets-none}
 
 -- ---- a bucket's record in the tree
@@ -49,7 +51,7 @@ module _ {s records : List ℕ} {gens : List Key} (r : RecordsOf s records gens)
   unfolding genKey
   key-new e = rw (place-none its e)
 
-  pub key-old : 0 < getD records (gensAt b .offset) 0 → genKey gens b ≡ keyFound s (getD records (gensAt b .offset) 0)
+  pub key-old : 0 < getD records (gensAt b .offset) 0 → genKey gens b ≡ keyHere s (getD records (gensAt b .offset) 0)
   unfolding genKey
   key-old e = rw (place-some its e .0)
 

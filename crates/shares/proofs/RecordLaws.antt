@@ -21,7 +21,7 @@ use Rattle.calls.proofs.BoolLaws.{parts}
 use Rattle.calls.proofs.TreeLaws.{onEq-ne}
 use Rattle.reader.specs.Located.{KeyAt}
 use Rattle.freed.proofs.FreedLaws.{all-drop, all-first}
-use Rattle.shares.specs.Located.{PlaceOf, missing, found}
+use Rattle.shares.specs.Places.{PlaceOf, missing, found}
 use Rattle.shares.specs.Tables.{RecordsOf}
 
 -- the position of a record

@@ -3,12 +3,11 @@ use mathlib.Core.Path.{_≡_, sym, ap, _∙_}
 use mathlib.Core.Bool.{Bool, true, false, not, _&&_}
 use mathlib.Core.List.{List, [], _∷_, map}
 use mathlib.Core.Option.{none, some}
-use Prim.Native.Nat.{ℕ, _-_, _/_, _≤_, _<_}
+use Prim.Native.Nat.{ℕ, _/_, _≤_, _<_}
 use native.Mathlib.Omega.{arith}
-use lib.ListN.{length, getD, drop}
+use lib.ListN.{length, getD}
 use lib.Dec.{leb, eqb}
 use borrow.Author.Tests.{le-leb, lt-leb, eq-eqb, ne-eqb}
-use Rattle.wire.specs.Numbers.{le}
 use Rattle.wire.specs.Keys.{Key}
 use Rattle.wire.specs.Positions.{allocAt, gensAt, gensByte}
 use Rattle.wire.specs.declared.kinds.Bucket.{Bucket}
@@ -19,9 +18,10 @@ use Rattle.calls.specs.Generations.{genRecord, genShort}
 use Rattle.calls.specs.Refusals.{test, verdict}
 use Rattle.calls.specs.Release.{freedIn, allocValue, dirtyAt, isEmptied, bucketRefusal}
 use Rattle.calls.specs.Trees.{lookup}
-use Rattle.shares.specs.Located.{keyFound, KeyThere, PlaceOf}
+use Rattle.reader.specs.KeyHere.{keyHere, Whole}
+use Rattle.shares.specs.Places.{PlaceOf}
 use Rattle.shares.specs.Tables.{RecordsOf, Recorded, ShareAt}
-use Rattle.shares.proofs.LocatedLaws.{place-some, place-none, value-there}
+use Rattle.shares.proofs.PlaceLaws.{place-some, place-none}
 
 -- ---- a bucket's generation record
 record-place : (b : Bucket) → b .0 < 65536 → b .0 / 256 < 256
@@ -37,12 +37,12 @@ module _ {s records : List ℕ} {gens : List Key} (r : RecordsOf s records gens)
   short-none e = rw (place-none its e)
 
   pub short-some : 0 < getD records (gensAt b .offset) 0
-      → genShort gens b ≡ leb (le 2 (drop (getD records (gensAt b .offset) 0 - 2) s) - 37) (gensByte b)
+      → genShort gens b ≡ leb (length (keyHere s (getD records (gensAt b .offset) 0) .value)) (gensByte b)
   unfolding genShort
-  short-some e = let p = place-some its e in rw (p .0, value-there (p .1))
+  short-some e = rw (place-some its e .0)
 
 pub record-there : {s records : List ℕ} → Recorded s records → (b : Bucket) → b .0 < 65536 → 0 < getD records (gensAt b .offset) 0
-    → KeyThere s (getD records (gensAt b .offset) 0)
+    → Whole s (getD records (gensAt b .offset) 0)
 record-there r b h e = place-some (r .are .at (b .0 / 256) (record-place b h)) e .1
 
 -- ---- 15 to 19 at a bucket
@@ -101,16 +101,16 @@ module _ {s : List ℕ} {v : Volume} {rs : List Freed} {b : Bucket} {amount plac
 
   module _ (sectors : ℕ) (h : 0 < place) (e : v .head .bucketSectors ≡ sectors) where
     abbrev bytes : ℕ
-    bytes = le 2 (drop (place - 2) s) - 37
+    bytes = length (keyHere s place .value)
 
     abbrev dirty : ℕ
-    dirty = get dirtySectors (keyFound s place .value)
+    dirty = get dirtySectors (keyHere s place .value)
 
     abbrev short : Bool
     short = genShort (v .trees .gens) b
 
     number : bucketRefusal v rs b ≡ numbered bytes dirty sectors amount short
-    number = let p = place-some (a .key) h in refuses v rs b (keyFound s place) (p .0) ∙ rw (value-there (p .1), ← a .freed, e)
+    number = refuses v rs b (keyHere s place) (place-some (a .key) h .0) ∙ rw (← a .freed, e)
 
     pub table-16 : bytes < 56 → bucketRefusal v rs b ≡ 16
     table-16 l = number ∙ number-16 bytes dirty sectors amount short l

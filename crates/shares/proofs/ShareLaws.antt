@@ -1,11 +1,9 @@
 -- The freed buckets that no refusal stops. Assumes nothing.
-use mathlib.Core.Path.{_≡_, sym, ap, _∙_, subst}
+use mathlib.Core.Path.{_≡_, sym, ap, _∙_}
 use mathlib.Core.List.{List, [], _∷_, map}
-use mathlib.Core.Option.{Option, some, Option·none-ne-some, Option·some-injective}
-use Prim.Native.Nat.{ℕ, zero, suc, _+_, _-_, _≤_, _<_}
+use Prim.Native.Nat.{ℕ, zero, suc, _+_, _≤_, _<_}
 use native.Mathlib.Omega.{arith}
 use lib.ListN.{length, getD, drop, length-map, drop-of-length-le, List·getD-map}
-use Rattle.wire.specs.Numbers.{le}
 use Rattle.wire.specs.Keys.{Key}
 use Rattle.wire.specs.Kinds.{noBucket}
 use Rattle.wire.specs.declared.kinds.Bucket.{Bucket}
@@ -18,12 +16,12 @@ use Rattle.calls.specs.Release.{freedBuckets, bucketRefusal}
 use Rattle.calls.proofs.RefusalLaws.{verdict-ok}
 use Rattle.calls.proofs.ReleaseLaws.{Held, held-of}
 use Rattle.calls.proofs.View.{bucket}
-use Rattle.reader.specs.Located.{KeyAt}
-use Rattle.shares.specs.Located.{keyFound, KeyThere, PlaceOf, found, missing, bucketsIn}
+use Rattle.reader.specs.KeyHere.{keyHere, Whole}
+use Rattle.shares.specs.Buckets.{bucketsIn}
 use Rattle.shares.specs.Shares.{shareOf}
 use Rattle.shares.specs.declared.shares.Share.{Share}
 use Rattle.shares.specs.Tables.{ShareAt, Tabled, Passed}
-use Rattle.shares.proofs.LocatedLaws.{key-is, key-there, place-some, value-there}
+use Rattle.shares.proofs.PlaceLaws.{place-some, place-found}
 use Rattle.shares.proofs.RefusalLaws.{dirty-is}
 
 -- the bucket at an index
@@ -57,15 +55,11 @@ verdict-first f {b = b} {rest = rest} e h = verdict-ok (f b) (map f rest) (sym (
 
 -- what stands at a place that the refusals passed
 pub record Ready (s : List ℕ) (sectors b amount place : ℕ) : Type 0 where
-  pub there : KeyThere s place
-  pub long : 93 ≤ le 2 (drop (place - 2) s)
-  pub small : get dirtySectors (keyFound s place .value) ≤ sectors
-  pub held : amount ≤ get dirtySectors (keyFound s place .value)
+  pub there : Whole s place
+  pub long : 56 ≤ length (keyHere s place .value)
+  pub small : get dirtySectors (keyHere s place .value) ≤ sectors
+  pub held : amount ≤ get dirtySectors (keyHere s place .value)
   pub low : b < 65536
-
-place-found : {s : List ℕ} {at : ℕ} {o : Option Key} {k : Key} → PlaceOf s at o → o ≡ some k → KeyAt s at k
-place-found {k = k} missing e = absurd (Option·none-ne-some k e)
-place-found {s} {at} {k = k} (found {k = j} a) e = subst (λ (x : Key). KeyAt s at x) (Option·some-injective j k e) a
 
 module _ {s buckets amounts places : List ℕ} (p : Passed s buckets amounts places) (k : ℕ) (h : k < length buckets) where
   pub held-at : Held (p .volume) (p .requests) (bucket (getD buckets k 0))
@@ -79,11 +73,10 @@ module _ {s buckets amounts places : List ℕ} (p : Passed s buckets amounts pla
       let t = p .tabled .at k h in
       let d = held-at in
       let a = place-found (t .key) (d .found) in
-      let e = key-is a in
-      let w = key-there a in
+      let e = a .is in
       record {
-        there = w;
-        long = omega (arith, d .long, ap (λ (x : Key). length (x .value)) e, value-there w);
+        there = a .whole;
+        long = omega (arith, d .long, ap (λ (x : Key). length (x .value)) e);
         small = omega (arith, d .small, ap (λ (x : Key). get dirtySectors (x .value)) e);
         held = omega (arith, d .held, t .freed, ap (λ (x : Key). get dirtySectors (x .value)) e);
         low = t .low;
@@ -91,7 +84,7 @@ module _ {s buckets amounts places : List ℕ} (p : Passed s buckets amounts pla
 
 -- a share that any tables of these lists hold
 pub share-is : {s : List ℕ} {v : Volume} {rs : List Freed} {b amount place d sectors : ℕ} → ShareAt s v rs b amount place → Ready s sectors b amount place
-    → d ≡ get dirtySectors (keyFound s place .value) → _≡_ {A = Share} (record { bucket = bucket b; old = d; freed = amount }) (shareOf v rs (bucket b))
+    → d ≡ get dirtySectors (keyHere s place .value) → _≡_ {A = Share} (record { bucket = bucket b; old = d; freed = amount }) (shareOf v rs (bucket b))
 unfolding shareOf
 share-is {v = v} {rs} {b} {place = place} a r e =
     let q = place-some (a .key) (omega (arith, r .there .after)) .0 in

@@ -1,4 +1,5 @@
-pub mod Located
+pub mod Places
+pub mod Buckets
 pub mod Skipping
 pub mod Tables
 pub mod Shares

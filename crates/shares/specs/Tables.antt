@@ -10,7 +10,8 @@ use Rattle.calls.specs.Trees.{lookup}
 use Rattle.calls.specs.Generations.{ofType30}
 use Rattle.calls.specs.Refusals.{verdict}
 use Rattle.calls.specs.Release.{freedBuckets, freedIn, bucketRefusal}
-use Rattle.shares.specs.Located.{PlaceOf, bucketsIn}
+use Rattle.shares.specs.Places.{PlaceOf}
+use Rattle.shares.specs.Buckets.{bucketsIn}
 
 -- the alloc key of each bucket
 pub record PlacesOf (s buckets places : List ℕ) (alloc : List Key) : Type 0 where

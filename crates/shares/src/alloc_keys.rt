@@ -3,22 +3,21 @@ ghost use mathlib.Core.Path.{_≡_};
 ghost use mathlib.Core.Bool.{cond};
 ghost use mathlib.Core.List.{List, map};
 ghost use Prim.Native.Nat.{_-_, _≤_};
-ghost use lib.ListN.{drop};
+ghost use lib.ListN.{length};
 ghost use lib.Dec.{eqb};
-ghost use Rattle.wire.specs.Numbers.{le};
 ghost use Rattle.wire.specs.Held.{valueIn, keyIn};
 ghost use Rattle.wire.specs.Output.{Emitted};
 ghost use Rattle.format.specs.AllocV4.{withDirty, emptied};
 ghost use Rattle.calls.specs.CallList.{Volume, Freed};
 ghost use Rattle.calls.specs.Release.{freedBuckets, releasedKey};
 ghost use Rattle.calls.specs.Trees.{withValue};
+ghost use Rattle.reader.specs.KeyHere.{keyHere, Whole};
 ghost use Rattle.shares.specs.FieldBytes.{keysBytes};
-ghost use Rattle.shares.specs.Located.{keyFound, KeyThere};
 ghost use Rattle.shares.specs.Tables.{Tabled, Passed};
-use crate::located;
 use crate::shares;
 use crate::shares::Share;
 use format::alloc;
+use reader::key;
 use wire::emit_key;
 use wire::keys::Bkey;
 use wire::keys::Value;
@@ -58,10 +57,10 @@ fn free_part(k: Bkey, left: u32) -> Bkey
 
 // The alloc key at a place after a share of its bucket is freed. Refusal 18 shows that it holds what is freed.
 fn freed_key(s: &[u8], place: usize, share: Share, journal: u64) -> Bkey
-    requires { ⌜ KeyThere (now s) place × (93 ≤ le 2 (drop (place - 2) (now s))) × (share .freed ≤ share .old) ⌝ }
-    ensures { λ r. ⌜ (r .value .len ≤ 256) × (keyIn r ≡ withValue (keyFound (now (s .entry)) place) (cond (eqb (share .freed) (share .old)) (emptied journal (keyFound (now (s .entry)) place .value)) (withDirty (share .old - share .freed) (keyFound (now (s .entry)) place .value)))) ⌝ }
+    requires { ⌜ Whole (now s) place × (56 ≤ length (keyHere (now s) place .value)) × (share .freed ≤ share .old) ⌝ }
+    ensures { λ r. ⌜ (r .value .len ≤ 256) × (keyIn r ≡ withValue (keyHere (now (s .entry)) place) (cond (eqb (share .freed) (share .old)) (emptied journal (keyHere (now (s .entry)) place .value)) (withDirty (share .old - share .freed) (keyHere (now (s .entry)) place .value)))) ⌝ }
 {
-    let k = located::key_at(s, place);
+    let k = key::key_at(s, place);
     if share.freed == share.old {
         return empty_bucket(k, journal);
     }

@@ -8,11 +8,13 @@ ghost use Rattle.wire.specs.Kinds.{bucketBelow};
 ghost use Rattle.calls.specs.CallList.{keysOk};
 ghost use Rattle.calls.specs.Lists.{inOrder};
 ghost use Rattle.calls.specs.Trees.{lookup};
+ghost use Rattle.reader.specs.KeyHere.{keysHere};
 ghost use Rattle.reader.specs.Located.{noKey};
-ghost use Rattle.shares.specs.Located.{keysIn, Keyed, PlaceOf, bucketsIn};
+ghost use Rattle.shares.specs.Places.{Keyed, PlaceOf};
+ghost use Rattle.shares.specs.Buckets.{bucketsIn};
 ghost use Rattle.shares.specs.Skipping.{Skipped};
 ghost use Rattle.shares.specs.Tables.{PlacesOf};
-use crate::located;
+use crate::places;
 use wire::bpos;
 use wire::bpos::Bpos;
 use wire::kinds::Bucket;
@@ -21,11 +23,11 @@ use wire::positions;
 // The first key from an index on that does not stand before a position. The walk shows the bound.
 fn skip_below(s: &[u8], offsets: &[u32], from: usize, p: Bpos) -> usize
     requires { ⌜ Keyed (now s) (now offsets) × (from ≤ length (now offsets)) ⌝ }
-    ensures { λ r. ⌜ Skipped (keysIn (now (s .entry)) (now (offsets .entry))) from p r ⌝ }
+    ensures { λ r. ⌜ Skipped (keysHere (now (s .entry)) (now (offsets .entry))) from p r ⌝ }
 {
     let mut i = from;
     while i < offsets.len() {
-        if !bpos::pos_less(located::pos_of(s, offsets, i), p) {
+        if !bpos::pos_less(places::pos_of(s, offsets, i), p) {
             return i;
         }
         i += 1;
@@ -35,12 +37,12 @@ fn skip_below(s: &[u8], offsets: &[u32], from: usize, p: Bpos) -> usize
 
 // The place of the key at a position, which no key from an index on stands before, or 0. The layout shows that keys ascend, here and below.
 fn place_here(s: &[u8], offsets: &[u32], i: usize, p: Bpos) -> u32
-    requires { ⌜ Keyed (now s) (now offsets) × (keysOk (keysIn (now s) (now offsets)) ≡ true) ⌝ }
-    requires { ⌜ (i < length (now offsets) → posLess (getD (keysIn (now s) (now offsets)) i noKey .pos) p ≡ false) ⌝ }
-    ensures { λ r. ⌜ PlaceOf (now (s .entry)) r (lookup p (drop i (keysIn (now (s .entry)) (now (offsets .entry))))) ⌝ }
+    requires { ⌜ Keyed (now s) (now offsets) × (keysOk (keysHere (now s) (now offsets)) ≡ true) ⌝ }
+    requires { ⌜ (i < length (now offsets) → posLess (getD (keysHere (now s) (now offsets)) i noKey .pos) p ≡ false) ⌝ }
+    ensures { λ r. ⌜ PlaceOf (now (s .entry)) r (lookup p (drop i (keysHere (now (s .entry)) (now (offsets .entry))))) ⌝ }
 {
     if i < offsets.len() {
-        if bpos::pos_same(located::pos_of(s, offsets, i), p) {
+        if bpos::pos_same(places::pos_of(s, offsets, i), p) {
             return offsets[i];
         }
     }
@@ -49,9 +51,9 @@ fn place_here(s: &[u8], offsets: &[u32], i: usize, p: Bpos) -> u32
 
 // The place of each bucket's alloc key. `take_freed` shows that buckets ascend.
 pub fn find_allocs(s: &[u8], alloc: &[u32], buckets: &[u32], places: &mut [u32])
-    requires { ⌜ Keyed (now s) (now alloc) × (keysOk (keysIn (now s) (now alloc)) ≡ true) ⌝ }
+    requires { ⌜ Keyed (now s) (now alloc) × (keysOk (keysHere (now s) (now alloc)) ≡ true) ⌝ }
     requires { ⌜ (inOrder bucketBelow (bucketsIn (now buckets)) ≡ true) × (length (now buckets) ≤ length (now places)) ⌝ }
-    ensures { λ _. ⌜ PlacesOf (now (s .entry)) (now (buckets .entry)) (take (length (now (buckets .entry))) (now (places .exit))) (keysIn (now (s .entry)) (now (alloc .entry))) ⌝ }
+    ensures { λ _. ⌜ PlacesOf (now (s .entry)) (now (buckets .entry)) (take (length (now (buckets .entry))) (now (places .exit))) (keysHere (now (s .entry)) (now (alloc .entry))) ⌝ }
 {
     let mut i: usize = 0;
     let mut k: usize = 0;

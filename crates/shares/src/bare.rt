@@ -7,7 +7,7 @@ ghost use Rattle.wire.specs.Positions.{backpointerAt};
 ghost use Rattle.calls.specs.Trees.{newKey, deletion};
 ghost use Rattle.calls.specs.Lru.{needDiscardKey};
 ghost use Rattle.freed.specs.Freeds.{freedsIn, Requested, Checked};
-ghost use Rattle.shares.specs.Located.{bucketsIn};
+ghost use Rattle.shares.specs.Buckets.{bucketsIn};
 ghost use Rattle.shares.specs.FieldBytes.{keysBytes};
 use freed::requests;
 use wire::bpos::Bpos;

@@ -9,7 +9,7 @@ ghost use Rattle.calls.specs.CallList.{Volume, Freed};
 ghost use Rattle.calls.specs.Lists.{total};
 ghost use Rattle.freed.specs.Freeds.{freedsIn, Requested, Checked};
 ghost use Rattle.shares.specs.Counting.{Unused-of};
-ghost use Rattle.shares.specs.Located.{bucketsIn};
+ghost use Rattle.shares.specs.Buckets.{bucketsIn};
 ghost use Rattle.shares.specs.Tables.{Tabled, PassedIn};
 use crate::shares;
 use crate::shares::Share;

@@ -16,12 +16,12 @@ ghost use Rattle.calls.specs.Generations.{genKey};
 ghost use Rattle.calls.specs.Release.{gensQueued};
 ghost use Rattle.calls.specs.Trees.{newKey, withValue};
 ghost use Rattle.shares.specs.FieldBytes.{keysBytes};
-ghost use Rattle.shares.specs.Located.{bucketsIn};
+ghost use Rattle.shares.specs.Buckets.{bucketsIn};
 ghost use Rattle.shares.specs.Queueing.{Next};
 ghost use Rattle.shares.specs.Tables.{RecordsOf, Recorded};
 use crate::alloc_keys;
-use crate::located;
 use format::gens;
+use reader::key;
 use wire::emit_key;
 use wire::keys::Bkey;
 use wire::kinds::Bucket;
@@ -58,7 +58,7 @@ fn old_record(s: &[u8], records: &[u32], b: Bucket) -> Bkey
     if at == 0 {
         return new_record(b);
     }
-    located::key_at(s, at)
+    key::key_at(s, at)
 }
 
 // A record with a bucket's generation. A byte past its end, which refusal 19 rules out, changes nothing.

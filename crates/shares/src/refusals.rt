@@ -7,10 +7,10 @@ ghost use Rattle.calls.specs.CallList.{Volume, Freed};
 ghost use Rattle.calls.specs.Generations.{genShort};
 ghost use Rattle.calls.specs.Refusals.{verdict};
 ghost use Rattle.calls.specs.Release.{freedBuckets, bucketRefusal};
-ghost use Rattle.shares.specs.Located.{Standing};
+ghost use Rattle.shares.specs.Places.{Standing};
 ghost use Rattle.shares.specs.Tables.{RecordsOf, Recorded, ShareAt, Tabled, Known};
-use crate::located;
 use format::alloc;
+use reader::key;
 use wire::kinds::Bucket;
 use wire::positions;
 
@@ -25,7 +25,7 @@ fn gen_short(s: &[u8], records: &[u32], b: Bucket) -> bool
     if at == 0 {
         return false;
     }
-    located::body_len(s, at) - 37 <= positions::gens_byte(b)
+    key::value_len(s, at) <= positions::gens_byte(b)
 }
 
 // 15 to 19 at a bucket.
@@ -43,10 +43,10 @@ fn bucket_refusal(
     if place == 0 {
         return 15;
     }
-    if located::body_len(s, place) < 93 {
+    if key::value_len(s, place) < 56 {
         return 16;
     }
-    let dirty = alloc::dirty_sectors(s, place + 37);
+    let dirty = alloc::dirty_sectors(s, key::value_at(s, place));
     if sectors < dirty as u64 {
         return 17;
     }

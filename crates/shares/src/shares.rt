@@ -7,10 +7,11 @@ ghost use Rattle.calls.specs.CallList.{Volume, Freed};
 ghost use Rattle.calls.specs.Lists.{those};
 ghost use Rattle.calls.specs.Release.{isEmptied, emptiedGen};
 ghost use Rattle.freed.specs.Summing.{Listed};
-ghost use Rattle.shares.specs.Located.{bucketsIn};
+ghost use Rattle.shares.specs.Buckets.{bucketsIn};
 ghost use Rattle.shares.specs.Shares.{shareOf};
 ghost use Rattle.shares.specs.Tables.{Tabled, Passed};
 use format::alloc;
+use reader::key;
 use wire::kinds::Bucket;
 
 pub struct Share {
@@ -27,7 +28,7 @@ pub fn share_at(s: &[u8], buckets: &[u32], amounts: &[u32], places: &[u32], k: u
     let place = places[k] as usize;
     Share {
         bucket: Bucket(buckets[k] as u64),
-        old: alloc::dirty_sectors(s, place + 37),
+        old: alloc::dirty_sectors(s, key::value_at(s, place)),
         freed: amounts[k],
     }
 }
@@ -38,7 +39,7 @@ fn age_at(s: &[u8], buckets: &[u32], amounts: &[u32], places: &[u32], k: usize) 
     ensures { λ r. ⌜ ((v : Volume) (rs : List Freed) → Tabled (now (s .entry)) v rs (now (buckets .entry)) (now (amounts .entry)) (now (places .entry)) → r ≡ emptiedGen (v .trees) (record { 0 = getD (now (buckets .entry)) k 0 })) ⌝ }
 {
     let place = places[k] as usize;
-    alloc::next_gen(alloc::generation(s, place + 37))
+    alloc::next_gen(alloc::generation(s, key::value_at(s, place)))
 }
 
 // The emptied buckets with their new generations: how many there are.

@@ -8,7 +8,9 @@ use lib.Dec.{eqb}
 use Rattle.calls.specs.Lists.{those, total}
 use Rattle.wire.specs.Encode.{encode}
 use Rattle.wire.specs.Rows.{Counters, rowField}
+use Rattle.wire.specs.declared.kinds.Bucket.{Bucket}
 use Rattle.calls.specs.CallList.{Piece}
+use Rattle.calls.specs.Extents.{Placed}
 use Rattle.calls.specs.Accounting.{row3, countedRows, swapped}
 use Rattle.tally.specs.declared.tally.Tally.{Tally}
 use Rattle.tally.specs.declared.tally.Tallies.{Tallies}
@@ -51,6 +53,13 @@ pub record Smalls (t : Tallies) : Type 0 where
 pub record Tallied (ps : List Piece) (t : Tallies) : Type 0 where
   pub is : t ≡ talliesOf ps
   pub small : Smalls t
+
+-- those of some placed pieces, in so many buckets
+pub record Known (taken : ℕ) (t : Tallies) : Type 0 where
+  pub buckets : List Bucket
+  pub placed : List Placed
+  pub count : length buckets ≡ taken
+  pub tallied : Tallied (map (λ p. p .piece) placed) t
 
 -- the bytes of rows, all-zero rows left out
 abbrev pub rowsBytes : List Counters → List ℕ

@@ -16,7 +16,7 @@ ghost use Rattle.calls.specs.Accounting.{isZero, sectorsRow, bucketsRow, extent
 ghost use Rattle.calls.specs.Place.{placeRows};
 ghost use Rattle.reader.specs.Heads.{headIn};
 ghost use Rattle.wire.specs.Output.{Emitted};
-ghost use Rattle.tally.specs.Tally.{rowsBytes, countsRow, kindCounts, ownerCounts, talliesOf, Small, Smalls};
+ghost use Rattle.tally.specs.Tally.{rowsBytes, countsRow, kindCounts, ownerCounts, talliesOf, Small, Known};
 use crate::tally::Tallies;
 use crate::tally::Tally;
 use reader::head::Head;
@@ -181,10 +181,10 @@ pub fn put_kinds(out: &mut [u8], at: usize, t: Tallies) -> usize
     put_counts(out, p, 0x0405000000000000, 0, k5)
 }
 
-// All rows of a placement, by how many buckets are taken, ascending.
+// All rows of a placement, by how many buckets are taken, ascending. `tally_pieces` shows what is required of the tallies.
 pub fn put_rows(out: &mut [u8], at: usize, taken: u64, t: Tallies, h: Head) -> usize
     requires { ⌜ (taken ≤ 1024) × (h .option ≤ 3) ⌝ }
-    requires { ⌜ Smalls t ⌝ }
+    requires { ⌜ Known taken t ⌝ }
     ensures { λ q. ⌜ ((bs : List Bucket) (ps : List calls.Placed) → length bs ≡ taken → t ≡ talliesOf (map (λ p. p .piece) ps) → Emitted (now (out .entry)) at (encode (map rowField (placeRows (headIn h) bs ps (map (extentKey (headIn h)) ps)))) (now (out .exit)) q) ⌝ }
 {
     let all = t.all;

@@ -17,49 +17,53 @@ use Rattle.calls.specs.Limits.{atInode0}
 use Rattle.calls.specs.Discard.{waitingKey, genTaken, isDiscarded}
 use Rattle.calls.proofs.BoolLaws.{parts}
 use Rattle.calls.proofs.AllLaws.{all-imp, all-chosen, those-length}
-use Rattle.waiting.specs.Offsets.{sizeAt, keyFrom, keysFrom, bucketFrom, Kept, AllocKept, FreedKept}
+use Rattle.reader.specs.KeyHere.{valueAt, keyHere, keysHere, Whole}
+use Rattle.reader.proofs.KeyHereLaws.{value-within, member-here}
+use Rattle.waiting.specs.Kept.{bucketHere, AllocKept, FreedKept}
 use Rattle.waiting.specs.Chosen.{isFreed, freedFrom, ifChosen}
-use Rattle.waiting.proofs.OffsetLaws.{value-size, value-get}
 
 pub taken-is : (s : List ℕ) (at : ℕ) {g : ℕ} → g ≡ get gen (drop at s) → ltb g 16 ≡ genTaken (drop at s)
 unfolding genTaken
 taken-is s at e = rw e
 
-module _ {s : List ℕ} (needs : List ℕ) {o : ℕ} (h : Kept s o) where
-  pub other-type : (keyFrom s o .type ≡ 27 → ⊥) → false ≡ isFreed s needs o
+module _ (s needs : List ℕ) (o : ℕ) where
+  pub other-type : (keyHere s o .type ≡ 27 → ⊥) → false ≡ isFreed s needs o
   unfolding isDiscarded
-  other-type e = simp (ne-eqb (keyFrom s o .type) 27 e)
+  other-type e = simp (ne-eqb (keyHere s o .type) 27 e)
 
-  pub other-inode : (keyFrom s o .pos .inode ≡ 0 → ⊥) → false ≡ isFreed s needs o
+  pub other-inode : (keyHere s o .pos .inode ≡ 0 → ⊥) → false ≡ isFreed s needs o
   unfolding isDiscarded
-  other-inode e = simp (ne-eqb (keyFrom s o .pos .inode) 0 e, and-false)
+  other-inode e = simp (ne-eqb (keyHere s o .pos .inode) 0 e, and-false)
 
-  pub short-value : sizeAt s o < 93 → false ≡ isFreed s needs o
+  pub short-value : length (keyHere s o .value) < 56 → false ≡ isFreed s needs o
   unfolding isDiscarded
-  short-value l = simp (lt-leb 56 (length (keyFrom s o .value)) (omega (arith, value-size h)), and-false)
+  short-value l = simp (lt-leb 56 (length (keyHere s o .value)) l, and-false)
 
-  module _ (l : 93 ≤ sizeAt s o) where
-    type-get : {d : ℕ} → d ≡ get dataType (drop (o + 37) s) → get dataType (keyFrom s o .value) ≡ d
-    type-get e = sym (e ∙ value-get h dataType (omega arith))
+  -- a value that is long enough, by what is read of it at its place v
+  module _ (h : Whole s o) (l : 56 ≤ length (keyHere s o .value)) {v : ℕ} (p : v ≡ valueAt o) where
+    pub value-ends : v + 56 ≤ length s
+    value-ends = omega (arith, value-within s o h)
 
-    gen-get : {g : Bool} → g ≡ genTaken (drop (o + 37) s) → genTaken (keyFrom s o .value) ≡ g
+    type-get : {d : ℕ} → d ≡ get dataType (drop v s) → get dataType (keyHere s o .value) ≡ d
+    type-get e = member-here s o h dataType (omega arith) ∙ sym (rw p at e)
+
+    gen-get : {g : Bool} → g ≡ genTaken (drop v s) → genTaken (keyHere s o .value) ≡ g
     unfolding genTaken
-    gen-get e = sym (e ∙ ap (λ (x : ℕ). ltb x 16) (value-get h gen (omega arith)))
+    gen-get e = ap (λ (x : ℕ). ltb x 16) (member-here s o h gen (omega arith)) ∙ sym (rw p at e)
 
-    pub other-data : {d : ℕ} → d ≡ get dataType (drop (o + 37) s) → (d ≡ 9 → ⊥) → false ≡ isFreed s needs o
+    pub other-data : {d : ℕ} → d ≡ get dataType (drop v s) → (d ≡ 9 → ⊥) → false ≡ isFreed s needs o
     unfolding isDiscarded
     other-data e n = simp (type-get e, ne-eqb _ 9 n, and-false)
 
-    pub gen-left : {g : Bool} → g ≡ genTaken (drop (o + 37) s) → g ≡ false → false ≡ isFreed s needs o
+    pub gen-left : {g : Bool} → g ≡ genTaken (drop v s) → g ≡ false → false ≡ isFreed s needs o
     unfolding isDiscarded
     gen-left e n = simp (gen-get e, n, and-false)
 
-    pub all-passed : {d : ℕ} {g w : Bool} → keyFrom s o .type ≡ 27 → keyFrom s o .pos .inode ≡ 0 → d ≡ get dataType (drop (o + 37) s)
-        → d ≡ 9 → g ≡ genTaken (drop (o + 37) s) → g ≡ true → w ≡ not (isNone (waitingKey (keysFrom s needs) (bucketFrom s o)))
-        → w ≡ isFreed s needs o
+    pub all-passed : {d : ℕ} {g w : Bool} → keyHere s o .type ≡ 27 → keyHere s o .pos .inode ≡ 0 → d ≡ get dataType (drop v s) → d ≡ 9
+        → g ≡ genTaken (drop v s) → g ≡ true → w ≡ not (isNone (waitingKey (keysHere s needs) (bucketHere s o))) → w ≡ isFreed s needs o
     unfolding isDiscarded
     all-passed t i e d f g w =
-        w ∙ sym (simp (eq-eqb (keyFrom s o .type) 27 t, eq-eqb (keyFrom s o .pos .inode) 0 i, le-leb 56 (length (keyFrom s o .value)) (omega (arith, value-size h)), type-get e, eq-eqb _ 9 d, gen-get f, g))
+        w ∙ sym (simp (eq-eqb (keyHere s o .type) 27 t, eq-eqb (keyHere s o .pos .inode) 0 i, le-leb 56 (length (keyHere s o .value)) l, type-get e, eq-eqb _ 9 d, gen-get f, g))
 
 -- one element more
 pub those-more : {A : Type 0} (t : A → Bool) (xs : List A) (x : A) → those t (xs ++ x ∷ []) ≡ those t xs ++ cond (t x) (x ∷ []) []
@@ -92,14 +96,14 @@ unfolding isDiscarded
 freed-kept {s} needs a =
     all-imp
     (λ (o : ℕ) (h : (isFreed s needs o ≡ true) × AllocKept s o).
-    let k = keyFrom s o in
+    let k = keyHere s o in
     let p = parts (eqb (k .type) 27 && atInode0 k) _ (h .0) in
     let z = parts (eqb (k .type) 27) (atInode0 k) (p .0) in
     let q = parts (leb 56 (length (k .value))) _ (p .1) in
     record {
       kept = h .1 .kept;
       below = h .1 .below (eqb-true (k .pos .inode) 0 (z .1));
-      valued = omega (arith, value-size (h .1 .kept), leb-true 56 (length (k .value)) (q .0));
+      valued = leb-true 56 (length (k .value)) (q .0);
     })
     (all-chosen (isFreed s needs) a)
 

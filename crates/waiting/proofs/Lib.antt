@@ -1,3 +1,3 @@
-pub mod OffsetLaws
+pub mod KeptLaws
 pub mod TableLaws
 pub mod ChosenLaws

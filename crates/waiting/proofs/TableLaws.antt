@@ -1,7 +1,7 @@
 -- The table by bucket: each need-discard key that is noted is the last so far of its bucket. Assumes nothing.
 use Prim.Native.Nat.{ℕ, _+_, _-_, _<_}
 use mathlib.Core.Path.{_≡_, refl, sym, _∙_}
-use mathlib.Core.Bool.{Bool, true, false, not, _&&_, cond, and-true, and-false}
+use mathlib.Core.Bool.{Bool, true, false, not, cond, and-true, and-false}
 use mathlib.Core.List.{List, [], _∷_, _++_, map-append}
 use mathlib.Core.Option.{Option, none, some}
 use native.Mathlib.Omega.{arith}
@@ -13,12 +13,12 @@ use borrow.Author.Tests.{eqb-true, eqb-false, eq-eqb, ne-eqb}
 use Rattle.wire.specs.Bytes.{All}
 use Rattle.wire.specs.Keys.{Key}
 use Rattle.wire.specs.Kinds.{sameBucket}
-use Rattle.wire.specs.Positions.{bucketIn}
 use Rattle.wire.specs.declared.kinds.Bucket.{Bucket}
 use Rattle.calls.specs.Limits.{isSet}
 use Rattle.calls.specs.Lists.{isNone}
 use Rattle.calls.specs.Discard.{waitingKey}
-use Rattle.waiting.specs.Offsets.{keyFrom, keysFrom, bucketFrom, NeedKept}
+use Rattle.reader.specs.KeyHere.{keyHere, keysHere}
+use Rattle.waiting.specs.Kept.{bucketHere, NeedKept}
 use Rattle.waiting.specs.Table.{waitsOf, names, Entry, Entries, Tabled, noted}
 use Rattle.waiting.specs.declared.waiting.Waits.{Waits}
 use Rattle.waiting.specs.declared.waiting.Waits.the-variants.{At, Not}
@@ -47,7 +47,7 @@ entry-kept {s} {needs} {ks} {ls} {b} {e} {f} n p q =
 
 -- the entry of the key at place i
 entry-new : {s needs : List ℕ} {ls : List Key} {b : Bucket} {f : ℕ} (i : ℕ) → i < length needs → f ≡ i + 1
-    → waitingKey ls b ≡ some (keyFrom s (getD needs i 0)) → Entry s needs ls b f
+    → waitingKey ls b ≡ some (keyHere s (getD needs i 0)) → Entry s needs ls b f
 entry-new {s} {needs} {ls} {b} {f} i h p q =
     let e : f - 1 ≡ i = omega arith in
     record { unnamed = λ z. absurd (omega arith); named = λ z. (omega arith, rw e q) }
@@ -60,10 +60,10 @@ empty-entries s needs b h =
 
 pub noted-length : (s table : List ℕ) (o i : ℕ) → length (noted s table o i) ≡ length table
 unfolding noted
-noted-length s table o i = go (isSet (keyFrom s o))
+noted-length s table o i = go (isSet (keyHere s o))
   where
-    go : (q : Bool) → length (cond q (set table (bucketFrom s o .0) (i + 1)) table) ≡ length table
-    go true = length-set table (bucketFrom s o .0) (i + 1)
+    go : (q : Bool) → length (cond q (set table (bucketHere s o .0) (i + 1)) table) ≡ length table
+    go true = length-set table (bucketHere s o .0) (i + 1)
     go false = refl
 
 -- the key at place i is noted
@@ -73,62 +73,62 @@ module _ (s needs table : List ℕ) (ks : List Key) (i : ℕ) (h : i < length ne
   o = getD needs i 0
 
   -- a key of another type names no bucket
-  other : isSet (keyFrom s o) ≡ false → Entry s needs (ks ++ keyFrom s o ∷ []) b (getD table (b .0) 0)
-  other e = entry-kept (t b m) refl (waiting-more ks (keyFrom s o) b ∙ rw e)
+  other : isSet (keyHere s o) ≡ false → Entry s needs (ks ++ keyHere s o ∷ []) b (getD table (b .0) 0)
+  other e = entry-kept (t b m) refl (waiting-more ks (keyHere s o) b ∙ rw e)
 
   -- a key of type 25 names its own bucket and no other
-  this : isSet (keyFrom s o) ≡ true → Entry s needs (ks ++ keyFrom s o ∷ []) b (getD (set table (bucketFrom s o .0) (i + 1)) (b .0) 0)
-  this e = go (sameBucket (bucketFrom s o) b) refl
+  this : isSet (keyHere s o) ≡ true → Entry s needs (ks ++ keyHere s o ∷ []) b (getD (set table (bucketHere s o .0) (i + 1)) (b .0) 0)
+  this e = go (sameBucket (bucketHere s o) b) refl
     where
-      go : (q : Bool) → sameBucket (bucketFrom s o) b ≡ q
-          → Entry s needs (ks ++ keyFrom s o ∷ []) b (getD (set table (bucketFrom s o .0) (i + 1)) (b .0) 0)
+      go : (q : Bool) → sameBucket (bucketHere s o) b ≡ q
+          → Entry s needs (ks ++ keyHere s o ∷ []) b (getD (set table (bucketHere s o .0) (i + 1)) (b .0) 0)
       go true q =
-          let p : bucketFrom s o .0 ≡ b .0 = eqb-true (bucketFrom s o .0) (b .0) q in
-          entry-new i h (rw p (getD-set-same table (b .0) (i + 1) 0 (omega arith))) (waiting-more ks (keyFrom s o) b ∙ rw (e, q))
+          let p : bucketHere s o .0 ≡ b .0 = eqb-true (bucketHere s o .0) (b .0) q in
+          entry-new i h (rw p (getD-set-same table (b .0) (i + 1) 0 (omega arith))) (waiting-more ks (keyHere s o) b ∙ rw (e, q))
       go false q =
-          let p = eqb-false (bucketFrom s o .0) (b .0) q in
-          entry-kept (t b m) (getD-set-other table (bucketFrom s o .0) (b .0) (i + 1) 0 (λ z. p (sym z))) (waiting-more ks (keyFrom s o) b ∙ rw (e, q))
+          let p = eqb-false (bucketHere s o .0) (b .0) q in
+          entry-kept (t b m) (getD-set-other table (bucketHere s o .0) (b .0) (i + 1) 0 (λ z. p (sym z))) (waiting-more ks (keyHere s o) b ∙ rw (e, q))
 
-  noted-entry : Entry s needs (ks ++ keyFrom s o ∷ []) b (getD (noted s table o i) (b .0) 0)
+  noted-entry : Entry s needs (ks ++ keyHere s o ∷ []) b (getD (noted s table o i) (b .0) 0)
   unfolding noted
-  noted-entry = go (isSet (keyFrom s o)) refl
+  noted-entry = go (isSet (keyHere s o)) refl
     where
-      go : (q : Bool) → isSet (keyFrom s o) ≡ q
-          → Entry s needs (ks ++ keyFrom s o ∷ []) b (getD (cond q (set table (bucketFrom s o .0) (i + 1)) table) (b .0) 0)
+      go : (q : Bool) → isSet (keyHere s o) ≡ q
+          → Entry s needs (ks ++ keyHere s o ∷ []) b (getD (cond q (set table (bucketHere s o .0) (i + 1)) table) (b .0) 0)
       go true q = this q
       go false q = other q
 
 -- one offset more
-pub keys-more : (s os : List ℕ) (i : ℕ) → i < length os → keysFrom s (take (i + 1) os) ≡ keysFrom s (take i os) ++ keyFrom s (getD os i 0) ∷ []
-keys-more s os i h = rw (add-one, take-suc os i 0 h) (map-append (keyFrom s) (take i os) (getD os i 0 ∷ []))
+pub keys-more : (s os : List ℕ) (i : ℕ) → i < length os → keysHere s (take (i + 1) os) ≡ keysHere s (take i os) ++ keyHere s (getD os i 0) ∷ []
+keys-more s os i h = rw (add-one, take-suc os i 0 h) (map-append (keyHere s) (take i os) (getD os i 0 ∷ []))
 
 pub noted-entries : (s needs table : List ℕ) (i : ℕ) → i < length needs → length table ≡ 65536
-    → Entries s needs (keysFrom s (take i needs)) table
-    → Entries s needs (keysFrom s (take (i + 1) needs)) (noted s table (getD needs i 0) i)
-noted-entries s needs table i h l t b m = rw (keys-more s needs i h) (noted-entry s needs table (keysFrom s (take i needs)) i h l t b m)
+    → Entries s needs (keysHere s (take i needs)) table
+    → Entries s needs (keysHere s (take (i + 1) needs)) (noted s table (getD needs i 0) i)
+noted-entries s needs table i h l t b m = rw (keys-more s needs i h) (noted-entry s needs table (keysHere s (take i needs)) i h l t b m)
 
-pub all-entries : (s needs table : List ℕ) (i : ℕ) → i ≡ length needs → Entries s needs (keysFrom s (take i needs)) table
-    → Entries s needs (keysFrom s needs) table
+pub all-entries : (s needs table : List ℕ) (i : ℕ) → i ≡ length needs → Entries s needs (keysHere s (take i needs)) table
+    → Entries s needs (keysHere s needs) table
 all-entries s needs table i e t = rw (e, take-length needs) at t
 
 -- the key at place i is searched: the last so far that names a bucket has its entry
 module _ (s needs : List ℕ) (b : Bucket) where
-  pub search-none : Entry s needs (keysFrom s (take 0 needs)) b 0
+  pub search-none : Entry s needs (keysHere s (take 0 needs)) b 0
   unfolding waitingKey
   search-none = record { unnamed = λ z. refl; named = λ z. absurd (omega arith) }
 
-  module _ (i : ℕ) (h : i < length needs) {e : ℕ} (n : Entry s needs (keysFrom s (take i needs)) b e) {t : Bool}
-      (p : t ≡ names (keyFrom s (getD needs i 0)) b) where
-    more : waitingKey (keysFrom s (take (i + 1) needs)) b ≡ cond t (some (keyFrom s (getD needs i 0))) (waitingKey (keysFrom s (take i needs)) b)
-    more = rw (keys-more s needs i h, p) (waiting-more (keysFrom s (take i needs)) (keyFrom s (getD needs i 0)) b)
+  module _ (i : ℕ) (h : i < length needs) {e : ℕ} (n : Entry s needs (keysHere s (take i needs)) b e) {t : Bool}
+      (p : t ≡ names (keyHere s (getD needs i 0)) b) where
+    more : waitingKey (keysHere s (take (i + 1) needs)) b ≡ cond t (some (keyHere s (getD needs i 0))) (waitingKey (keysHere s (take i needs)) b)
+    more = rw (keys-more s needs i h, p) (waiting-more (keysHere s (take i needs)) (keyHere s (getD needs i 0)) b)
 
-    pub search-found : t ≡ true → Entry s needs (keysFrom s (take (i + 1) needs)) b (i + 1)
+    pub search-found : t ≡ true → Entry s needs (keysHere s (take (i + 1) needs)) b (i + 1)
     search-found q = entry-new i h refl (more ∙ rw q)
 
-    pub search-past : t ≡ false → Entry s needs (keysFrom s (take (i + 1) needs)) b e
+    pub search-past : t ≡ false → Entry s needs (keysHere s (take (i + 1) needs)) b e
     search-past q = entry-kept n refl (more ∙ rw q)
 
-  pub search-all : {e : ℕ} (i : ℕ) → i ≡ length needs → Entry s needs (keysFrom s (take i needs)) b e → Entry s needs (keysFrom s needs) b e
+  pub search-all : {e : ℕ} (i : ℕ) → i ≡ length needs → Entry s needs (keysHere s (take i needs)) b e → Entry s needs (keysHere s needs) b e
   search-all i e n = rw (e, take-length needs) at n
 
 -- a table that has not an entry for each bucket
@@ -136,12 +136,12 @@ pub unfilled : {s needs table : List ℕ} → All (NeedKept s) needs → length 
 unfilled k h = record { kept = k; entries = λ l. absurd (omega arith) }
 
 -- whether a key names a bucket, by its own bucket and its type
-module _ (s : List ℕ) (o : ℕ) (b : Bucket) {d : Bucket} {t : Bool} (e : d ≡ bucketFrom s o) (p : t ≡ sameBucket d b) where
-  pub names-this : {k : ℕ} → t ≡ true → k ≡ keyFrom s o .type → eqb k 25 ≡ names (keyFrom s o) b
-  names-this q f = rw (f, sym e, sym p ∙ q) (sym (and-true (isSet (keyFrom s o))))
+module _ (s : List ℕ) (o : ℕ) (b : Bucket) {d : Bucket} {t : Bool} (e : d ≡ bucketHere s o) (p : t ≡ sameBucket d b) where
+  pub names-this : {k : ℕ} → t ≡ true → k ≡ keyHere s o .type → eqb k 25 ≡ names (keyHere s o) b
+  names-this q f = rw (f, sym e, sym p ∙ q) (sym (and-true (isSet (keyHere s o))))
 
-  pub names-other : t ≡ false → false ≡ names (keyFrom s o) b
-  names-other q = rw (sym e, sym p ∙ q) (sym (and-false (isSet (keyFrom s o))))
+  pub names-other : t ≡ false → false ≡ names (keyHere s o) b
+  names-other q = rw (sym e, sym p ∙ q) (sym (and-false (isSet (keyHere s o))))
 
 -- what an entry tells of its bucket
 module _ {s needs : List ℕ} {ks : List Key} {b : Bucket} {e : ℕ} (n : Entry s needs ks b e) where
@@ -151,7 +151,7 @@ module _ {s needs : List ℕ} {ks : List Key} {b : Bucket} {e : ℕ} (n : Entry 
   pub entry-place : (e ≡ 0 → ⊥) → e - 1 < length needs
   entry-place z = let m = n .named (omega arith) in omega arith
 
-  pub waits-at : {p : Bpos} → (e ≡ 0 → ⊥) → p ≡ keyFrom s (getD needs (e - 1) 0) .pos → At p ≡ waitsOf (waitingKey ks b)
+  pub waits-at : {p : Bpos} → (e ≡ 0 → ⊥) → p ≡ keyHere s (getD needs (e - 1) 0) .pos → At p ≡ waitsOf (waitingKey ks b)
   waits-at z q = let m = n .named (omega arith) in rw (m .1, q)
 
 -- whether a bucket waits
@@ -164,11 +164,11 @@ is-waiting none p q = absurd (let z : _≡_ {A = ℕ} 0 1 = cc in omega arith)
 is-waiting (some k) p q = refl
 
 -- the table after a key, by its type
-pub noted-other : (s table : List ℕ) (o i : ℕ) → (keyFrom s o .type ≡ 25 → ⊥) → table ≡ noted s table o i
+pub noted-other : (s table : List ℕ) (o i : ℕ) → (keyHere s o .type ≡ 25 → ⊥) → table ≡ noted s table o i
 unfolding noted
-noted-other s table o i e = simp (ne-eqb (keyFrom s o .type) 25 e)
+noted-other s table o i e = simp (ne-eqb (keyHere s o .type) 25 e)
 
-pub noted-this : (s table : List ℕ) (o i : ℕ) {b : Bucket} → keyFrom s o .type ≡ 25 → b ≡ bucketFrom s o
+pub noted-this : (s table : List ℕ) (o i : ℕ) {b : Bucket} → keyHere s o .type ≡ 25 → b ≡ bucketHere s o
     → set table (b .0) (i + 1) ≡ noted s table o i
 unfolding noted
-noted-this s table o i e p = simp (eq-eqb (keyFrom s o .type) 25 e, p)
+noted-this s table o i e p = simp (eq-eqb (keyHere s o .type) 25 e, p)

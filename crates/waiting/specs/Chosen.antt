@@ -5,16 +5,16 @@ use mathlib.Core.Bool.{Bool, cond}
 use Rattle.calls.specs.Lists.{those}
 use Rattle.calls.specs.CallList.{Trees}
 use Rattle.calls.specs.Discard.{isDiscarded}
-use Rattle.waiting.specs.Offsets.{keyFrom, keysFrom}
+use Rattle.reader.specs.KeyHere.{keyHere, keysHere}
 
 -- what a discard looks at beside an alloc key: the need-discard keys alone
 abbrev pub needTrees : List ℕ → List ℕ → Trees
 needTrees s needs =
-    record { alloc = []; lru = []; freespace = []; needDiscard = keysFrom s needs; backpointers = []; gens = [] }
+    record { alloc = []; lru = []; freespace = []; needDiscard = keysHere s needs; backpointers = []; gens = [] }
 
 -- the alloc key at an offset is discarded
 abbrev pub isFreed : List ℕ → List ℕ → ℕ → Bool
-isFreed s needs o = isDiscarded (needTrees s needs) (keyFrom s o)
+isFreed s needs o = isDiscarded (needTrees s needs) (keyHere s o)
 
 -- the offsets of those that are, in alloc order
 abbrev pub freedFrom : List ℕ → List ℕ → List ℕ → List ℕ

@@ -1,3 +1,3 @@
-pub mod Offsets
+pub mod Kept
 pub mod Table
 pub mod Chosen

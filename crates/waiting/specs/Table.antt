@@ -12,7 +12,8 @@ use Rattle.wire.specs.Positions.{bucketIn}
 use Rattle.wire.specs.declared.kinds.Bucket.{Bucket}
 use Rattle.calls.specs.Limits.{isSet}
 use Rattle.calls.specs.Discard.{waitingKey}
-use Rattle.waiting.specs.Offsets.{keyFrom, keysFrom, bucketFrom, NeedKept}
+use Rattle.reader.specs.KeyHere.{keyHere, keysHere}
+use Rattle.waiting.specs.Kept.{bucketHere, NeedKept}
 use Rattle.waiting.specs.declared.waiting.Waits.{Waits}
 use Rattle.waiting.specs.declared.waiting.Waits.the-variants.{At, Not}
 
@@ -28,7 +29,7 @@ names k b = isSet k && sameBucket (bucketIn (k .pos)) b
 -- The entry of a bucket: 0 where none of the keys names it, else the place of the last that does, counted from 1.
 pub record Entry (s needs : List ℕ) (ks : List Key) (b : Bucket) (e : ℕ) : Type 0 where
   pub unnamed : e ≡ 0 → waitingKey ks b ≡ none
-  pub named : 0 < e → (e ≤ length needs) × (waitingKey ks b ≡ some (keyFrom s (getD needs (e - 1) 0)))
+  pub named : 0 < e → (e ≤ length needs) × (waitingKey ks b ≡ some (keyHere s (getD needs (e - 1) 0)))
 
 -- each bucket within the limit has the entry that these of the need-discard keys give it
 abbrev pub Entries : List ℕ → List ℕ → List Key → List ℕ → Type 0
@@ -37,8 +38,8 @@ Entries s needs ks table = (b : Bucket) → b .0 < 65536 → Entry s needs ks b 
 -- A table with an entry for each bucket is filled, and the need-discard keys stand where they are looked for.
 pub record Tabled (s needs table : List ℕ) : Type 0 where
   pub kept : All (NeedKept s) needs
-  pub entries : 65536 ≤ length table → Entries s needs (keysFrom s needs) table
+  pub entries : 65536 ≤ length table → Entries s needs (keysHere s needs) table
 
 -- the table after the need-discard key at an offset, the one at place i: a key of another type than 25 names no bucket
 unfoldable pub noted : List ℕ → List ℕ → ℕ → ℕ → List ℕ
-noted s table o i = cond (isSet (keyFrom s o)) (set table (bucketFrom s o .0) (i + 1)) table
+noted s table o i = cond (isSet (keyHere s o)) (set table (bucketHere s o .0) (i + 1)) table

@@ -7,13 +7,14 @@ ghost use lib.ListN.{length, take, drop};
 ghost use Rattle.wire.specs.Bytes.{All};
 ghost use Rattle.calls.specs.Lists.{isNone};
 ghost use Rattle.calls.specs.Discard.{waitingKey, genTaken};
-ghost use Rattle.waiting.specs.Offsets.{keysFrom, AllocKept};
+ghost use Rattle.reader.specs.KeyHere.{keysHere};
+ghost use Rattle.waiting.specs.Kept.{AllocKept};
 ghost use Rattle.waiting.specs.Table.{Tabled};
 ghost use Rattle.waiting.specs.Chosen.{isFreed, freedFrom, ifChosen};
-use crate::found;
 use crate::waiting;
 use crate::waiting::Waits;
 use format::alloc;
+use reader::key;
 use wire::kinds::Bucket;
 use wire::positions;
 
@@ -28,7 +29,7 @@ pub fn gen_taken(s: &[u8], at: usize) -> bool
 // Whether a need-discard key names a bucket.
 fn is_waiting(s: &[u8], needs: &[u32], table: &[u16], b: Bucket) -> bool
     requires { ⌜ Tabled (now s) (now needs) (now table) × (b .0 < 65536) ⌝ }
-    ensures { λ r. ⌜ r ≡ not (isNone (waitingKey (keysFrom (now (s .entry)) (now (needs .entry))) b)) ⌝ }
+    ensures { λ r. ⌜ r ≡ not (isNone (waitingKey (keysHere (now (s .entry)) (now (needs .entry))) b)) ⌝ }
 {
     let w = waiting::waiting_at(s, needs, table, b);
     if let Waits::Not = w {
@@ -42,21 +43,22 @@ fn is_discarded(s: &[u8], o: u32, needs: &[u32], table: &[u16]) -> bool
     requires { ⌜ AllocKept (now s) o × Tabled (now s) (now needs) (now table) ⌝ }
     ensures { λ r. ⌜ r ≡ isFreed (now (s .entry)) (now (needs .entry)) o ⌝ }
 {
-    if found::type_at(s, o) != 27 {
+    let at = o as usize;
+    if key::type_at(s, at) != 27 {
         return false;
     }
-    let pos = found::pos_at(s, o);
+    let pos = key::pos_at(s, at);
     if pos.inode != 0 {
         return false;
     }
-    if found::size_at(s, o) < 93 {
+    if key::value_len(s, at) < 56 {
         return false;
     }
-    let at = o as usize + 37;
-    if alloc::data_type(s, at) != 9 {
+    let value = key::value_at(s, at);
+    if alloc::data_type(s, value) != 9 {
         return false;
     }
-    if !gen_taken(s, at) {
+    if !gen_taken(s, value) {
         return false;
     }
     is_waiting(s, needs, table, positions::bucket_in(pos))

@@ -1,4 +1,3 @@
 // Waiting: which buckets that wait are discarded, by their need-discard and alloc keys.
-pub mod found;
 pub mod freed;
 pub mod waiting;

@@ -6,9 +6,10 @@ ghost use Prim.Native.Nat.{_≤_, _<_};
 ghost use lib.ListN.{length, replicate};
 ghost use Rattle.wire.specs.Bytes.{All};
 ghost use Rattle.calls.specs.Discard.{waitingKey};
-ghost use Rattle.waiting.specs.Offsets.{keyFrom, keysFrom, NeedKept};
+ghost use Rattle.reader.specs.KeyHere.{keyHere, keysHere};
+ghost use Rattle.waiting.specs.Kept.{NeedKept};
 ghost use Rattle.waiting.specs.Table.{waitsOf, names, Entry, Tabled, noted};
-use crate::found;
+use reader::key;
 use wire::bpos::Bpos;
 use wire::kinds;
 use wire::kinds::Bucket;
@@ -24,10 +25,10 @@ fn note(table: &mut [u16; 65536], s: &[u8], o: u32, i: usize)
     requires { ⌜ NeedKept (now s) o × (i < 4096) ⌝ }
     ensures { λ r. ⌜ now (table .exit) ≡ noted (now (s .entry)) (now (table .entry)) o i ⌝ }
 {
-    if found::type_at(s, o) != 25 {
+    if key::type_at(s, o as usize) != 25 {
         return;
     }
-    let b = found::bucket_at(s, o);
+    let b = key::bucket_at(s, o as usize);
     table[b.0 as usize] = (i + 1) as u16;
 }
 
@@ -46,10 +47,10 @@ pub fn note_waiting(table: &mut [u16; 65536], s: &[u8], needs: &[u32])
 // Whether the need-discard key at an offset names a bucket, which a key of another type than 25 does not.
 fn names_bucket(s: &[u8], o: u32, b: Bucket) -> bool
     requires { ⌜ NeedKept (now s) o ⌝ }
-    ensures { λ r. ⌜ r ≡ names (keyFrom (now (s .entry)) o) b ⌝ }
+    ensures { λ r. ⌜ r ≡ names (keyHere (now (s .entry)) o) b ⌝ }
 {
-    if kinds::same_bucket(found::bucket_at(s, o), b) {
-        return found::type_at(s, o) == 25;
+    if kinds::same_bucket(key::bucket_at(s, o as usize), b) {
+        return key::type_at(s, o as usize) == 25;
     }
     false
 }
@@ -57,7 +58,7 @@ fn names_bucket(s: &[u8], o: u32, b: Bucket) -> bool
 // The entry of a bucket, by a search through the keys: the last that names it stands.
 fn search_entry(s: &[u8], needs: &[u32], b: Bucket) -> usize
     requires { ⌜ All (NeedKept (now s)) (now needs) ⌝ }
-    ensures { λ r. ⌜ Entry (now (s .entry)) (now (needs .entry)) (keysFrom (now (s .entry)) (now (needs .entry))) b r ⌝ }
+    ensures { λ r. ⌜ Entry (now (s .entry)) (now (needs .entry)) (keysHere (now (s .entry)) (now (needs .entry))) b r ⌝ }
 {
     let mut e: usize = 0;
     let mut i: usize = 0;
@@ -73,7 +74,7 @@ fn search_entry(s: &[u8], needs: &[u32], b: Bucket) -> usize
 // The entry of a bucket: from the table, where it has one for each bucket, else by a search.
 fn entry_of(s: &[u8], needs: &[u32], table: &[u16], b: Bucket) -> usize
     requires { ⌜ Tabled (now s) (now needs) (now table) × (b .0 < 65536) ⌝ }
-    ensures { λ r. ⌜ Entry (now (s .entry)) (now (needs .entry)) (keysFrom (now (s .entry)) (now (needs .entry))) b r ⌝ }
+    ensures { λ r. ⌜ Entry (now (s .entry)) (now (needs .entry)) (keysHere (now (s .entry)) (now (needs .entry))) b r ⌝ }
 {
     if table.len() < 65536 {
         return search_entry(s, needs, b);
@@ -84,11 +85,11 @@ fn entry_of(s: &[u8], needs: &[u32], table: &[u16], b: Bucket) -> usize
 // The key that stands for a bucket. `discard_lists` chooses the table.
 pub fn waiting_at(s: &[u8], needs: &[u32], table: &[u16], b: Bucket) -> Waits
     requires { ⌜ Tabled (now s) (now needs) (now table) × (b .0 < 65536) ⌝ }
-    ensures { λ r. ⌜ r ≡ waitsOf (waitingKey (keysFrom (now (s .entry)) (now (needs .entry))) b) ⌝ }
+    ensures { λ r. ⌜ r ≡ waitsOf (waitingKey (keysHere (now (s .entry)) (now (needs .entry))) b) ⌝ }
 {
     let e = entry_of(s, needs, table, b);
     if e == 0 {
         return Waits::Not;
     }
-    Waits::At(found::pos_at(s, needs[e - 1]))
+    Waits::At(key::pos_at(s, needs[e - 1] as usize))
 }

@@ -13,10 +13,6 @@ use Rattle.wire.specs.declared.kinds.FileSector.{FileSector}
 abbrev pub sectorAt : Bucket → ℕ → ℕ → DeviceSector
 sectorAt b sectors offset = record { 0 = b .0 * sectors + offset }
 
--- a bucket's first sector
-abbrev pub firstSector : Bucket → ℕ → DeviceSector
-firstSector b sectors = sectorAt b sectors 0
-
 -- the bucket that a sector lies in, where a bucket has so many sectors
 abbrev pub bucketOf : DeviceSector → ℕ → Bucket
 bucketOf d sectors = record { 0 = d .0 / sectors }

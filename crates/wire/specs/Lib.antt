@@ -6,7 +6,6 @@ pub mod Order
 pub mod Fields
 pub mod Keys
 pub mod Held
-pub mod Walk
 pub mod Encode
 pub mod Output
 pub mod Rows

@@ -2,7 +2,7 @@
 ghost use mathlib.Core.Path.{_≡_};
 ghost use Prim.Native.Nat.{_+_, _<_, _≤_, _^_};
 ghost use lib.ListN.{length, drop};
-ghost use Rattle.wire.specs.Kinds.{sectorAt, firstSector, bucketOf, offsetIn, extentEnd, nextBucket, sameBucket, bucketBelow, bucketInRange, runEndInRange, runStart, beganBefore, bucketsUpTo, bucketRead, baseInRange, sectorWord};
+ghost use Rattle.wire.specs.Kinds.{sectorAt, bucketOf, offsetIn, extentEnd, nextBucket, sameBucket, bucketBelow, bucketInRange, runEndInRange, runStart, beganBefore, bucketsUpTo, bucketRead, baseInRange, sectorWord};
 use crate::le;
 
 pub struct Bucket(pub u64);
@@ -17,14 +17,6 @@ pub fn sector_at(b: Bucket, sectors: u64, offset: u64) -> DeviceSector
     ensures { λ r. ⌜ r ≡ sectorAt b sectors offset ⌝ }
 {
     DeviceSector(b.0 * sectors + offset)
-}
-
-// A bucket's first sector, with the same bounds.
-pub fn first_sector(b: Bucket, sectors: u64) -> DeviceSector
-    requires { ⌜ (b .0 < 65536) × (sectors < 65536) ⌝ }
-    ensures { λ r. ⌜ r ≡ firstSector b sectors ⌝ }
-{
-    sector_at(b, sectors, 0)
 }
 
 // The bucket that a sector lies in. Refusal 4 shows that a bucket has sectors.

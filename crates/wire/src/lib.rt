@@ -8,4 +8,3 @@ pub mod kinds;
 pub mod le;
 pub mod positions;
 pub mod rows;
-pub mod walk;

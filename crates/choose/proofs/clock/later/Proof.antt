@@ -1,11 +1,11 @@
 -- `later` meets its contract.
 use mathlib.Core.Path.{_≡_, refl, sym, ap, _∙_}
-use Prim.Native.Nat.{_+_, _≤_}
-use lib.ListN.{length}
+use Prim.Native.Nat.{ℕ, _≤_}
+use lib.ListN.{length, drop}
 use Rattle.format.specs.Packing.{get}
 use Rattle.format.specs.AllocV4.{ioTimeWrite}
-use Rattle.choose.specs.Parts.{keyHere}
-use Rattle.choose.proofs.PartLaws.{member-here, value-within}
+use Rattle.reader.specs.KeyHere.{keyHere}
+use Rattle.reader.proofs.KeyHereLaws.{member-here, value-within}
 use Rattle.choose.proofs.ClockLaws.{clock-other, clock-short, clock-later}
 use native.Mathlib.Omega.{arith}
 use borrow.Author.Needs.{needs}
@@ -19,9 +19,12 @@ long : (c : tie.Else2) → 40 ≤ length (keyHere (c .before .before .before .be
 long c = omega (arith, c .before .value-len .ensures)
 
 timed : (c : tie.After-write-time) →
-    let a = c .before .before .before .before .before .before in
+    let a = c .before .before .before .before .before .before .before in
     c .write-time .result ≡ get ioTimeWrite (keyHere (a .args .s .now) (a .args .at) .value)
-timed c = c .write-time .ensures ∙ sym (member-here ioTimeWrite _ _ (c .before .before .before .before .before .before .pre) (omega (arith, long (c .before))))
+timed c =
+    let a = c .before .before .before .before .before .before .before in
+    c .write-time .ensures ∙ ap (λ (n : ℕ). get ioTimeWrite (drop n (a .args .s .now))) (c .before .value-at .ensures)
+    ∙ sym (member-here _ _ (a .pre) ioTimeWrite (omega (arith, long (c .before .before))))
 
 type-at-requires : tie.Need-type-at-requires
 type-at-requires c κs = search needs
@@ -35,21 +38,21 @@ value-len-requires c κs = search needs
 returns-2 : tie.Need-returns-2
 returns-2 c = clock-short _ _ (omega (arith, c .before .value-len .ensures))
 
-add-write-time : tie.Need-add-write-time
-add-write-time c = search needs
+value-at-requires : tie.Need-value-at-requires
+value-at-requires c κs = search needs
 
 write-time-requires : tie.Need-write-time-requires
-write-time-requires c κs = omega (arith, c .before .value-len .ensures, value-within _ _ (c .before .before .before .before .before .pre))
+write-time-requires c κs = omega (arith, c .value-at .ensures, c .before .before .value-len .ensures, value-within _ _ (c .before .before .before .before .before .before .pre))
 
 returns-3 : tie.Need-returns-3
 returns-3 c =
-    let k = long (c .before .before) in
-    clock-later _ _ _ (typed (c .before .before)) k (omega (arith, timed (c .before)))
+    let k = long (c .before .before .before) in
+    clock-later _ _ _ (typed (c .before .before .before)) k (omega (arith, timed (c .before)))
 
 returns-4 : tie.Need-returns-4
 returns-4 c =
-    let k = long (c .before .before) in
-    clock-later _ _ _ (typed (c .before .before)) k (omega (arith, timed (c .before)))
+    let k = long (c .before .before .before) in
+    clock-later _ _ _ (typed (c .before .before .before)) k (omega (arith, timed (c .before)))
 
 pub later-spec : {M : Type 1} → statement M
 later-spec =
@@ -59,7 +62,7 @@ later-spec =
     returns
     value-len-requires
     returns-2
-    add-write-time
+    value-at-requires
     write-time-requires
     returns-3
     returns-4)

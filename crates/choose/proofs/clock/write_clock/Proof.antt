@@ -4,7 +4,7 @@ use Prim.Native.Nat.{_-_}
 use lib.ListN.{length, drop}
 use mathlib.Core.Bool.{false}
 use Rattle.calls.specs.Answers.{readVolume}
-use Rattle.choose.proofs.PartLaws.{whole-at, keys-next}
+use Rattle.reader.proofs.KeyHereLaws.{whole-at, keys-next}
 use Rattle.choose.proofs.ClockLaws.{latestOf, latest-on, latest-end, clock-found, clock-none}
 use native.Mathlib.Omega.{arith}
 use Rattle.choose.proofs.clock.write_clock.Statement.{statement}

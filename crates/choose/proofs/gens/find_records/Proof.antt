@@ -5,8 +5,8 @@ use mathlib.Core.List.{List, _∷_}
 use lib.ListN.{length, drop, getD, drop-of-length-le}
 use Rattle.wire.specs.Keys.{Key}
 use Rattle.calls.specs.Answers.{readVolume}
-use Rattle.choose.specs.Parts.{keyHere}
-use Rattle.choose.proofs.PartLaws.{whole-at, keys-next}
+use Rattle.reader.specs.KeyHere.{keyHere}
+use Rattle.reader.proofs.KeyHereLaws.{whole-at, keys-next}
 use Rattle.choose.proofs.RecordLaws.{Noting, noting-start, noting-on}
 use native.Mathlib.Omega.{arith}
 use Rattle.choose.proofs.gens.find_records.Statement.{statement}

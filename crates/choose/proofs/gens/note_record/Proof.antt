@@ -4,7 +4,7 @@ use mathlib.Core.List.{List}
 use Prim.Native.Nat.{ℕ, _+_, _-_, _/_, _%_, _≤_, _<_}
 use lib.ListN.{set}
 use Rattle.wire.specs.declared.bpos.Bpos.{Bpos}
-use Rattle.choose.specs.Parts.{keyHere}
+use Rattle.reader.specs.KeyHere.{keyHere}
 use Rattle.choose.proofs.RecordLaws.{noted-inode, noted-snapshot, noted-past, noted-record, noted-other}
 use native.Mathlib.Omega.{arith}
 use borrow.Author.Needs.{needs}

@@ -8,9 +8,9 @@ use Rattle.format.specs.AllocV4.{dataType}
 use Rattle.wire.specs.declared.bpos.Bpos.{Bpos}
 use Rattle.wire.specs.declared.kinds.Bucket.{Bucket}
 use Rattle.wire.specs.Positions.{bucketIn}
-use Rattle.choose.specs.Parts.{keyHere}
+use Rattle.reader.specs.KeyHere.{valueAt, keyHere}
 use Rattle.choose.specs.Bits.{withMark}
-use Rattle.choose.proofs.PartLaws.{value-within, byte-here}
+use Rattle.reader.proofs.KeyHereLaws.{value-within, byte-here}
 use Rattle.choose.proofs.MarkLaws.{used-inode, used-short, used-free, used-here}
 use native.Mathlib.Omega.{arith}
 use borrow.Author.Needs.{needs}
@@ -19,13 +19,13 @@ use Rattle.choose.proofs.marks.mark_key.Tie as tie
 
 -- the byte that is read is the value's
 byte : (c : tie.After-data-type) →
-    let a = c .before .before .before .before .before .before .before in
+    let a = c .before .before .before .before .before .before .before .before in
     c .data-type .result ≡ getD (keyHere (a .args .s .now) (a .args .at) .value) 14 0
 unfolding get
 byte c =
-    let a = c .before .before .before .before .before .before .before in
+    let a = c .before .before .before .before .before .before .before .before in
     c .data-type .ensures
-    ∙ rw (drop-drop 14 (a .args .at + 37) (a .args .s .now)) (byte-here (a .args .s .now) (a .args .at) 14 (a .pre .0) (omega (arith, c .before .before .value-len .ensures)))
+    ∙ rw (c .before .value-at .ensures, drop-drop 14 (valueAt (a .args .at)) (a .args .s .now)) (byte-here (a .args .s .now) (a .args .at) (a .pre .0) 14 (omega (arith, c .before .before .before .value-len .ensures)))
 
 pos-at-requires : tie.Need-pos-at-requires
 pos-at-requires c κs = search needs
@@ -43,17 +43,17 @@ returns-2 c =
     let a = c .before .before .before .before .before .before in
     used-short (keyHere (a .args .s .now) (a .args .at)) _ (omega (arith, c .before .value-len .ensures))
 
-add-data-type : tie.Need-add-data-type
-add-data-type c = search needs
+value-at-requires : tie.Need-value-at-requires
+value-at-requires c κs = search needs
 
 data-type-requires : tie.Need-data-type-requires
 data-type-requires c κs =
-    let a = c .before .before .before .before .before .before in
-    omega (arith, c .before .value-len .ensures, value-within (a .args .s .now) (a .args .at) (a .pre .0))
+    let a = c .before .before .before .before .before .before .before in
+    omega (arith, c .value-at .ensures, c .before .before .value-len .ensures, value-within (a .args .s .now) (a .args .at) (a .pre .0))
 
 returns-3 : tie.Need-returns-3
 returns-3 c =
-    let a = c .before .before .before .before .before .before .before .before in
+    let a = c .before .before .before .before .before .before .before .before .before in
     used-free (keyHere (a .args .s .now) (a .args .at)) _ (sym (byte (c .before)) ∙ c .if3 .taken)
 
 bucket-in-requires : tie.Need-bucket-in-requires
@@ -61,21 +61,21 @@ bucket-in-requires c κs = search needs
 
 mark-requires : tie.Need-mark-requires
 mark-requires c κs =
-    let a = c .before .before .before .before .before .before .before .before .before .before in
+    let a = c .before .before .before .before .before .before .before .before .before .before .before in
     let k = keyHere (a .args .s .now) (a .args .at) in
-    let e = c .before .before .before .before .before .before .before .before .pos-at .ensures in
-    let i : k .pos .inode ≡ 0 = sym (ap (λ (p : Bpos). p .inode) e) ∙ c .before .before .before .before .before .before .if1 .left in
+    let e = c .before .before .before .before .before .before .before .before .before .pos-at .ensures in
+    let i : k .pos .inode ≡ 0 = sym (ap (λ (p : Bpos). p .inode) e) ∙ c .before .before .before .before .before .before .before .if1 .left in
     rw (c .bucket-in .ensures, e) (a .pre .1 i)
 
 returns-4 : tie.Need-returns-4
 returns-4 c =
     let d = c .before .before .before in
-    let a = d .before .before .before .before .before .before .before .before in
+    let a = d .before .before .before .before .before .before .before .before .before in
     let k = keyHere (a .args .s .now) (a .args .at) in
-    let e = d .before .before .before .before .before .before .pos-at .ensures in
+    let e = d .before .before .before .before .before .before .before .pos-at .ensures in
     c .mark .ensures ∙ ap (λ (b : Bucket). withMark (a .args .bits .now) b) (c .before .bucket-in .ensures ∙ ap bucketIn e)
-    ∙ used-here k _ (sym (ap (λ (p : Bpos). p .inode) e) ∙ d .before .before .before .before .if1 .left)
-    (omega (arith, d .before .before .before .value-len .ensures)) (λ z. d .if3 .left (byte (d .before) ∙ z))
+    ∙ used-here k _ (sym (ap (λ (p : Bpos). p .inode) e) ∙ d .before .before .before .before .before .if1 .left)
+    (omega (arith, d .before .before .before .before .value-len .ensures)) (λ z. d .if3 .left (byte (d .before) ∙ z))
 
 pub mark-key-spec : {M : Type 1} → statement M
 mark-key-spec =
@@ -85,7 +85,7 @@ mark-key-spec =
     returns
     value-len-requires
     returns-2
-    add-data-type
+    value-at-requires
     data-type-requires
     returns-3
     bucket-in-requires

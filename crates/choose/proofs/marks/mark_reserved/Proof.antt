@@ -12,7 +12,7 @@ use Rattle.wire.specs.Kinds.{sameBucket, bucketInRange}
 use Rattle.calls.specs.Freespace.{isIn}
 use Rattle.choose.specs.Bits.{marked, withMark}
 use Rattle.choose.proofs.CheckedLaws.{reserved-range}
-use Rattle.choose.proofs.PartLaws.{buckets-next}
+use Rattle.choose.proofs.ListLaws.{buckets-next}
 use Rattle.choose.proofs.BitLaws.{mark-told, mark-length}
 use Rattle.choose.proofs.MarkLaws.{Marking, marking-start, marking-on, marking-end}
 use native.Mathlib.Omega.{arith}

@@ -7,10 +7,10 @@ use Rattle.calls.specs.Answers.{readVolume}
 use Rattle.choose.proofs.CheckedLaws.{all-drop, all-first}
 use mathlib.Core.List.{List}
 use Rattle.wire.specs.declared.kinds.Bucket.{Bucket}
-use Rattle.choose.specs.Parts.{keyHere}
+use Rattle.reader.specs.KeyHere.{keyHere}
 use Rattle.choose.specs.Bits.{marked, Marks}
 use Rattle.choose.proofs.CheckedLaws.{inRange, range-at, alloc-range, trees-in-order}
-use Rattle.choose.proofs.PartLaws.{whole-at, keys-next}
+use Rattle.reader.proofs.KeyHereLaws.{whole-at, keys-next}
 use Rattle.choose.proofs.MarkLaws.{Marking, marking-start, marking-on, marking-end, usesBucket, used-told, used-length, used-any, used-inode-0}
 use native.Mathlib.Omega.{arith}
 use Rattle.choose.proofs.marks.mark_used.Statement.{statement}

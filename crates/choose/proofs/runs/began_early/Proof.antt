@@ -4,9 +4,8 @@ use Prim.Native.Nat.{ℕ, _+_, _-_, _*_, _≤_, _<_}
 use Rattle.wire.specs.declared.kinds.Bucket.{Bucket}
 use borrow.Author.Tests.{not-true, not-false}
 use Rattle.wire.specs.Kinds.{beganBefore}
-use Rattle.wire.specs.Positions.{bucketIn}
 use Rattle.calls.specs.Freespace.{endOf}
-use Rattle.choose.specs.Parts.{keyHere}
+use Rattle.reader.specs.KeyHere.{keyHere}
 use Rattle.choose.proofs.RunLaws.{early-not, early-else}
 use borrow.Author.Needs.{needs}
 use Rattle.choose.proofs.runs.began_early.Statement.{statement}
@@ -18,11 +17,8 @@ is-run-requires c κs = search needs
 returns : tie.Need-returns
 returns c = let a = c .before .before .before .args in sym (early-not (keyHere (a .s .now) (a .at)) (sym (c .before .is-run .ensures) ∙ not-true _ (c .if1 .taken)))
 
-pos-at-requires : tie.Need-pos-at-requires
-pos-at-requires c κs = search needs
-
-bucket-in-requires : tie.Need-bucket-in-requires
-bucket-in-requires c κs = search needs
+bucket-at-requires : tie.Need-bucket-at-requires
+bucket-at-requires c κs = search needs
 
 size-at-requires : tie.Need-size-at-requires
 size-at-requires c κs = search needs
@@ -32,11 +28,11 @@ began-before-requires c κs = search needs
 
 returns-2 : tie.Need-returns-2
 returns-2 c =
-    let e = c .before .before .before .before in
+    let e = c .before .before .before in
     let a = e .before .before .before .args in
     let k = keyHere (a .s .now) (a .at) in
     c .began-before .ensures
-    ∙ ap (λ (b : Bucket). beganBefore b (c .before .size-at .result)) (c .before .before .bucket-in .ensures ∙ ap bucketIn (c .before .before .before .pos-at .ensures))
+    ∙ ap (λ (b : Bucket). beganBefore b (c .before .size-at .result)) (c .before .before .bucket-at .ensures)
     ∙ ap (λ (n : ℕ). beganBefore (endOf k) n) (c .before .size-at .ensures)
     ∙ sym (early-else k (sym (e .before .is-run .ensures) ∙ not-false _ (e .if1 .left)))
 
@@ -46,8 +42,7 @@ began-early-spec =
     (tie.spec
     is-run-requires
     returns
-    pos-at-requires
-    bucket-in-requires
+    bucket-at-requires
     size-at-requires
     began-before-requires
     returns-2)

@@ -8,10 +8,10 @@ use mathlib.Core.Bool.{true}
 use mathlib.Core.Logic.{⊎-elim}
 use lib.ListN.{length, drop, getD}
 use Rattle.calls.specs.Answers.{readVolume}
-use Rattle.choose.specs.Parts.{keyHere}
+use Rattle.reader.specs.KeyHere.{keyHere}
 use Rattle.choose.specs.Runs.{countBelow}
 use Rattle.choose.proofs.CheckedLaws.{all-drop, all-first, endInRange, run-range, trees-in-order}
-use Rattle.choose.proofs.PartLaws.{whole-at, keys-next}
+use Rattle.reader.proofs.KeyHereLaws.{whole-at, keys-next}
 use Rattle.choose.proofs.RunLaws.{rising, meets-all}
 use Rattle.wire.proofs.KindLaws.{from-length}
 use Rattle.choose.proofs.FreeLaws.{Counting, RunCounted, counting-start, counting-end, counting-on, counting-past, counting-at}

@@ -9,11 +9,11 @@ use lib.ListN.{length, drop, getD}
 use Rattle.wire.specs.Kinds.{noBucket, bucketBelow}
 use Rattle.calls.specs.Answers.{readVolume}
 use Rattle.calls.specs.Freespace.{runsOf, overlaps}
-use Rattle.choose.specs.Parts.{keyHere}
+use Rattle.reader.specs.KeyHere.{keyHere}
 use Rattle.choose.specs.Runs.{runIn}
 use Rattle.choose.specs.declared.runs.Run.{Run}
 use Rattle.choose.proofs.CheckedLaws.{trees-in-order}
-use Rattle.choose.proofs.PartLaws.{whole-at, keys-next}
+use Rattle.reader.proofs.KeyHereLaws.{whole-at, keys-next}
 use Rattle.choose.proofs.RunLaws.{meets, meets-all, meets-skip, meets-stop, meets-on, meets-none, isSome}
 use native.Mathlib.Omega.{arith}
 use borrow.Author.Needs.{needs}

@@ -7,7 +7,7 @@ use lib.ListN.{length, drop, getD}
 use borrow.Author.Tests.{ltb-true, ltb-false, not-true, not-false}
 use Rattle.calls.specs.Answers.{readVolume}
 use Rattle.choose.specs.Runs.{countBelow}
-use Rattle.choose.proofs.PartLaws.{buckets-next}
+use Rattle.choose.proofs.ListLaws.{buckets-next}
 use Rattle.choose.proofs.RunLaws.{Rising, rising}
 use Rattle.choose.proofs.FreeLaws.{count-length, count-more, count-most}
 use native.Mathlib.Omega.{arith}

@@ -1,8 +1,7 @@
 -- `run_of` meets its contract.
 use mathlib.Core.Path.{_≡_, refl, sym, ap, _∙_}
 use borrow.Author.Tests.{not-true, not-false}
-use Rattle.wire.specs.Positions.{bucketIn}
-use Rattle.choose.specs.Parts.{keyHere}
+use Rattle.reader.specs.KeyHere.{keyHere}
 use Rattle.choose.proofs.RunLaws.{run-none, run-some}
 use borrow.Author.Needs.{needs}
 use Rattle.choose.proofs.runs.run_of.Statement.{statement}
@@ -14,11 +13,8 @@ is-run-requires c κs = search needs
 returns : tie.Need-returns
 returns c = let a = c .before .before .before .args in run-none (keyHere (a .s .now) (a .at)) (sym (c .before .is-run .ensures) ∙ not-true _ (c .if1 .taken))
 
-pos-at-requires : tie.Need-pos-at-requires
-pos-at-requires c κs = search needs
-
-bucket-in-requires : tie.Need-bucket-in-requires
-bucket-in-requires c κs = search needs
+bucket-at-requires : tie.Need-bucket-at-requires
+bucket-at-requires c κs = search needs
 
 size-at-requires : tie.Need-size-at-requires
 size-at-requires c κs = search needs
@@ -28,10 +24,10 @@ run-start-requires c κs = search needs
 
 returns-2 : tie.Need-returns-2
 returns-2 c =
-    let e = c .before .before .before .before in
+    let e = c .before .before .before in
     let a = e .before .before .before .args in
     run-some (keyHere (a .s .now) (a .at)) (sym (e .before .is-run .ensures) ∙ not-false _ (e .if1 .left))
-    (c .before .before .bucket-in .ensures ∙ ap bucketIn (c .before .before .before .pos-at .ensures)) (c .before .size-at .ensures) (c .run-start .ensures)
+    (c .before .before .bucket-at .ensures) (c .before .size-at .ensures) (c .run-start .ensures)
 
 pub run-of-spec : {M : Type 1} → statement M
 run-of-spec =
@@ -39,8 +35,7 @@ run-of-spec =
     (tie.spec
     is-run-requires
     returns
-    pos-at-requires
-    bucket-in-requires
+    bucket-at-requires
     size-at-requires
     run-start-requires
     returns-2)

@@ -8,9 +8,9 @@ use mathlib.Core.Bool.{true}
 use lib.ListN.{length, drop, getD}
 use Rattle.calls.specs.Answers.{readVolume}
 use Rattle.calls.specs.Freespace.{isIn, isUsed, runsOf, walk}
-use Rattle.choose.specs.Parts.{keyHere}
+use Rattle.reader.specs.KeyHere.{keyHere}
 use Rattle.choose.proofs.CheckedLaws.{all-drop, all-first, endInRange, end-at, run-range}
-use Rattle.choose.proofs.PartLaws.{whole-at, keys-next}
+use Rattle.reader.proofs.KeyHereLaws.{whole-at, keys-next}
 use Rattle.choose.proofs.TakeLaws.{Walking, walking-start, walking-full, walking-end, walking-refused, walking-on}
 use native.Mathlib.Omega.{arith}
 use Rattle.choose.proofs.take.take_buckets.Statement.{statement}

@@ -2,7 +2,7 @@
 use mathlib.Core.Path.{_≡_, refl, sym, ap, _∙_, subst⁻¹}
 use Prim.Native.Nat.{ℕ, _+_, _-_, _*_, _≤_, _<_}
 use borrow.Author.Tests.{not-true, not-false}
-use Rattle.choose.specs.Parts.{keyHere}
+use Rattle.reader.specs.KeyHere.{keyHere}
 use Rattle.choose.specs.declared.runs.Run.{Run}
 use Rattle.choose.proofs.RunLaws.{run-end}
 use Rattle.choose.proofs.TakeLaws.{key-began, key-used, key-free}

@@ -1,6 +1,9 @@
 -- `batch::put_alloc_key` meets its contract. Assumes nothing.
 use native.Mathlib.Omega.{arith}
+use denote.Ref.{now}
+use Prim.Native.Nat.{_≤_}
 use Rattle.wire.proofs.OutputLaws.{resize}
+use Rattle.reader.proofs.KeyHereLaws.{value-length-here}
 use Rattle.discard.proofs.EmitLaws.{held-length, discarded-is}
 use borrow.Author.Needs.{needs}
 use Rattle.discard.proofs.batch.put_alloc_key.Statement.{statement}
@@ -9,21 +12,30 @@ use Rattle.discard.proofs.batch.put_alloc_key.Tie as tie
 key-at-requires : tie.Need-key-at-requires
 key-at-requires c κs = search needs
 
+-- the key's value, as long as `discarded` and `put_key` want it
+long : (c : tie.After-key-at) → (56 ≤ c .key-at .result .value .len) × (c .key-at .result .value .len ≤ 256)
+long c =
+    let a = c .before .before .before in
+    let e = held-length (now (a .args .s)) (a .args .o) (c .key-at .ensures) in
+    let v = value-length-here (now (a .args .s)) (a .args .o) (a .pre .kept) in
+    (omega (arith, e, a .pre .valued), omega (arith, e, v, a .pre .kept .short))
+
 discarded-requires : tie.Need-discarded-requires
-discarded-requires c κs = let h = c .before .before .before .before .before .before .pre in omega (arith, held-length (h .kept) (c .before .before .before .key-at .ensures))
+discarded-requires c κs = long (c .before .before .before)
 
 put-key-requires : tie.Need-put-key-requires
-put-key-requires c κs = let h = c .before .before .before .before .before .before .before .pre in omega (arith, held-length (h .kept) (c .before .before .before .before .key-at .ensures), c .discarded .ensures .0)
+put-key-requires c κs = omega (arith, long (c .before .before .before .before), c .discarded .ensures .0)
 
 same-length : tie.Need-same-length
 same-length c = search needs
 
 returns : tie.Need-returns
 returns c =
-    let h = c .before .before .before .before .before .before .before .before .before .before .pre in
-    let e = c .before .before .before .before .before .before .before .key-at .ensures in
+    let k = c .before .before .before .before .before .before .before in
+    let a = k .before .before .before .args in
+    let e = k .key-at .ensures in
     let d = c .before .before .before .discarded in
-    resize (omega (arith, held-length (h .kept) e, d .ensures .0)) (rw (discarded-is (h .kept) e (d .result) (d .ensures .1)) at (c .before .before .put-key .ensures))
+    resize (omega (arith, held-length (now (a .s)) (a .o) e, d .ensures .0)) (rw (discarded-is (now (a .s)) (a .o) e (d .result) (d .ensures .1)) at (c .before .before .put-key .ensures))
 
 pub put-alloc-key-spec : {M : Type 1} → statement M
 put-alloc-key-spec =

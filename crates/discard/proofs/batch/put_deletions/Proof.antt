@@ -4,7 +4,7 @@ use Prim.Native.Nat.{_-_}
 use lib.ListN.{length}
 use Rattle.wire.proofs.OutputLaws.{part-length}
 use Rattle.discard.specs.Emitted.{deletionBytes}
-use Rattle.waiting.proofs.OffsetLaws.{all-at}
+use Rattle.waiting.proofs.KeptLaws.{all-at}
 use Rattle.discard.proofs.EmitLaws.{Emits, emits-none, emits-more, emits-all}
 use Rattle.discard.proofs.batch.put_deletions.Statement.{statement}
 use Rattle.discard.proofs.batch.put_deletions.Tie as tie

@@ -4,7 +4,7 @@ use Prim.Native.Nat.{_-_}
 use lib.ListN.{length}
 use Rattle.wire.proofs.OutputLaws.{part-length}
 use Rattle.discard.specs.Emitted.{unreservedBytes}
-use Rattle.waiting.proofs.OffsetLaws.{all-at}
+use Rattle.waiting.proofs.KeptLaws.{all-at}
 use Rattle.discard.proofs.EmitLaws.{Emits, emits-none, emits-more, emits-all}
 use Rattle.discard.proofs.batch.put_unreserved.Statement.{statement}
 use Rattle.discard.proofs.batch.put_unreserved.Tie as tie
@@ -23,6 +23,9 @@ mul-bucket-at c = omega arith
 
 shared-slice-read-bucket-at : tie.Need-shared-slice-read-bucket-at Inv-loop μ-loop
 shared-slice-read-bucket-at c = omega arith
+
+cast-bucket-at : tie.Need-cast-bucket-at Inv-loop μ-loop
+cast-bucket-at c = omega (arith, c .shared-slice-known3 .given (c .before .before .before .loop .i))
 
 bucket-at-requires : tie.Need-bucket-at-requires Inv-loop μ-loop
 bucket-at-requires c κs = all-at (c .before .before .before .before .before .before .before .pre) (c .before .before .before .loop .i) (omega arith) .kept
@@ -54,6 +57,7 @@ put-unreserved-spec =
     loop-holds
     mul-bucket-at
     shared-slice-read-bucket-at
+    cast-bucket-at
     bucket-at-requires
     put-bucket-requires
     add-i

@@ -5,7 +5,7 @@ use denote.Ref.{now}
 use Prim.Native.Nat.{_≤_, _-_}
 use lib.ListN.{length}
 use Rattle.wire.proofs.OutputLaws.{part-length, wrote-length}
-use Rattle.waiting.proofs.OffsetLaws.{all-at}
+use Rattle.waiting.proofs.KeptLaws.{all-at}
 use Rattle.discard.proofs.RunLaws.{Runs, runs-none, runs-more, runs-all, with-size}
 use Rattle.discard.proofs.runs.put_runs.Statement.{statement}
 use Rattle.discard.proofs.runs.put_runs.Tie as tie
@@ -24,6 +24,9 @@ mul-bucket-at c = omega arith
 
 shared-slice-read-bucket-at : tie.Need-shared-slice-read-bucket-at Inv-loop μ-loop
 shared-slice-read-bucket-at c = omega arith
+
+cast-bucket-at : tie.Need-cast-bucket-at Inv-loop μ-loop
+cast-bucket-at c = omega (arith, c .shared-slice-known3 .given (c .before .before .loop .i))
 
 bucket-at-requires : tie.Need-bucket-at-requires Inv-loop μ-loop
 bucket-at-requires c κs = all-at (c .before .before .before .before .before .before .pre .0) (c .before .before .loop .i) (omega arith) .kept
@@ -70,6 +73,7 @@ put-runs-spec =
     loop-holds
     mul-bucket-at
     shared-slice-read-bucket-at
+    cast-bucket-at
     bucket-at-requires
     put-ended-requires
     with-bucket-requires

@@ -1,7 +1,9 @@
 -- `change::put_keys` meets its contract. Assumes nothing.
 use native.Mathlib.Omega.{arith}
 use mathlib.Core.Path.{sym, ap}
-use Rattle.calls.specs.CallList.{Head}
+use mathlib.Core.List.{List}
+use Rattle.calls.specs.CallList.{Head, Volume}
+use Rattle.calls.specs.Extents as calls
 use Rattle.calls.specs.Place.{placedOf}
 use Rattle.calls.specs.Answers.{readCall, readVolume}
 use Rattle.placed.specs.Plan.{AllocsOf}
@@ -18,6 +20,16 @@ slice-aggregate-fill-dirty c = search needs
 abbrev start : tie.After-dirty → tie.Start
 start c = c .before .before .before .before .before .before .before
 
+-- the volume and the placed pieces that the keys are of
+abbrev volume : tie.Start → Volume
+volume a = readVolume (a .args .s .now)
+
+abbrev placed : tie.Start → List calls.Placed
+placed a = placedOf (readCall (a .args .s .now))
+
+allocs-of : (a : tie.Start) → AllocsOf (volume a) (a .args .taken .now) (a .args .gens .now) (a .args .h .journal) (a .args .clock)
+allocs-of a = record { number = ap (λ (x : Head). x .journal) (sym (a .pre .0 .head)); gens = a .pre .0 .gens; time = a .pre .1 .1 }
+
 fill-dirty-requires : tie.Need-fill-dirty-requires
 fill-dirty-requires c κs = let a = start c in (a .pre .0, (a .pre .0 .short, λ k. zero-at 1024 k))
 
@@ -28,7 +40,10 @@ slice-aggregate-put-allocs : tie.Need-slice-aggregate-put-allocs
 slice-aggregate-put-allocs c = search needs
 
 put-allocs-requires : tie.Need-put-allocs-requires
-put-allocs-requires c κs = let f = c .before .before .before .before .before .before .before in let a = start (f .before) in (omega (arith, gens-length (a .pre .0)), omega (arith, f .fill-dirty .kept .0, a .pre .0 .short))
+put-allocs-requires c κs =
+    let f = c .before .before .before .before .before .before .before in
+    let a = start (f .before) in
+    ((omega (arith, gens-length (a .pre .0)), omega (arith, f .fill-dirty .kept .0, a .pre .0 .short)), (record { volume = volume a; allocs = allocs-of a }, record { placed = placed a; dirty = f .fill-dirty .ensures }))
 
 slice-aggregate-put-lrus : tie.Need-slice-aggregate-put-lrus
 slice-aggregate-put-lrus c = search needs
@@ -37,7 +52,10 @@ cast-put-lrus : tie.Need-cast-put-lrus
 cast-put-lrus c = search needs
 
 put-lrus-requires : tie.Need-put-lrus-requires
-put-lrus-requires c κs = let f = c .before .before .before .before .before .before .before .before .before .before .before .before .before in let a = start (f .before) in (omega (arith, f .fill-dirty .kept .0, a .pre .0 .short), a .pre .0 .sectors)
+put-lrus-requires c κs =
+    let f = c .before .before .before .before .before .before .before .before .before .before .before .before .before in
+    let a = start (f .before) in
+    ((omega (arith, f .fill-dirty .kept .0, a .pre .0 .short), a .pre .0 .sectors), record { placed = placed a; dirty = f .fill-dirty .ensures })
 
 put-queue-requires : tie.Need-put-queue-requires
 put-queue-requires c κs = c .before .before .before .before .before .before .before .before .before .before .before .before .before .before .before .before .before .before .before .before .before .before .before .before .before .pre .1 .0
@@ -57,15 +75,10 @@ returns c =
     let e = m .before .before .before .before .before in
     let f = e .before .before .before in
     let a = start (f .before) in
-    let plan = a .pre .0 in
-    let v = readVolume (a .args .s .now) in
-    let ps = placedOf (readCall (a .args .s .now)) in
-    let allocs : AllocsOf v (a .args .taken .now) (a .args .gens .now) (a .args .h .journal) (a .args .clock) =
-    record { number = ap (λ (x : Head). x .journal) (sym (plan .head)); gens = plan .gens; time = a .pre .1 .1 } in
-    emitted (sym (keys-of plan))
+    emitted (sym (keys-of (a .pre .0)))
     (and-then (e .put-extents .ensures)
-    (and-then (m .put-allocs .ensures v ps allocs (f .fill-dirty .ensures))
-    (and-then (l .put-lrus .ensures ps (f .fill-dirty .ensures)) (and-then (q .put-queue .ensures) (b .put-backpointers .ensures)))))
+    (and-then (m .put-allocs .ensures (volume a) (placed a) (allocs-of a) (f .fill-dirty .ensures))
+    (and-then (l .put-lrus .ensures (placed a) (f .fill-dirty .ensures)) (and-then (q .put-queue .ensures) (b .put-backpointers .ensures)))))
 
 pub put-keys-spec : {M : Type 1} → statement M
 put-keys-spec =

@@ -1,5 +1,7 @@
 -- `change::put_others` meets its contract. Assumes nothing.
-use mathlib.Core.Path.{sym, ap, _∙_}
+use mathlib.Core.Path.{_≡_, sym, ap, _∙_}
+use mathlib.Core.List.{List, map}
+use Rattle.calls.specs.Extents as calls
 use Rattle.calls.specs.Place.{placedOf}
 use Rattle.calls.specs.Answers.{readCall}
 use Rattle.placed.specs.Pieces.{bucketsIn}
@@ -27,8 +29,18 @@ put-taken-requires c κs = search needs
 put-spots-requires : tie.Need-put-spots-requires
 put-spots-requires c κs = search needs
 
+-- the placed pieces, and their tallies
+abbrev placed : tie.Start → List calls.Placed
+placed a = placedOf (readCall (a .args .s .now))
+
+tallied : (k : tie.After-tally-pieces) → k .tally-pieces .result ≡ talliesOf (map (λ p. p .piece) (placed (k .before .before .before .before .before .before)))
+tallied k = k .tally-pieces .ensures .is ∙ ap talliesOf (sym (placed-pieces (readCall (k .before .before .before .before .before .before .args .s .now))))
+
 put-rows-requires : tie.Need-put-rows-requires
-put-rows-requires c κs = let k = c .before .before .before .before .before .before .before .before .before .before .before .before .before .before .before in let plan = k .before .before .before .before .before .before .pre in ((plan .short, plan .option), k .tally-pieces .ensures .small)
+put-rows-requires c κs =
+    let k = c .before .before .before .before .before .before .before .before .before .before .before .before .before .before .before in
+    let a = k .before .before .before .before .before .before in
+    ((a .pre .short, a .pre .option), record { buckets = bucketsIn (a .args .taken .now); placed = placed a; count = buckets-length (a .args .taken .now); tallied = record { is = tallied k; small = k .tally-pieces .ensures .small } })
 
 put-sectors-requires : tie.Need-put-sectors-requires
 put-sectors-requires c κs = search needs
@@ -49,10 +61,8 @@ returns c =
     let r = t .before .before .before .before in
     let k = r .before .before .before .before in
     let a = k .before .before .before .before .before .before in
-    let plan = a .pre in
-    let call = readCall (a .args .s .now) in
-    let rows = w .put-rows .ensures (bucketsIn (a .args .taken .now)) (placedOf call) (buckets-length (a .args .taken .now)) (k .tally-pieces .ensures .is ∙ ap talliesOf (sym (placed-pieces call))) in
-    emitted (sym (others-of plan (k .tally-pieces .result) (k .tally-pieces .ensures .is)))
+    let rows = w .put-rows .ensures (bucketsIn (a .args .taken .now)) (placed a) (buckets-length (a .args .taken .now)) (tallied k) in
+    emitted (sym (others-of (a .pre) (k .tally-pieces .result) (k .tally-pieces .ensures .is)))
     (and-then (r .put-root .ensures)
     (and-then (t .put-taken .ensures)
     (and-then (p .put-spots .ensures) (and-then rows (and-then (n .put-sectors .ensures) (emitted end-bytes (z .put-head .ensures)))))))

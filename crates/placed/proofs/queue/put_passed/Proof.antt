@@ -4,7 +4,7 @@ use mathlib.Core.Path.{ap, sym, _∙_}
 use Rattle.wire.specs.Encode.{keyField}
 use Rattle.wire.proofs.EmitLaws.{emitted, nothing}
 use Rattle.wire.proofs.EncodeLaws.{encode-one}
-use Rattle.choose.specs.Parts.{keyHere}
+use Rattle.reader.specs.KeyHere.{keyHere}
 use Rattle.tally.proofs.FieldLists.{fields-none}
 use Rattle.placed.proofs.QueueLaws.{queueBytes, passed-run, passed-other}
 use borrow.Author.Needs.{needs}

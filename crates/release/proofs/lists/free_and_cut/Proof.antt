@@ -17,7 +17,7 @@ use Rattle.calls.specs.Lru.{needDiscardKey}
 use Rattle.calls.proofs.View.{bucket}
 use Rattle.freed.specs.Freeds.{freedsIn}
 use Rattle.shares.specs.FieldBytes.{keysBytes, rowsBytes, rootsBytes}
-use Rattle.shares.specs.Located.{bucketsIn}
+use Rattle.shares.specs.Buckets.{bucketsIn}
 use Rattle.shares.specs.Counting.{keptOf, lostOf}
 use Rattle.release.proofs.BatchLaws.{batch-bytes, rows-are, sectors-are, draft-pass, draft-in, draft-checked, draft-few, gone-few, gone-aged, gone-are, gone-up, gone-low}
 use borrow.Author.Needs.{needs}

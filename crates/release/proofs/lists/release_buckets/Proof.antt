@@ -2,8 +2,8 @@
 use native.Mathlib.Omega.{arith}
 use mathlib.Core.Path.{refl}
 use lib.ListN.{length, take}
+use Rattle.reader.specs.KeyHere.{keysHere}
 use Rattle.reader.specs.Heads.{headIn}
-use Rattle.shares.specs.Located.{keysIn}
 use Rattle.release.specs.Outcomes.{volumeOf, Laid}
 use Rattle.release.proofs.TopLaws.{summed-few, summed-up, tables-made, zeros-at}
 use borrow.Author.Needs.{needs}
@@ -13,7 +13,7 @@ use Rattle.release.proofs.lists.release_buckets.Tie as tie
 abbrev laid : (c : tie.After-find-records) → Laid (c .before .before .before .before .before .before .before .before .before .before .before .before .args .s .now) (headIn (c .before .before .before .before .before .before .before .before .before .before .before .before .args .head)) (c .before .before .before .before .before .before .before .before .before .before .before .before .args .requests .now) (c .before .before .before .before .before .before .before .before .before .before .before .before .args .buckets .now) (c .before .before .before .before .before .before .before .before .before .before .before .before .args .amounts .now) (take (length (c .before .before .before .before .before .before .before .before .before .before .before .before .args .buckets .now)) (c .before .before .before .find-allocs .last .1 .1 .1 .0)) (c .find-records .last .1 .1 .0)
 laid c =
     let a = c .before .before .before .before .before .before .before .before .before .before .before .before in
-    let v = volumeOf (headIn (a .args .head)) (keysIn (a .args .s .now) (a .args .alloc .now)) (keysIn (a .args .s .now) (a .args .gens .now)) in
+    let v = volumeOf (headIn (a .args .head)) (keysHere (a .args .s .now) (a .args .alloc .now)) (keysHere (a .args .s .now) (a .args .gens .now)) in
     let m = a .pre .1 .0 in
     record { volume = v; head = refl; summed = m; tabled = tables-made m v refl (c .before .before .before .find-allocs .ensures); recorded = c .find-records .ensures }
 

@@ -6,9 +6,9 @@ use lib.ListN.{length}
 use lib.Seq.{length-take-le}
 use borrow.Author.Tests.{not-true, not-false}
 use Rattle.calls.proofs.ReleaseFits.{named-few}
+use Rattle.reader.specs.KeyHere.{keysHere}
 use Rattle.reader.specs.Heads.{headIn}
 use Rattle.freed.specs.Freeds.{freedsIn}
-use Rattle.shares.specs.Located.{keysIn}
 use Rattle.release.specs.Outcomes.{volumeOf}
 use Rattle.release.proofs.TopLaws.{summed-made, lists-4, lists-14, lists-go, cleared-is}
 use borrow.Author.Needs.{needs}
@@ -29,7 +29,7 @@ cast-sectors : tie.Need-cast-sectors
 cast-sectors c = search needs
 
 returns : tie.Need-returns
-returns c = let a = c .before .before .before .before .before .before .before .before in (lists-4 (volumeOf (headIn (a .args .head)) (keysIn (a .args .s .now) (a .args .alloc .now)) (keysIn (a .args .s .now) (a .args .gens .now))) _ _ _ _ (c .if1 .taken) (a .pre .1 .3), cleared-is _ (a .pre .1 .2))
+returns c = let a = c .before .before .before .before .before .before .before .before in (lists-4 (volumeOf (headIn (a .args .head)) (keysHere (a .args .s .now) (a .args .alloc .now)) (keysHere (a .args .s .now) (a .args .gens .now))) _ _ _ _ (c .if1 .taken) (a .pre .1 .3), cleared-is _ (a .pre .1 .2))
 
 all-freed-ok-requires : tie.Need-all-freed-ok-requires
 all-freed-ok-requires c κs = let a = c .before .before .before .before .before .before .before .before in (a .pre .1 .0, (omega arith, omega (arith, c .before .struct-known .given)))
@@ -37,7 +37,7 @@ all-freed-ok-requires c κs = let a = c .before .before .before .before .before 
 returns-2 : tie.Need-returns-2
 returns-2 c =
     let a = c .before .before .before .before .before .before .before .before .before .before in
-    (lists-14 (volumeOf (headIn (a .args .head)) (keysIn (a .args .s .now) (a .args .alloc .now)) (keysIn (a .args .s .now) (a .args .gens .now))) _ _ _ _ (c .before .before .if1 .left) (sym (c .before .all-freed-ok .ensures) ∙ not-true _ (c .if2 .taken)) (a .pre .1 .3), cleared-is _ (a .pre .1 .2))
+    (lists-14 (volumeOf (headIn (a .args .head)) (keysHere (a .args .s .now) (a .args .alloc .now)) (keysHere (a .args .s .now) (a .args .gens .now))) _ _ _ _ (c .before .before .if1 .left) (sym (c .before .all-freed-ok .ensures) ∙ not-true _ (c .if2 .taken)) (a .pre .1 .3), cleared-is _ (a .pre .1 .2))
 
 slice-aggregate-sum-up : tie.Need-slice-aggregate-sum-up
 slice-aggregate-sum-up c = search needs
@@ -76,7 +76,7 @@ same-length-2 c = search needs
 returns-3 : tie.Need-returns-3
 returns-3 c =
     let a = c .before .before .before .before .before .before .before .before .before .before .before .before .before .before .before .before .before .before .before .before .before .before .before .before .before in
-    (lists-go (volumeOf (headIn (a .args .head)) (keysIn (a .args .s .now) (a .args .alloc .now)) (keysIn (a .args .s .now) (a .args .gens .now))) _ _ _ _ (c .before .before .before .before .before .before .before .before .before .before .before .before .before .before .before .before .before .if1 .left) (sym (c .before .before .before .before .before .before .before .before .before .before .before .before .before .before .before .before .all-freed-ok .ensures) ∙ not-false _ (c .before .before .before .before .before .before .before .before .before .before .before .before .before .before .before .if2 .left)) (c .before .before .release-buckets .ensures), c .before .before .before .before .before .before .before .before .before .before .before .sum-up .ensures .1)
+    (lists-go (volumeOf (headIn (a .args .head)) (keysHere (a .args .s .now) (a .args .alloc .now)) (keysHere (a .args .s .now) (a .args .gens .now))) _ _ _ _ (c .before .before .before .before .before .before .before .before .before .before .before .before .before .before .before .before .before .if1 .left) (sym (c .before .before .before .before .before .before .before .before .before .before .before .before .before .before .before .before .all-freed-ok .ensures) ∙ not-false _ (c .before .before .before .before .before .before .before .before .before .before .before .before .before .before .before .if2 .left)) (c .before .before .release-buckets .ensures), c .before .before .before .before .before .before .before .before .before .before .before .sum-up .ensures .1)
 
 pub release-lists-spec : {M : Type 1} → statement M
 release-lists-spec =

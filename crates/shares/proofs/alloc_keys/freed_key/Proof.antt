@@ -9,9 +9,8 @@ use Rattle.wire.specs.declared.keys.Bkey.{Bkey}
 use Rattle.wire.proofs.RoundTrip.{held-back}
 use Rattle.format.specs.AllocV4.{withDirty, emptied}
 use Rattle.calls.specs.Trees.{withValue}
-use Rattle.shares.specs.Located.{keyFound}
-use Rattle.shares.proofs.LocatedLaws.{value-there}
-use Rattle.shares.proofs.KeyLaws.{held-short}
+use Rattle.reader.specs.KeyHere.{keyHere}
+use Rattle.shares.proofs.PlaceLaws.{value-short}
 use borrow.Author.Needs.{needs}
 use Rattle.shares.proofs.alloc_keys.freed_key.Statement.{statement}
 use Rattle.shares.proofs.alloc_keys.freed_key.Tie as tie
@@ -20,10 +19,10 @@ sized : (c : tie.After-key-at) → (56 ≤ c .key-at .result .value .len) × (c 
 sized c =
     let a = c .before .before in
     let e = ap (λ (k : Bkey). k .value .len) (c .key-at .ensures) in
-    (omega (arith, e, value-there (a .pre .0), a .pre .1), omega (arith, e, held-short (a .pre .0)))
+    (omega (arith, e, a .pre .1), omega (arith, e, value-short (a .pre .0)))
 
-is : (c : tie.After-key-at) → keyIn (c .key-at .result) ≡ keyFound (c .before .before .args .s .now) (c .before .before .args .place)
-is c = ap keyIn (c .key-at .ensures) ∙ held-back (keyFound (c .before .before .args .s .now) (c .before .before .args .place))
+is : (c : tie.After-key-at) → keyIn (c .key-at .result) ≡ keyHere (c .before .before .args .s .now) (c .before .before .args .place)
+is c = ap keyIn (c .key-at .ensures) ∙ held-back (keyHere (c .before .before .args .s .now) (c .before .before .args .place))
 
 key-at-requires : tie.Need-key-at-requires
 key-at-requires c κs = search needs

@@ -12,7 +12,7 @@ use Rattle.wire.proofs.EmitLaws.{emitted, done}
 use Rattle.calls.specs.CallList.{Volume, Freed}
 use Rattle.calls.specs.Release.{releasedKey}
 use Rattle.shares.specs.FieldBytes.{keysBytes}
-use Rattle.shares.specs.Located.{bucketsIn}
+use Rattle.shares.specs.Buckets.{bucketsIn}
 use Rattle.shares.specs.Tables.{Tabled}
 use Rattle.shares.proofs.FieldBytesLaws.{each-keys, wrote-key}
 use Rattle.shares.proofs.ShareLaws.{Ready, ready, share-held, buckets-next, buckets-none}

@@ -5,14 +5,15 @@ use Prim.Native.Nat.{_-_}
 use lib.ListN.{length, drop}
 use Rattle.wire.specs.declared.bpos.Bpos.{Bpos}
 use Rattle.calls.specs.Trees.{lookup}
-use Rattle.shares.specs.Located.{keysIn, PlaceOf}
+use Rattle.reader.specs.KeyHere.{keysHere}
+use Rattle.shares.specs.Places.{PlaceOf}
 use Rattle.shares.specs.Skipping.{Skipped}
-use Rattle.shares.proofs.PlaceLaws.{Walking, walk-starts, walk-turn, walk-ends}
+use Rattle.shares.proofs.AllocLaws.{Walking, walk-starts, walk-turn, walk-ends}
 use Rattle.shares.proofs.allocs.find_allocs.Statement.{statement}
 use Rattle.shares.proofs.allocs.find_allocs.Tie as tie
 
 abbrev Inv-loop : tie.InvT-loop
-Inv-loop s alloc buckets places₀ i₀ k₀ places i k = Walking s buckets places₀ places (keysIn s alloc) i k
+Inv-loop s alloc buckets places₀ i₀ k₀ places i k = Walking s buckets places₀ places (keysHere s alloc) i k
 
 abbrev μ-loop : tie.MeasureT-loop
 μ-loop s alloc buckets places₀ i₀ k₀ places i k = length buckets - k
@@ -60,7 +61,7 @@ loop-again c =
     let l = c .before .before .before .before .before in
     let a = l .before .before .before .before .before in
     let s = a .args .s .now in
-    let ks = keysIn s (a .args .alloc .now) in
+    let ks = keysHere s (a .args .alloc .now) in
     let e = c .before .before .alloc-at .ensures in
     let r = c .before .skip-below .result in
     walk-turn (a .pre .1 .1) (a .pre .1 .0) (l .loop .inv) (omega arith) r (c .place-here .result)

@@ -2,7 +2,7 @@
 use mathlib.Core.Path.{sym, ap, _∙_}
 use Rattle.wire.specs.Order.{posSame}
 use Rattle.wire.specs.declared.bpos.Bpos.{Bpos}
-use Rattle.shares.proofs.PlaceLaws.{here-same, here-other, here-none}
+use Rattle.shares.proofs.AllocLaws.{here-same, here-other, here-none}
 use borrow.Author.Needs.{needs}
 use Rattle.shares.proofs.allocs.place_here.Statement.{statement}
 use Rattle.shares.proofs.allocs.place_here.Tie as tie

@@ -6,7 +6,7 @@ use lib.ListN.{length}
 use borrow.Author.Tests.{not-true, not-false}
 use Rattle.wire.specs.Order.{posLess}
 use Rattle.wire.specs.declared.bpos.Bpos.{Bpos}
-use Rattle.shares.proofs.PlaceLaws.{Passing, pass-starts, pass-turn, pass-stops, pass-ends}
+use Rattle.shares.proofs.AllocLaws.{Passing, pass-starts, pass-turn, pass-stops, pass-ends}
 use Rattle.shares.proofs.allocs.skip_below.Statement.{statement}
 use Rattle.shares.proofs.allocs.skip_below.Tie as tie
 

@@ -7,7 +7,7 @@ use Rattle.wire.specs.Encode.{encodeField, keyField}
 use Rattle.wire.proofs.OutputLaws.{Part, begin, turn, part-length, each-next, each-none}
 use Rattle.wire.proofs.EmitLaws.{emitted, done}
 use Rattle.calls.specs.Lru.{needDiscardKey}
-use Rattle.shares.specs.Located.{bucketsIn}
+use Rattle.shares.specs.Buckets.{bucketsIn}
 use Rattle.shares.proofs.FieldBytesLaws.{each-keys, wrote-key}
 use Rattle.shares.proofs.ShareLaws.{buckets-next, buckets-none}
 use Rattle.shares.proofs.KeyLaws.{wait-is}

@@ -10,7 +10,7 @@ use Rattle.calls.specs.Lists.{total}
 use Rattle.calls.proofs.View.{bucket}
 use Rattle.calls.proofs.BoolLaws.{cond-most}
 use Rattle.shares.specs.Counting.{keptOf, lostOf}
-use Rattle.shares.specs.Located.{bucketsIn}
+use Rattle.shares.specs.Buckets.{bucketsIn}
 use Rattle.shares.specs.Tables.{Tabled}
 use Rattle.shares.proofs.CountLaws.{total-next, total-none, kept-is, lost-is}
 use Rattle.shares.proofs.ShareLaws.{share-held, share-small, buckets-next, buckets-none}

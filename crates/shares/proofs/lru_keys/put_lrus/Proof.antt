@@ -12,7 +12,7 @@ use Rattle.calls.specs.CallList.{Volume, Freed}
 use Rattle.calls.specs.Release.{freedBuckets, releasedLru}
 use Rattle.calls.proofs.View.{bucket}
 use Rattle.shares.specs.FieldBytes.{keysBytes}
-use Rattle.shares.specs.Located.{bucketsIn}
+use Rattle.shares.specs.Buckets.{bucketsIn}
 use Rattle.shares.specs.Tables.{Tabled}
 use Rattle.shares.proofs.FieldBytesLaws.{each-flat, wrote-as}
 use Rattle.shares.proofs.ShareLaws.{share-held, buckets-next, buckets-none}

@@ -8,8 +8,8 @@ use Rattle.wire.specs.Positions.{gensAt}
 use Rattle.wire.specs.declared.bpos.Bpos.{Bpos}
 use Rattle.wire.specs.declared.keys.Bkey.{Bkey}
 use Rattle.wire.proofs.RoundTrip.{held-back}
-use Rattle.shares.specs.Located.{keyFound, KeyThere}
-use Rattle.shares.proofs.KeyLaws.{held-short}
+use Rattle.reader.specs.KeyHere.{keyHere, Whole}
+use Rattle.shares.proofs.PlaceLaws.{value-short}
 use Rattle.shares.proofs.RefusalLaws.{record-there}
 use Rattle.shares.proofs.QueueLaws.{key-new, key-old}
 use borrow.Author.Needs.{needs}
@@ -23,11 +23,11 @@ offset-is c = ap (λ (p : Bpos). p .offset) (c .gens-at .ensures)
 place-is : (c : tie.After-shared-slice-known3) → getD (c .before .before .before .before .args .records .now) (c .before .gens-at .result .offset) 0 ≡ getD (c .before .before .before .before .args .records .now) (gensAt (c .before .before .before .before .args .b) .offset) 0
 place-is c = ap (λ (o : ℕ). getD (c .before .before .before .before .args .records .now) o 0) (offset-is (c .before))
 
-there : (c : tie.Else1) → KeyThere (c .before .before .before .before .before .args .s .now) (getD (c .before .before .before .before .before .args .records .now) (c .before .before .gens-at .result .offset) 0)
+there : (c : tie.Else1) → Whole (c .before .before .before .before .before .args .s .now) (getD (c .before .before .before .before .before .args .records .now) (c .before .before .gens-at .result .offset) 0)
 there c =
     let a = c .before .before .before .before .before in
     let e = place-is (c .before) in
-    subst (KeyThere (a .args .s .now)) (sym e) (record-there (a .pre .0) (a .args .b) (a .pre .1) (rw (← e) (omega arith)))
+    subst (Whole (a .args .s .now)) (sym e) (record-there (a .pre .0) (a .args .b) (a .pre .1) (rw (← e) (omega arith)))
 
 gens-at-requires : tie.Need-gens-at-requires
 gens-at-requires c κs = search needs
@@ -56,9 +56,9 @@ returns-2 c =
     let s = a .args .s .now in
     let e = place-is (c .before .before) in
     let at = getD (a .args .records .now) (c .before .before .before .gens-at .result .offset) 0 in (
-      omega (arith, ap (λ (k : Bkey). k .value .len) (c .key-at .ensures), held-short (there (c .before))),
+      omega (arith, ap (λ (k : Bkey). k .value .len) (c .key-at .ensures), value-short (there (c .before))),
       λ gens r.
-          ap keyIn (c .key-at .ensures) ∙ held-back (keyFound s at) ∙ ap (keyFound s) e ∙ sym (key-old r (a .args .b) (a .pre .1) (rw (← e) (omega arith))),
+          ap keyIn (c .key-at .ensures) ∙ held-back (keyHere s at) ∙ ap (keyHere s) e ∙ sym (key-old r (a .args .b) (a .pre .1) (rw (← e) (omega arith))),
     )
 
 pub old-record-spec : {M : Type 1} → statement M

@@ -7,7 +7,7 @@ use lib.ListN.{length}
 use Rattle.wire.specs.Keys.{Key}
 use Rattle.wire.specs.declared.kinds.Bucket.{Bucket}
 use Rattle.wire.proofs.OutputLaws.{wrote-length}
-use Rattle.shares.specs.Located.{bucketsIn}
+use Rattle.shares.specs.Buckets.{bucketsIn}
 use Rattle.shares.specs.Tables.{RecordsOf}
 use Rattle.shares.proofs.QueueLaws.{Queue, queue-starts, queue-turn, queue-ends, age-at}
 use Rattle.shares.proofs.queued.put_gens.Statement.{statement}

@@ -3,14 +3,14 @@ use native.Mathlib.Omega.{arith}
 use mathlib.Core.Path.{_≡_, refl, _∙_, subst}
 use Prim.Native.Nat.{ℕ, _-_, _+_, _≤_}
 use lib.ListN.{length, drop, drop-of-length-le}
-use Rattle.shares.specs.Located.{keysIn}
+use Rattle.reader.specs.KeyHere.{keysHere}
 use Rattle.shares.specs.Tables.{RecordsOf}
 use Rattle.shares.proofs.RecordLaws.{note-starts}
 use Rattle.shares.proofs.records.find_records.Statement.{statement}
 use Rattle.shares.proofs.records.find_records.Tie as tie
 
 abbrev Inv-loop : tie.InvT-loop
-Inv-loop s gens records₀ i₀ records i = (i ≤ length gens) × RecordsOf s records (drop i (keysIn s gens)) × (length records ≡ length records₀)
+Inv-loop s gens records₀ i₀ records i = (i ≤ length gens) × RecordsOf s records (drop i (keysHere s gens)) × (length records ≡ length records₀)
 
 abbrev μ-loop : tie.MeasureT-loop
 μ-loop s gens records₀ i₀ records i = i
@@ -18,7 +18,7 @@ abbrev μ-loop : tie.MeasureT-loop
 loop-holds : tie.Need-loop-holds Inv-loop μ-loop
 loop-holds c =
     let a = c .before .before .before in
-    let ks = keysIn (a .args .s .now) (a .args .gens .now) in
+    let ks = keysHere (a .args .s .now) (a .args .gens .now) in
     let h : length ks ≤ length (a .args .gens .now) = omega (arith, a .pre .0 .0 .count) in
     (omega arith, note-starts (a .args .s .now) (a .args .records .now) (drop-of-length-le ks h) (a .pre .1 .0) (a .pre .1 .1), refl)
 
@@ -29,7 +29,7 @@ note-record-requires : tie.Need-note-record-requires Inv-loop μ-loop
 note-record-requires c κs =
     let l = c .before .before in
     let a = l .before .before .before .before in
-    let ks = keysIn (a .args .s .now) (a .args .gens .now) in
+    let ks = keysHere (a .args .s .now) (a .args .gens .now) in
     let i = l .loop .i in
     let e : i ≡ i - 1 + 1 = omega arith in
     ((a .pre .0 .0, a .pre .0 .1, omega arith), subst (λ (n : ℕ). RecordsOf (a .args .s .now) (l .loop .records) (drop n ks)) e (l .loop .inv .1))
@@ -51,7 +51,7 @@ returns c =
     let l = c .before in
     let a = l .before .before .before .before in
     let e : l .loop .i ≡ 0 = omega arith in
-    subst (λ (n : ℕ). RecordsOf (a .args .s .now) (l .loop .records) (drop n (keysIn (a .args .s .now) (a .args .gens .now)))) e (l .loop .inv .1)
+    subst (λ (n : ℕ). RecordsOf (a .args .s .now) (l .loop .records) (drop n (keysHere (a .args .s .now) (a .args .gens .now)))) e (l .loop .inv .1)
 
 pub find-records-spec : {M : Type 1} → statement M
 find-records-spec =

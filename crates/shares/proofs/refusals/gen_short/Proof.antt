@@ -1,11 +1,11 @@
 -- `refusals::gen_short` meets its contract. Assumes nothing.
 use native.Mathlib.Omega.{arith}
 use mathlib.Core.Path.{_≡_, sym, ap, _∙_, subst}
-use Prim.Native.Nat.{ℕ, _-_}
+use Prim.Native.Nat.{ℕ}
 use lib.ListN.{getD}
 use Rattle.wire.specs.Positions.{gensAt}
 use Rattle.wire.specs.declared.bpos.Bpos.{Bpos}
-use Rattle.shares.specs.Located.{KeyThere}
+use Rattle.reader.specs.KeyHere.{Whole}
 use Rattle.shares.proofs.RefusalLaws.{short-none, short-some, record-there}
 use borrow.Author.Needs.{needs}
 use Rattle.shares.proofs.refusals.gen_short.Statement.{statement}
@@ -19,11 +19,11 @@ place-is : (c : tie.After-shared-slice-known3) → getD (c .before .before .befo
     ≡ getD (c .before .before .before .before .args .records .now) (gensAt (c .before .before .before .before .args .b) .offset) 0
 place-is c = ap (λ (o : ℕ). getD (c .before .before .before .before .args .records .now) o 0) (offset-is (c .before))
 
-there : (c : tie.Else1) → KeyThere (c .before .before .before .before .before .args .s .now) (getD (c .before .before .before .before .before .args .records .now) (c .before .before .gens-at .result .offset) 0)
+there : (c : tie.Else1) → Whole (c .before .before .before .before .before .args .s .now) (getD (c .before .before .before .before .before .args .records .now) (c .before .before .gens-at .result .offset) 0)
 there c =
     let a = c .before .before .before .before .before in
     let e = place-is (c .before) in
-    subst (KeyThere (a .args .s .now)) (sym e) (record-there (a .pre .0) (a .args .b) (a .pre .1) (rw (← e) (omega arith)))
+    subst (Whole (a .args .s .now)) (sym e) (record-there (a .pre .0) (a .args .b) (a .pre .1) (rw (← e) (omega arith)))
 
 gens-at-requires : tie.Need-gens-at-requires
 gens-at-requires c κs = search needs
@@ -40,11 +40,8 @@ cast-at c = omega (arith, c .shared-slice-known3 .given (c .before .gens-at .res
 returns : tie.Need-returns
 returns c = λ gens r. let a = c .before .before .before .before .before in sym (short-none r (a .args .b) (a .pre .1) (sym (place-is (c .before)) ∙ c .if1 .taken))
 
-body-len-requires : tie.Need-body-len-requires
-body-len-requires c κs = there c
-
-sub-result : tie.Need-sub-result
-sub-result c = omega (arith, c .body-len .ensures, there (c .before) .sized, there (c .before) .long)
+value-len-requires : tie.Need-value-len-requires
+value-len-requires c κs = there c
 
 gens-byte-requires : tie.Need-gens-byte-requires
 gens-byte-requires c κs = search needs
@@ -54,7 +51,7 @@ returns-2 c =
     λ gens r.
     let a = c .before .before .before .before .before .before .before in
     let e = place-is (c .before .before .before) in
-    rw (c .before .body-len .ensures, c .gens-byte .ensures, e) (sym (short-some r (a .args .b) (a .pre .1) (rw (← e) (omega arith))))
+    rw (c .before .value-len .ensures, c .gens-byte .ensures, e) (sym (short-some r (a .args .b) (a .pre .1) (rw (← e) (omega arith))))
 
 pub gen-short-spec : {M : Type 1} → statement M
 gen-short-spec =
@@ -65,7 +62,6 @@ gen-short-spec =
     shared-slice-read-at
     cast-at
     returns
-    body-len-requires
-    sub-result
+    value-len-requires
     gens-byte-requires
     returns-2)

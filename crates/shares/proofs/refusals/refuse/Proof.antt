@@ -7,7 +7,7 @@ use lib.ListN.{length, drop}
 use Rattle.calls.specs.CallList.{Volume, Freed}
 use Rattle.calls.specs.Refusals.{verdict}
 use Rattle.calls.specs.Release.{bucketRefusal}
-use Rattle.shares.specs.Located.{bucketsIn}
+use Rattle.shares.specs.Buckets.{bucketsIn}
 use Rattle.shares.specs.Tables.{RecordsOf, Tabled}
 use Rattle.shares.proofs.ShareLaws.{buckets-next, buckets-none, tabled-verdict}
 use Rattle.shares.proofs.RefusalLaws.{verdict-next, verdict-stops, verdict-none}

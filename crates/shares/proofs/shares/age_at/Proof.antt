@@ -2,6 +2,7 @@
 use native.Mathlib.Omega.{arith}
 use mathlib.Core.Path.{_∙_}
 use lib.ListN.{getD}
+use Rattle.reader.proofs.KeyHereLaws.{value-within}
 use Rattle.shares.proofs.ShareLaws.{Ready, ready}
 use Rattle.shares.proofs.KeyLaws.{age-is}
 use borrow.Author.Needs.{needs}
@@ -21,17 +22,19 @@ shared-slice-read-place c = omega (arith, c .before .before .before .before .bef
 cast-place : tie.Need-cast-place
 cast-place c = omega (arith, c .shared-slice-known5 .given (c .before .before .before .before .before .args .k))
 
-add-generation : tie.Need-add-generation
-add-generation c = omega (arith, its (c .before .before .before .before .before) .there .within)
+value-at-requires : tie.Need-value-at-requires
+value-at-requires c κs = its (c .before .before .before .before .before) .there
 
 generation-requires : tie.Need-generation-requires
-generation-requires c κs = let i = its (c .before .before .before .before .before) in omega (arith, i .there .within, i .there .sized, i .long)
+generation-requires c κs =
+    let i = its (c .before .before .before .before .before .before) in
+    omega (arith, c .value-at .ensures, i .long, value-within _ _ (i .there))
 
 next-gen-requires : tie.Need-next-gen-requires
 next-gen-requires c κs = search needs
 
 returns : tie.Need-returns
-returns c = λ v rs t. let a = c .before .before .before .before .before .before .before in c .next-gen .ensures ∙ age-is (t .at (a .args .k) (a .pre .1)) (its a) _ (c .before .generation .ensures)
+returns c = λ v rs t. let a = c .before .before .before .before .before .before .before .before in c .next-gen .ensures ∙ age-is (t .at (a .args .k) (a .pre .1)) (its a) _ _ (c .before .before .value-at .ensures) (c .before .generation .ensures)
 
 pub age-at-spec : {M : Type 1} → statement M
 age-at-spec =
@@ -40,7 +43,7 @@ age-at-spec =
     mul-place
     shared-slice-read-place
     cast-place
-    add-generation
+    value-at-requires
     generation-requires
     next-gen-requires
     returns)

@@ -11,7 +11,7 @@ use Rattle.calls.specs.Lists.{those}
 use Rattle.calls.specs.Release.{isEmptied, emptiedGen}
 use Rattle.calls.proofs.View.{bucket}
 use Rattle.freed.proofs.FoundLaws.{Picking, pick-starts, pick-hit, pick-miss, pick-ends}
-use Rattle.shares.specs.Located.{bucketsIn}
+use Rattle.shares.specs.Buckets.{bucketsIn}
 use Rattle.shares.specs.Tables.{Tabled}
 use Rattle.shares.proofs.ShareLaws.{buckets-next, buckets-none}
 use Rattle.shares.proofs.KeyLaws.{emptied-is, those-hit, those-miss, those-none}

@@ -3,7 +3,8 @@ use native.Mathlib.Omega.{arith}
 use mathlib.Core.Path.{_∙_}
 use lib.ListN.{getD}
 use Rattle.format.specs.AllocV4.{dirtySectors}
-use Rattle.shares.proofs.LocatedLaws.{member-there}
+use Rattle.reader.proofs.KeyHereLaws.{value-within}
+use Rattle.shares.proofs.PlaceLaws.{member-there}
 use Rattle.shares.proofs.ShareLaws.{Ready, ready, share-is}
 use borrow.Author.Needs.{needs}
 use Rattle.shares.proofs.shares.share_at.Statement.{statement}
@@ -31,22 +32,22 @@ shared-slice-read-t9 c = search needs
 cast-t11 : tie.Need-cast-t11
 cast-t11 c = omega (arith, c .shared-slice-known6 .given (c .before .before .before .before .before .before .args .k))
 
-add-dirty-sectors : tie.Need-add-dirty-sectors
-add-dirty-sectors c = omega (arith, its (c .before .before .before .before .before .before) .there .within)
+value-at-requires : tie.Need-value-at-requires
+value-at-requires c κs = its (c .before .before .before .before .before .before) .there
 
 dirty-sectors-requires : tie.Need-dirty-sectors-requires
 dirty-sectors-requires c κs =
-    let i = its (c .before .before .before .before .before .before) in
-    omega (arith, i .there .within, i .there .sized, i .long)
+    let i = its (c .before .before .before .before .before .before .before) in
+    omega (arith, c .value-at .ensures, i .long, value-within _ _ (i .there))
 
 mul-t15 : tie.Need-mul-t15
-mul-t15 c = omega (arith, c .before .before .before .before .before .before .before .pre .0 .tabled .sums)
+mul-t15 c = omega (arith, c .before .before .before .before .before .before .before .before .pre .0 .tabled .sums)
 
 shared-slice-read-t17 : tie.Need-shared-slice-read-t17
-shared-slice-read-t17 c = omega (arith, c .before .before .before .before .before .before .before .before .pre .0 .tabled .sums)
+shared-slice-read-t17 c = omega (arith, c .before .before .before .before .before .before .before .before .before .pre .0 .tabled .sums)
 
 returns : tie.Need-returns
-returns c = λ v rs t. let a = c .before .before .before .before .before .before .before .before in share-is (t .at (a .args .k) (a .pre .1)) (its a) (c .before .dirty-sectors .ensures ∙ member-there (its a .there) dirtySectors (omega (arith, its a .long)))
+returns c = λ v rs t. let a = c .before .before .before .before .before .before .before .before .before in share-is (t .at (a .args .k) (a .pre .1)) (its a) (c .before .dirty-sectors .ensures ∙ member-there (its a .there) dirtySectors (omega (arith, its a .long)) _ (c .before .before .value-at .ensures))
 
 pub share-at-spec : {M : Type 1} → statement M
 share-at-spec =
@@ -58,7 +59,7 @@ share-at-spec =
     mul-t7
     shared-slice-read-t9
     cast-t11
-    add-dirty-sectors
+    value-at-requires
     dirty-sectors-requires
     mul-t15
     shared-slice-read-t17

@@ -30,7 +30,7 @@ put-extents-row-requires : tie.Need-put-extents-row-requires
 put-extents-row-requires c κs = search needs
 
 put-owner-requires : tie.Need-put-owner-requires
-put-owner-requires c κs = c .before .before .before .before .before .before .before .before .before .before .before .before .before .before .before .before .before .before .before .before .before .before .before .before .pre .1 .all
+put-owner-requires c κs = c .before .before .before .before .before .before .before .before .before .before .before .before .before .before .before .before .before .before .before .before .before .before .before .before .pre .1 .tallied .small .all
 
 same-length : tie.Need-same-length
 same-length c = search needs

@@ -5,7 +5,7 @@ use denote.Ref.{now}
 use Prim.Native.Nat.{_≤_, _-_}
 use lib.ListN.{length, take}
 use Rattle.waiting.specs.Chosen.{freedFrom}
-use Rattle.waiting.proofs.OffsetLaws.{all-at}
+use Rattle.waiting.proofs.KeptLaws.{all-at}
 use Rattle.waiting.proofs.ChosenLaws.{chosen-none, chosen-more, chosen-all}
 use Rattle.waiting.proofs.freed.freed_keys.Statement.{statement}
 use Rattle.waiting.proofs.freed.freed_keys.Tie as tie

@@ -2,7 +2,7 @@
 use mathlib.Core.Path.{_≡_, sym, _∙_}
 use native.Mathlib.Omega.{arith}
 use denote.Ref.{now}
-use Rattle.waiting.specs.Offsets.{keyFrom}
+use Rattle.reader.specs.KeyHere.{keyHere}
 use Prim.Native.Nat.{_<_}
 use Rattle.waiting.proofs.TableLaws.{noted-other, noted-this}
 use borrow.Author.Needs.{needs}
@@ -25,7 +25,7 @@ cast-table : tie.Need-cast-table
 cast-table c = search needs
 
 -- the key's type, and so its bucket's bound
-typed : (c : tie.After-bucket-at) → keyFrom (now (c .before .before .before .before .args .s)) (c .before .before .before .before .args .o) .type ≡ 25
+typed : (c : tie.After-bucket-at) → keyHere (now (c .before .before .before .before .args .s)) (c .before .before .before .before .args .o) .type ≡ 25
 typed c = sym (c .before .before .type-at .ensures) ∙ c .before .if1 .left
 
 below : (c : tie.After-bucket-at) → c .bucket-at .result .0 < 65536

@@ -4,15 +4,15 @@ use lib.ListN.{length, take, length-replicate}
 use native.Mathlib.Omega.{arith}
 use denote.Ref.{now}
 use Prim.Native.Nat.{ℕ, _≤_, _-_}
-use Rattle.waiting.specs.Offsets.{keysFrom}
+use Rattle.reader.specs.KeyHere.{keysHere}
 use Rattle.waiting.specs.Table.{Entries}
-use Rattle.waiting.proofs.OffsetLaws.{all-at}
+use Rattle.waiting.proofs.KeptLaws.{all-at}
 use Rattle.waiting.proofs.TableLaws.{empty-entries, noted-entries, noted-length, all-entries}
 use Rattle.waiting.proofs.waiting.note_waiting.Statement.{statement}
 use Rattle.waiting.proofs.waiting.note_waiting.Tie as tie
 
 abbrev Inv-loop : tie.InvT-loop
-Inv-loop table₀ s needs i₀ table i = (i ≤ length needs) × (length table ≡ 65536) × Entries s needs (keysFrom s (take i needs)) table
+Inv-loop table₀ s needs i₀ table i = (i ≤ length needs) × (length table ≡ 65536) × Entries s needs (keysHere s (take i needs)) table
 
 abbrev μ-loop : tie.MeasureT-loop
 μ-loop table₀ s needs i₀ table i = length needs - i

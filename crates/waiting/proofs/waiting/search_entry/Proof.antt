@@ -4,15 +4,15 @@ use native.Mathlib.Omega.{arith}
 use denote.Ref.{now}
 use Prim.Native.Nat.{_≤_, _-_, _+_}
 use lib.ListN.{length, take}
-use Rattle.waiting.specs.Offsets.{keysFrom}
+use Rattle.reader.specs.KeyHere.{keysHere}
 use Rattle.waiting.specs.Table.{Entry}
-use Rattle.waiting.proofs.OffsetLaws.{all-at}
+use Rattle.waiting.proofs.KeptLaws.{all-at}
 use Rattle.waiting.proofs.TableLaws.{search-none, search-found, search-past, search-all}
 use Rattle.waiting.proofs.waiting.search_entry.Statement.{statement}
 use Rattle.waiting.proofs.waiting.search_entry.Tie as tie
 
 abbrev Inv-loop : tie.InvT-loop
-Inv-loop s needs b e₀ i₀ e i = (i ≤ length needs) × Entry s needs (keysFrom s (take i needs)) b e
+Inv-loop s needs b e₀ i₀ e i = (i ≤ length needs) × Entry s needs (keysHere s (take i needs)) b e
 
 abbrev μ-loop : tie.MeasureT-loop
 μ-loop s needs b e₀ i₀ e i = length needs - i
@@ -40,7 +40,7 @@ loop-less c = omega arith
 
 -- the entry after the key at place i, whether it names the bucket or not
 entry : (c : tie.Joined1 Inv-loop μ-loop) → let a = c .before .before .before .before .before .before .before .args in
-    Entry (now (a .s)) (now (a .needs)) (keysFrom (now (a .s)) (take (c .before .before .before .before .loop .i + 1) (now (a .needs)))) (a .b) (c .if1 .e)
+    Entry (now (a .s)) (now (a .needs)) (keysHere (now (a .s)) (take (c .before .before .before .before .loop .i + 1) (now (a .needs)))) (a .b) (c .if1 .e)
 entry c =
     let a = c .before .before .before .before .before .before .before .args in
     let l = c .before .before .before .before .loop in

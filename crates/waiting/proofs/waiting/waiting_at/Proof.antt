@@ -1,6 +1,7 @@
 -- `waiting::waiting_at` meets its contract. Assumes nothing.
 use native.Mathlib.Omega.{arith}
-use Rattle.waiting.proofs.OffsetLaws.{all-at}
+use Prim.Native.Nat.{_-_}
+use Rattle.waiting.proofs.KeptLaws.{all-at}
 use Rattle.waiting.proofs.TableLaws.{waits-not, waits-at, entry-place}
 use borrow.Author.Needs.{needs}
 use Rattle.waiting.proofs.waiting.waiting_at.Statement.{statement}
@@ -21,6 +22,9 @@ mul-pos-at c = omega (arith, entry-place (c .before .entry-of .ensures) (c .if1 
 shared-slice-read-pos-at : tie.Need-shared-slice-read-pos-at
 shared-slice-read-pos-at c = entry-place (c .before .before .entry-of .ensures) (c .before .if1 .left)
 
+cast-pos-at : tie.Need-cast-pos-at
+cast-pos-at c = omega (arith, c .shared-slice-known4 .given (c .before .before .entry-of .result - 1))
+
 pos-at-requires : tie.Need-pos-at-requires
 pos-at-requires c κs = all-at (c .before .before .before .before .before .before .pre .0 .kept) _ (entry-place (c .before .before .entry-of .ensures) (c .before .if1 .left)) .kept
 
@@ -36,5 +40,6 @@ waiting-at-spec =
     sub-pos-at
     mul-pos-at
     shared-slice-read-pos-at
+    cast-pos-at
     pos-at-requires
     returns-2)

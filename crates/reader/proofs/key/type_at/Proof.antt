@@ -1,0 +1,16 @@
+-- `key::type_at` meets its contract.
+use mathlib.Core.Path.{_≡_, refl, sym, ap, _∙_}
+use Rattle.wire.specs.Keys.{Key}
+use Rattle.reader.proofs.KeyHereLaws.{here-at}
+use borrow.Author.Needs.{needs}
+use Rattle.reader.proofs.key.type_at.Statement.{statement}
+use Rattle.reader.proofs.key.type_at.Tie as tie
+
+le8-requires : tie.Need-le8-requires
+le8-requires c κs = search needs
+
+returns : tie.Need-returns
+returns c = c .le8 .ensures ∙ sym (ap (λ (k : Key). k .type) (here-at _ _ (c .before .before .pre)))
+
+pub type-at-spec : {M : Type 1} → statement M
+type-at-spec = tie.close (tie.spec le8-requires returns)
