@@ -5,9 +5,9 @@ use mathlib.Core.List.{List, [], _∷_}
 use mathlib.Core.Option.{Option, none, some, Option·none-ne-some, Option·some-injective}
 use Prim.Native.Nat.{ℕ, _/_, _<_, Ordering, Ordering·lt, Ordering·eq, Ordering·gt}
 use native.Mathlib.Omega.{arith}
-use lib.Dec.{leb, eqb}
-use lib.ListN.{length, replicate, length-replicate}
-use borrow.Author.Tests.{eqb-true, eqb-false, eq-eqb, leb-false, lt-leb}
+use lib.Dec.{leb, ltb, eqb}
+use lib.ListN.{length, getD, replicate, length-replicate}
+use borrow.Author.Tests.{eqb-true, eqb-false, eq-eqb, leb-true, leb-false, lt-leb, lt-ltb, le-ltb}
 use Rattle.wire.specs.Keys.{Key}
 use Rattle.wire.specs.Order.{cmp}
 use Rattle.wire.specs.Kinds.{sameBucket}
@@ -20,7 +20,7 @@ use Rattle.format.proofs.GenLaws.{gens-length, gen-there, gen-elsewhere, gen-st
 use Rattle.calls.specs.Lists.{anyOf, fromOption}
 use Rattle.calls.specs.Trees.{onEq, lookup, newKey, step, applyQueue}
 use Rattle.calls.specs.Freespace.{isIn}
-use Rattle.calls.specs.Generations.{ofType30, genRecord, genOf, genShort, genKey, genQueued}
+use Rattle.calls.specs.Generations.{found, tooShort, ofType30, genRecord, foundIn, genLookup, orZero, isShort, genOf, genShort, genKey, genQueued}
 use Rattle.calls.specs.Release.{gensQueued}
 use Rattle.calls.proofs.BoolLaws.{cond-same}
 use Rattle.calls.proofs.BucketLaws.{same-path}
@@ -37,6 +37,14 @@ zeros-room n i h = rw (length-replicate {A = ℕ} n 0) (lt-leb n i h)
 no-gens-room : (b : Bucket) → leb (length noGens) (gensByte b) ≡ false
 unfolding noGens
 no-gens-room b = zeros-room 256 (gensByte b) (omega arith)
+
+value-short : (v : List ℕ) (b : Bucket) → isShort (fromOption tooShort found (genIn v b)) ≡ leb (length v) (gensByte b)
+unfolding genIn
+value-short v b = go (leb (length v) (gensByte b)) refl
+  where
+    go : (t : Bool) → leb (length v) (gensByte b) ≡ t → isShort (fromOption tooShort found (cond (ltb (gensByte b) (length v)) (some (getD v (gensByte b) 0)) none)) ≡ t
+    go true e = rw (le-ltb (gensByte b) (length v) (leb-true (length v) (gensByte b) e))
+    go false e = rw (lt-ltb (gensByte b) (length v) (leb-false (length v) (gensByte b) e))
 
 -- ---- the record of a bucket, begun where there is none
 pub type-30 : (o : Option Key) (k : Key) → ofType30 o ≡ some k → (o ≡ some k) × (k .type ≡ 30)
@@ -59,21 +67,24 @@ module _ (gens : List Key) where
 
   -- its byte is the generation, and its length tells refusal 19
   of-is : (b : Bucket) → genOf gens b ≡ byteIn (genKey gens b .value) b
-  unfolding genOf genKey
+  unfolding genOf genLookup genKey
   of-is b = go (genRecord gens b)
     where
-      go : (o : Option Key) → fromOption 0 (λ k. byteIn (k .value) b) o ≡ byteIn (fromOption (newKey 30 0 (gensAt b) noGens) (λ k. k) o .value) b
+      byte : (o : Option ℕ) → orZero (fromOption tooShort found o) ≡ fromOption 0 (λ g. g) o
+      byte none = refl
+      byte (some g) = refl
+
+      go : (o : Option Key) → orZero (foundIn b o) ≡ byteIn (fromOption (newKey 30 0 (gensAt b) noGens) (λ k. k) o .value) b
       go none = ap (fromOption 0 (λ g. g)) (sym (gen-started b))
-      go (some k) = refl
+      go (some k) = byte (genIn (k .value) b)
 
   short-is : (b : Bucket) → genShort gens b ≡ leb (length (genKey gens b .value)) (gensByte b)
-  unfolding genShort genKey
+  unfolding genShort genLookup genKey
   short-is b = go (genRecord gens b)
     where
-      go : (o : Option Key)
-          → fromOption false (λ k. leb (length (k .value)) (gensByte b)) o ≡ leb (length (fromOption (newKey 30 0 (gensAt b) noGens) (λ k. k) o .value)) (gensByte b)
+      go : (o : Option Key) → isShort (foundIn b o) ≡ leb (length (fromOption (newKey 30 0 (gensAt b) noGens) (λ k. k) o .value)) (gensByte b)
       go none = sym (no-gens-room b)
-      go (some k) = refl
+      go (some k) = value-short (k .value) b
 
   -- buckets of one record
   key-same : (b c : Bucket) → gensAt c ≡ gensAt b → genKey gens c ≡ genKey gens b

@@ -29,7 +29,7 @@ use Rattle.calls.specs.CallList.{Volume, Piece, pieceOf, headOf, treesOf
 use Rattle.calls.specs.Limits.{isRun, listWithin}
 use Rattle.calls.specs.Trees.{lookup, deletion}
 use Rattle.calls.specs.Freespace.{runsOf, bucketsOf, startOf, endOf, pass, shortened, Walked, walk}
-use Rattle.calls.specs.Generations.{ofType30, genRecord, genOf}
+use Rattle.calls.specs.Generations.{found, tooShort, ofType30, genRecord, foundIn, genLookup, orZero, genOf}
 use Rattle.calls.specs.Clock.{clockOf}
 use Rattle.calls.specs.Pieces.{Slot, nextFit, bucketsNeeded}
 use Rattle.calls.specs.Extents.{Placed, bucketAt, placedAt, extentKey, backpointerKey}
@@ -69,16 +69,16 @@ piece-fits r =
       checksum = le-bound 8 (all-drop 5 r);
     }
 
-record-small : (b : Bucket) (o : Option Key) → ((k : Key) → o ≡ some k → Bytes (k .value)) → fromOption 0 (λ k. fromOption 0 (λ g. g) (genIn (k .value) b)) (ofType30 o) < 256
+record-small : (b : Bucket) (o : Option Key) → ((k : Key) → o ≡ some k → Bytes (k .value)) → orZero (foundIn b (ofType30 o)) < 256
 unfolding genIn
 record-small b none h = omega arith
 record-small b (some k) h = typed (eqb (k .type) 30)
   where
-    byte : (t : Bool) → fromOption 0 (λ g. g) (cond t (some (getD (k .value) (gensByte b) 0)) none) < 256
+    byte : (t : Bool) → orZero (fromOption tooShort found (cond t (some (getD (k .value) (gensByte b) 0)) none)) < 256
     byte true = bytes-at (h k refl) (gensByte b)
     byte false = omega arith
 
-    typed : (t : Bool) → fromOption 0 (λ (k : Key). fromOption 0 (λ g. g) (cond (ltb (gensByte b) (length (k .value))) (some (getD (k .value) (gensByte b) 0)) none)) (cond t (some k) none) < 256
+    typed : (t : Bool) → orZero (foundIn b (cond t (some k) none)) < 256
     typed true = byte (ltb (gensByte b) (length (k .value)))
     typed false = omega arith
 
@@ -96,7 +96,7 @@ module _ {s : List ℕ} (r : Bytes s) where
   gens-bytes = all-map _ (all-imp (λ b k. all-drop 37 k) (bodies-bytes 14 r))
 
   pub gens-small : (b : Bucket) → genOf (readCall s .volume .trees .gens) b < 256
-  unfolding genOf genRecord
+  unfolding genOf genLookup genRecord
   gens-small b = record-small b (lookup (gensAt b) (readCall s .volume .trees .gens)) (λ k e. lookup-all (gensAt b) k gens-bytes e)
 
   pub sectors-small : readCall s .volume .head .bucketSectors < 65536

@@ -5,7 +5,6 @@ pub mod EarlyLaws
 pub mod FreeLaws
 pub mod ListLaws
 pub mod MarkLaws
-pub mod RecordLaws
 pub mod RequestLaws
 pub mod RunLaws
 pub mod TakeLaws

@@ -1,6 +1,5 @@
 pub mod Bits
 pub mod Checked
-pub mod Records
 pub mod Requests
 pub mod Runs
 pub mod Times

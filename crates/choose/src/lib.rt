@@ -1,6 +1,5 @@
-// What a placement chooses: refusals 4 to 13, take_buckets, bucket_gen, write_clock.
+// What a placement chooses: refusals 4 to 13, take_buckets, write_clock.
 pub mod clock;
-pub mod gens;
 pub mod marks;
 pub mod refusals;
 pub mod requests;

@@ -19,7 +19,8 @@ use crate::change;
 use crate::choice;
 use choose::clock;
 use choose::take::Taken;
-use placed::gens;
+use gens::records;
+use placed::ages;
 use reader::call;
 use reader::call::Reading;
 use reader::head::Head;
@@ -85,8 +86,8 @@ fn place_buckets(
     let n = taken.len();
     let mut records = [0u32; 256];
     let mut ages = [0u8; 1024];
-    choose::gens::find_records(s, gens, &mut records);
-    gens::fill_gens(&mut ages, s, &records, taken);
+    records::find_records(s, gens, &mut records);
+    ages::fill_gens(&mut ages, s, &records, taken);
     let clock = clock::write_clock(s, alloc);
     write_change(
         s,

@@ -46,9 +46,12 @@ freeds-map s (o ∷ os) [] e h = absurd (omega arith)
 freeds-map s (o ∷ os) (r ∷ rs) e h = λ x. h 0 (omega arith) .is x ∷ freeds-map s os rs (omega arith) (λ i l. h (suc i) (omega arith)) x
 
 module _ {s os : List ℕ} {ks : List Key} (q : KeysAt s os ks) where
+  keyed : Keyed s os
+  keyed = subst (λ (l : List Key). KeysAt s os l) (keys-here q) q
+
   -- keys that ascend
   pub keyed-ok : keysOk ks ≡ true → Keyed s os × (keysOk (keysHere s os) ≡ true)
-  keyed-ok h = (subst (λ (l : List Key). KeysAt s os l) (keys-here q) q, ap keysOk (sym (keys-here q)) ∙ h)
+  keyed-ok h = (keyed, ap keysOk (sym (keys-here q)) ∙ h)
 
 module _ {s os : List ℕ} {rs : List Freed} (q : FreedsAt s os rs) where
   freeds-found : freedsIn s os ≡ rs
@@ -180,12 +183,10 @@ module _ {s index : List ℕ} {h : Head} {e : Ends} (q : ListRead 2 s index h e)
   requests-at = freeds-part s index h e z q .1
 
   -- what `release_lists` requires
-  pub parts-keyed : Keyed s allocs × (keysOk (keysHere s allocs) ≡ true) × Keyed s records × (keysOk (keysHere s records) ≡ true)
+  pub parts-keyed : Keyed s allocs × (keysOk (keysHere s allocs) ≡ true) × Keyed s records
   parts-keyed =
-      let ok = trees-ok s z in
-      let a = keyed-ok allocs-at (ok .alloc) in
-      let g = keyed-ok records-at (ok .gens) in
-      (a .0, a .1, g .0, g .1)
+      let a = keyed-ok allocs-at (trees-ok s z .alloc) in
+      (a .0, a .1, keyed records-at)
 
   pub parts-requested : Requested s requests
   parts-requested = requested requests-at

@@ -10,8 +10,9 @@ use Rattle.calls.specs.Lists.{allOf, those}
 use Rattle.calls.specs.Refusals.{verdict}
 use Rattle.calls.specs.Release.{freedOk, freedBuckets, freedIn, isEmptied, bucketRefusal, emptiedGen}
 use Rattle.freed.specs.Freeds.{freedsIn, Requested}
+use Rattle.gens.specs.Records.{RecordsFound}
 use Rattle.shares.specs.Buckets.{bucketsIn}
-use Rattle.shares.specs.Tables.{RecordsOf, Tabled}
+use Rattle.shares.specs.Tables.{Tabled}
 
 -- what a release reads of a volume: its head, its alloc keys and its generation records
 abbrev pub volumeOf : Head → List Key → List Key → Volume
@@ -41,7 +42,7 @@ pub record Laid (s : List ℕ) (h : Head) (requests buckets amounts places recor
   pub head : volume .head ≡ h
   pub summed : Summed s (h .bucketSectors) requests buckets amounts
   pub tabled : Tabled s volume (freedsIn s requests) buckets amounts places
-  pub recorded : RecordsOf s records (volume .trees .gens)
+  pub recorded : RecordsFound s (volume .trees .gens) records
 
 -- where no bucket refuses, with the buckets that are emptied
 pub record Drafted (s : List ℕ) (h : Head) (requests buckets amounts places records gone ages : List ℕ) : Type 0 where

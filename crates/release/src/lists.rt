@@ -19,6 +19,7 @@ ghost use Rattle.shares.specs.Places.{Keyed};
 ghost use Rattle.release.specs.Outcomes.{volumeOf, Summed, Laid, Drafted, bucketTests};
 use freed::requests;
 use freed::sums;
+use gens::records;
 use reader::head::Head;
 use shares::alloc_keys;
 use shares::allocs;
@@ -26,7 +27,6 @@ use shares::bare;
 use shares::counts;
 use shares::lru_keys;
 use shares::queued;
-use shares::records;
 use shares::refusals;
 use shares::roots;
 use shares::user_rows;
@@ -167,7 +167,7 @@ fn release_tables(
     )
 }
 
-// The answer where the freed buckets are listed. The layout shows that keys ascend, here and below.
+// The answer where the freed buckets are listed. The layout shows that alloc keys ascend, here and below.
 fn release_buckets(
     s: &[u8],
     head: Head,
@@ -179,7 +179,7 @@ fn release_buckets(
     out: &mut [u8],
     written: &mut usize,
 ) -> u32
-    requires { ⌜ Keyed (now s) (now alloc) × (keysOk (keysHere (now s) (now alloc)) ≡ true) × Keyed (now s) (now gens) × (keysOk (keysHere (now s) (now gens)) ≡ true) ⌝ }
+    requires { ⌜ Keyed (now s) (now alloc) × (keysOk (keysHere (now s) (now alloc)) ≡ true) × Keyed (now s) (now gens) ⌝ }
     requires { ⌜ Summed (now s) (headIn head .bucketSectors) (now requests) (now buckets) (now amounts) × (now written ≡ 0) ⌝ }
     ensures { λ r. ⌜ made r (now (written .exit)) (now (out .exit)) ≡ outcome (answer (bucketTests (volumeOf (headIn head) (keysHere (now (s .entry)) (now (alloc .entry))) (keysHere (now (s .entry)) (now (gens .entry)))) (freedsIn (now (s .entry)) (now (requests .entry)))) (changeBytes (releaseBatch (volumeOf (headIn head) (keysHere (now (s .entry)) (now (alloc .entry))) (keysHere (now (s .entry)) (now (gens .entry)))) (freedsIn (now (s .entry)) (now (requests .entry))) ∷ [])) (length (now (out .entry)))) (now (out .entry)) ⌝ }
 {
@@ -230,7 +230,7 @@ pub fn release_lists(
     out: &mut [u8],
     written: &mut usize,
 ) -> u32
-    requires { ⌜ Keyed (now s) (now alloc) × (keysOk (keysHere (now s) (now alloc)) ≡ true) × Keyed (now s) (now gens) × (keysOk (keysHere (now s) (now gens)) ≡ true) ⌝ }
+    requires { ⌜ Keyed (now s) (now alloc) × (keysOk (keysHere (now s) (now alloc)) ≡ true) × Keyed (now s) (now gens) ⌝ }
     requires { ⌜ Requested (now s) (now requests) × (length (now requests) ≤ 1024) × Cleared (now scratch) × (now written ≡ 0) ⌝ }
     ensures { λ r. ⌜ (made r (now (written .exit)) (now (out .exit)) ≡ outcome (answer (releaseTests (volumeOf (headIn head) (keysHere (now (s .entry)) (now (alloc .entry))) (keysHere (now (s .entry)) (now (gens .entry)))) (freedsIn (now (s .entry)) (now (requests .entry)))) (changeBytes (releaseBatch (volumeOf (headIn head) (keysHere (now (s .entry)) (now (alloc .entry))) (keysHere (now (s .entry)) (now (gens .entry)))) (freedsIn (now (s .entry)) (now (requests .entry))) ∷ [])) (length (now (out .entry)))) (now (out .entry))) × (now (scratch .exit) ≡ replicate 65536 0 ++ drop 65536 (now (scratch .entry))) ⌝ }
 {

@@ -1,6 +1,5 @@
 pub mod PlaceLaws
 pub mod AllocLaws
-pub mod RecordLaws
 pub mod RefusalLaws
 pub mod ShareLaws
 pub mod FieldBytesLaws

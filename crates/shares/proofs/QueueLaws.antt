@@ -7,7 +7,7 @@ use Prim.Native.Nat.{ℕ, zero, suc, _+_, _/_, _≤_, _<_}
 use native.Mathlib.Omega.{arith}
 use lib.ListN.{length, getD, drop}
 use lib.Dec.{eqb}
-use borrow.Author.Tests.{eqb-true, eqb-false, ne-eqb}
+use borrow.Author.Tests.{eqb-true, eqb-false, eq-eqb, ne-eqb}
 use Rattle.wire.specs.Keys.{Key}
 use Rattle.wire.specs.Order.{cmp}
 use Rattle.wire.specs.Held.{keyIn}
@@ -30,30 +30,24 @@ use Rattle.calls.proofs.TreeLaws.{onEq-ne}
 use Rattle.calls.proofs.GensLaws.{key-is}
 use Rattle.calls.proofs.View.{bucket}
 use Rattle.reader.specs.KeyHere.{keyHere}
+use Rattle.gens.specs.Records.{recordAt}
 use Rattle.shares.specs.FieldBytes.{keysBytes}
-use Rattle.shares.specs.Places.{PlaceOf}
 use Rattle.shares.specs.Buckets.{bucketsIn}
 use Rattle.shares.specs.Queueing.{continued, Next}
 use Rattle.shares.specs.declared.queued.Queued.{Queued}
-use Rattle.shares.specs.Tables.{RecordsOf}
 use Rattle.shares.proofs.FieldBytesLaws.{keys-append, keys-one, keys-none}
-use Rattle.shares.proofs.PlaceLaws.{place-some, place-none}
 use Rattle.shares.proofs.AllocLaws.{order-at}
 use Rattle.shares.proofs.ShareLaws.{buckets-next, buckets-none}
 
--- ---- a bucket's record in the tree
-module _ {s records : List ℕ} {gens : List Key} (r : RecordsOf s records gens) (b : Bucket) (h : b .0 < 65536) where
-  its : PlaceOf s (getD records (gensAt b .offset) 0) (genRecord gens b)
-  unfolding genRecord
-  its = r .at (b .0 / 256) (omega arith)
-
-  pub key-new : getD records (gensAt b .offset) 0 ≡ 0 → genKey gens b ≡ newKey 30 0 (gensAt b) noGens
+-- ---- a bucket's record in the tree, by its entry
+module _ (s : List ℕ) (gens : List Key) (b : Bucket) (at : ℕ) (e : recordAt s at ≡ genRecord gens b) where
+  pub key-new : at ≡ 0 → genKey gens b ≡ newKey 30 0 (gensAt b) noGens
   unfolding genKey
-  key-new e = rw (place-none its e)
+  key-new z = rw (← e, eq-eqb at 0 z)
 
-  pub key-old : 0 < getD records (gensAt b .offset) 0 → genKey gens b ≡ keyHere s (getD records (gensAt b .offset) 0)
+  pub key-old : (at ≡ 0 → ⊥) → genKey gens b ≡ keyHere s at
   unfolding genKey
-  key-old e = rw (place-some its e .0)
+  key-old n = rw (← e, ne-eqb at 0 n)
 
 -- a byte past the end changes nothing
 pub aged-past : (b : Bucket) (generation : ℕ) (v : List ℕ) → length v ≤ gensByte b → withGen b generation v ≡ v

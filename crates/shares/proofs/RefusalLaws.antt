@@ -3,47 +3,24 @@ use mathlib.Core.Path.{_≡_, sym, ap, _∙_}
 use mathlib.Core.Bool.{Bool, true, false, not, _&&_}
 use mathlib.Core.List.{List, [], _∷_, map}
 use mathlib.Core.Option.{none, some}
-use Prim.Native.Nat.{ℕ, _/_, _≤_, _<_}
+use Prim.Native.Nat.{ℕ, _≤_, _<_}
 use native.Mathlib.Omega.{arith}
-use lib.ListN.{length, getD}
+use lib.ListN.{length}
 use lib.Dec.{leb, eqb}
 use borrow.Author.Tests.{le-leb, lt-leb, eq-eqb, ne-eqb}
 use Rattle.wire.specs.Keys.{Key}
-use Rattle.wire.specs.Positions.{allocAt, gensAt, gensByte}
+use Rattle.wire.specs.Positions.{allocAt}
 use Rattle.wire.specs.declared.kinds.Bucket.{Bucket}
 use Rattle.format.specs.Packing.{get}
 use Rattle.format.specs.AllocV4.{dirtySectors}
 use Rattle.calls.specs.CallList.{Volume, Freed}
-use Rattle.calls.specs.Generations.{genRecord, genShort}
+use Rattle.calls.specs.Generations.{genShort}
 use Rattle.calls.specs.Refusals.{test, verdict}
 use Rattle.calls.specs.Release.{freedIn, allocValue, dirtyAt, isEmptied, bucketRefusal}
 use Rattle.calls.specs.Trees.{lookup}
-use Rattle.reader.specs.KeyHere.{keyHere, Whole}
-use Rattle.shares.specs.Places.{PlaceOf}
-use Rattle.shares.specs.Tables.{RecordsOf, Recorded, ShareAt}
+use Rattle.reader.specs.KeyHere.{keyHere}
+use Rattle.shares.specs.Tables.{ShareAt}
 use Rattle.shares.proofs.PlaceLaws.{place-some, place-none}
-
--- ---- a bucket's generation record
-record-place : (b : Bucket) → b .0 < 65536 → b .0 / 256 < 256
-record-place b h = omega arith
-
-module _ {s records : List ℕ} {gens : List Key} (r : RecordsOf s records gens) (b : Bucket) (h : b .0 < 65536) where
-  its : PlaceOf s (getD records (gensAt b .offset) 0) (genRecord gens b)
-  unfolding genRecord
-  its = r .at (b .0 / 256) (record-place b h)
-
-  pub short-none : getD records (gensAt b .offset) 0 ≡ 0 → genShort gens b ≡ false
-  unfolding genShort
-  short-none e = rw (place-none its e)
-
-  pub short-some : 0 < getD records (gensAt b .offset) 0
-      → genShort gens b ≡ leb (length (keyHere s (getD records (gensAt b .offset) 0) .value)) (gensByte b)
-  unfolding genShort
-  short-some e = rw (place-some its e .0)
-
-pub record-there : {s records : List ℕ} → Recorded s records → (b : Bucket) → b .0 < 65536 → 0 < getD records (gensAt b .offset) 0
-    → Whole s (getD records (gensAt b .offset) 0)
-record-there r b h e = place-some (r .are .at (b .0 / 256) (record-place b h)) e .1
 
 -- ---- 15 to 19 at a bucket
 -- of a value of n bytes with d dirty sectors, where f are freed of a bucket of so many sectors

@@ -1,4 +1,4 @@
--- The tables of a release: the place of each freed bucket's alloc key, and of each generation record.
+-- The tables of a release: the place of each freed bucket's alloc key.
 use mathlib.Core.Path.{_≡_}
 use Prim.Native.Nat.{ℕ, _<_}
 use mathlib.Core.List.{List, map}
@@ -7,9 +7,9 @@ use Rattle.wire.specs.Keys.{Key}
 use Rattle.wire.specs.Positions.{allocAt}
 use Rattle.calls.specs.CallList.{Volume, Freed}
 use Rattle.calls.specs.Trees.{lookup}
-use Rattle.calls.specs.Generations.{ofType30}
 use Rattle.calls.specs.Refusals.{verdict}
 use Rattle.calls.specs.Release.{freedBuckets, freedIn, bucketRefusal}
+use Rattle.gens.specs.Records.{RecordsFound}
 use Rattle.shares.specs.Places.{PlaceOf}
 use Rattle.shares.specs.Buckets.{bucketsIn}
 
@@ -17,16 +17,6 @@ use Rattle.shares.specs.Buckets.{bucketsIn}
 pub record PlacesOf (s buckets places : List ℕ) (alloc : List Key) : Type 0 where
   pub count : length places ≡ length buckets
   pub at : (i : ℕ) → i < length buckets → PlaceOf s (getD places i 0) (lookup (allocAt (record { 0 = getD buckets i 0 })) alloc)
-
--- the generation record at each of 256 offsets
-pub record RecordsOf (s records : List ℕ) (gens : List Key) : Type 0 where
-  pub count : length records ≡ 256
-  pub at : (o : ℕ) → o < 256 → PlaceOf s (getD records o 0) (ofType30 (lookup (record { inode = 0; offset = o; snapshot = 0 }) gens))
-
--- the records of some tree
-pub record Recorded (s records : List ℕ) : Type 0 where
-  pub gens : List Key
-  pub are : RecordsOf s records gens
 
 -- what the tables say of a freed bucket: its sum, and the place of its alloc key
 pub record ShareAt (s : List ℕ) (v : Volume) (rs : List Freed) (b amount place : ℕ) : Type 0 where
@@ -46,7 +36,7 @@ pub record Known (s buckets amounts places records : List ℕ) : Type 0 where
   pub volume : Volume
   pub requests : List Freed
   pub tabled : Tabled s volume requests buckets amounts places
-  pub recorded : RecordsOf s records (volume .trees .gens)
+  pub recorded : RecordsFound s (volume .trees .gens) records
 
 -- those of some volume and requests that no bucket refuses
 pub record Passed (s buckets amounts places : List ℕ) : Type 0 where

@@ -6,7 +6,6 @@ pub mod counts;
 pub mod lru_keys;
 pub mod places;
 pub mod queued;
-pub mod records;
 pub mod refusals;
 pub mod roots;
 pub mod shares;

@@ -15,12 +15,12 @@ ghost use Rattle.calls.specs.Lists.{inOrder};
 ghost use Rattle.calls.specs.Generations.{genKey};
 ghost use Rattle.calls.specs.Release.{gensQueued};
 ghost use Rattle.calls.specs.Trees.{newKey, withValue};
+ghost use Rattle.gens.specs.Records.{Recorded, RecordsFound};
 ghost use Rattle.shares.specs.FieldBytes.{keysBytes};
 ghost use Rattle.shares.specs.Buckets.{bucketsIn};
 ghost use Rattle.shares.specs.Queueing.{Next};
-ghost use Rattle.shares.specs.Tables.{RecordsOf, Recorded};
 use crate::alloc_keys;
-use format::gens;
+use gens::records;
 use reader::key;
 use wire::emit_key;
 use wire::keys::Bkey;
@@ -43,18 +43,16 @@ fn new_record(b: Bucket) -> Bkey
         version_hi: 0,
         version_lo: 0,
         pos: positions::gens_at(b),
-        value: gens::no_gens(),
+        value: format::gens::no_gens(),
     }
 }
 
 // A bucket's record before this release. The tables show what is required, here and below.
 fn old_record(s: &[u8], records: &[u32], b: Bucket) -> Bkey
     requires { ⌜ Recorded (now s) (now records) × (b .0 < 65536) ⌝ }
-    ensures { λ r. ⌜ (r .value .len ≤ 256) × ((gens : List Key) → RecordsOf (now (s .entry)) (now (records .entry)) gens → keyIn r ≡ genKey gens b) ⌝ }
+    ensures { λ r. ⌜ (r .value .len ≤ 256) × ((gens : List Key) → RecordsFound (now (s .entry)) gens (now (records .entry)) → keyIn r ≡ genKey gens b) ⌝ }
 {
-    let p = positions::gens_at(b);
-    let o = p.offset as usize;
-    let at = records[o] as usize;
+    let at = records::record_of(records, b);
     if at == 0 {
         return new_record(b);
     }
@@ -70,13 +68,13 @@ fn aged(k: Bkey, b: Bucket, generation: u8) -> Bkey
     if value.len <= positions::gens_byte(b) {
         return k;
     }
-    alloc_keys::with_value(k, gens::with_gen(value, b, generation))
+    alloc_keys::with_value(k, format::gens::with_gen(value, b, generation))
 }
 
 // The record of the next emptied bucket: the last one continued, or the one before this release.
 fn next_record(s: &[u8], records: &[u32], last: Queued, b: Bucket, generation: u8) -> Queued
     requires { ⌜ Recorded (now s) (now records) × (b .0 < 65536) × (last .key .value .len ≤ 256) ⌝ }
-    ensures { λ r. ⌜ (r .key .value .len ≤ 256) × ((gens : List Key) → RecordsOf (now (s .entry)) (now (records .entry)) gens → Next gens last b generation r) ⌝ }
+    ensures { λ r. ⌜ (r .key .value .len ≤ 256) × ((gens : List Key) → RecordsFound (now (s .entry)) gens (now (records .entry)) → Next gens last b generation r) ⌝ }
 {
     let p = positions::gens_at(b);
     let after = p.offset + 1;
@@ -103,7 +101,7 @@ pub fn put_gens(
     at: usize,
 ) -> usize
     requires { ⌜ Recorded (now s) (now records) × (length (now ages) ≡ length (now gone)) × ((j : ℕ) → j < length (now gone) → getD (now gone) j 0 < 65536) × (inOrder bucketBelow (bucketsIn (now gone)) ≡ true) ⌝ }
-    ensures { λ r. ⌜ ((gens : List Key) (age : kinds.Bucket → ℕ) → RecordsOf (now (s .entry)) (now (records .entry)) gens → now (ages .entry) ≡ map age (bucketsIn (now (gone .entry))) → Emitted (now (out .entry)) at (keysBytes 14 (gensQueued age gens (bucketsIn (now (gone .entry))))) (now (out .exit)) r) ⌝ }
+    ensures { λ r. ⌜ ((gens : List Key) (age : kinds.Bucket → ℕ) → RecordsFound (now (s .entry)) gens (now (records .entry)) → now (ages .entry) ≡ map age (bucketsIn (now (gone .entry))) → Emitted (now (out .entry)) at (keysBytes 14 (gensQueued age gens (bucketsIn (now (gone .entry))))) (now (out .exit)) r) ⌝ }
 {
     let mut p = at;
     let mut k: usize = 0;

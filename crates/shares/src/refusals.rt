@@ -2,33 +2,18 @@
 ghost use mathlib.Core.Path.{_≡_};
 ghost use mathlib.Core.List.{List, map};
 ghost use Prim.Native.Nat.{_<_};
-ghost use Rattle.wire.specs.Keys.{Key};
 ghost use Rattle.calls.specs.CallList.{Volume, Freed};
-ghost use Rattle.calls.specs.Generations.{genShort};
 ghost use Rattle.calls.specs.Refusals.{verdict};
 ghost use Rattle.calls.specs.Release.{freedBuckets, bucketRefusal};
+ghost use Rattle.gens.specs.Records.{Recorded, RecordsFound};
 ghost use Rattle.shares.specs.Places.{Standing};
-ghost use Rattle.shares.specs.Tables.{RecordsOf, Recorded, ShareAt, Tabled, Known};
+ghost use Rattle.shares.specs.Tables.{ShareAt, Tabled, Known};
 use format::alloc;
+use gens::lookup;
 use reader::key;
 use wire::kinds::Bucket;
-use wire::positions;
 
-// Whether a bucket's generation record is too short for its byte. The tables show what is required, here and below.
-fn gen_short(s: &[u8], records: &[u32], b: Bucket) -> bool
-    requires { ⌜ Recorded (now s) (now records) × (b .0 < 65536) ⌝ }
-    ensures { λ r. ⌜ ((gens : List Key) → RecordsOf (now (s .entry)) (now (records .entry)) gens → r ≡ genShort gens b) ⌝ }
-{
-    let p = positions::gens_at(b);
-    let o = p.offset as usize;
-    let at = records[o] as usize;
-    if at == 0 {
-        return false;
-    }
-    key::value_len(s, at) <= positions::gens_byte(b)
-}
-
-// 15 to 19 at a bucket.
+// 15 to 19 at a bucket. The tables show what is required, here and below.
 fn bucket_refusal(
     s: &[u8],
     sectors: u64,
@@ -38,7 +23,7 @@ fn bucket_refusal(
     place: usize,
 ) -> u32
     requires { ⌜ Recorded (now s) (now records) × Standing (now s) place × (b .0 < 65536) ⌝ }
-    ensures { λ r. ⌜ ((v : Volume) (rs : List Freed) → ShareAt (now (s .entry)) v rs (b .0) amount place → RecordsOf (now (s .entry)) (now (records .entry)) (v .trees .gens) → v .head .bucketSectors ≡ sectors → r ≡ bucketRefusal v rs b) ⌝ }
+    ensures { λ r. ⌜ ((v : Volume) (rs : List Freed) → ShareAt (now (s .entry)) v rs (b .0) amount place → RecordsFound (now (s .entry)) (v .trees .gens) (now (records .entry)) → v .head .bucketSectors ≡ sectors → r ≡ bucketRefusal v rs b) ⌝ }
 {
     if place == 0 {
         return 15;
@@ -54,7 +39,7 @@ fn bucket_refusal(
         return 18;
     }
     if dirty == amount {
-        if gen_short(s, records, b) {
+        if lookup::gen_short(s, records, b) {
             return 19;
         }
     }
@@ -71,7 +56,7 @@ pub fn refuse(
     records: &[u32],
 ) -> u32
     requires { ⌜ Known (now s) (now buckets) (now amounts) (now places) (now records) ⌝ }
-    ensures { λ r. ⌜ ((v : Volume) (rs : List Freed) → Tabled (now (s .entry)) v rs (now (buckets .entry)) (now (amounts .entry)) (now (places .entry)) → RecordsOf (now (s .entry)) (now (records .entry)) (v .trees .gens) → v .head .bucketSectors ≡ sectors → r ≡ verdict (map (bucketRefusal v rs) (freedBuckets sectors rs))) ⌝ }
+    ensures { λ r. ⌜ ((v : Volume) (rs : List Freed) → Tabled (now (s .entry)) v rs (now (buckets .entry)) (now (amounts .entry)) (now (places .entry)) → RecordsFound (now (s .entry)) (v .trees .gens) (now (records .entry)) → v .head .bucketSectors ≡ sectors → r ≡ verdict (map (bucketRefusal v rs) (freedBuckets sectors rs))) ⌝ }
 {
     let mut k: usize = 0;
     while k < buckets.len() {

@@ -1,8 +1,12 @@
 -- `place::place_buckets` meets its contract. Assumes nothing.
-use mathlib.Core.Path.{sym, subst}
+use mathlib.Core.Path.{refl, sym, subst}
 use mathlib.Core.List.{List}
 use Prim.Native.Nat.{ℕ}
 use lib.Seq.{length-take-le}
+use Rattle.wire.specs.Keys.{Key}
+use Rattle.reader.specs.Located.{KeysAt}
+use Rattle.reader.proofs.KeyHereLaws.{keys-here}
+use Rattle.gens.specs.Records.{RecordsFound}
 use Rattle.placed.specs.Plan.{Plan}
 use borrow.Author.Needs.{needs}
 use Rattle.place.proofs.place.place_buckets.Statement.{statement}
@@ -12,13 +16,23 @@ abbrev start : tie.After-find-records → tie.Start
 start c = c .before .before .before .before .before .before .before .before .before
 
 find-records-requires : tie.Need-find-records-requires
-find-records-requires c κs = search needs
+find-records-requires c κs =
+    let a = c .before .before .before .before .before .before .before .before in
+    (subst (KeysAt (a .args .s .now) (a .args .gens .now)) (keys-here (a .pre .1 .2)) (a .pre .1 .2), refl)
 
 slice-aggregate-fill-gens : tie.Need-slice-aggregate-fill-gens
 slice-aggregate-fill-gens c = search needs
 
+slice-aggregate-fill-gens-2 : tie.Need-slice-aggregate-fill-gens-2
+slice-aggregate-fill-gens-2 c = search needs
+
 fill-gens-requires : tie.Need-fill-gens-requires
-fill-gens-requires c κs = search needs
+fill-gens-requires c κs =
+    let f = c .before .before in
+    let a = start f in (
+      subst (λ (ks : List Key). RecordsFound (a .args .s .now) ks (f .find-records .last .1 .1 .0)) (sym (keys-here (a .pre .1 .2))) (f .find-records .ensures),
+      search needs,
+    )
 
 write-clock-requires : tie.Need-write-clock-requires
 write-clock-requires c κs = search needs
@@ -49,6 +63,7 @@ place-buckets-spec =
     (tie.spec
     find-records-requires
     slice-aggregate-fill-gens
+    slice-aggregate-fill-gens-2
     fill-gens-requires
     write-clock-requires
     array-share-prefix-ages

@@ -5,14 +5,19 @@ use lib.ListN.{length, take}
 use Rattle.reader.specs.KeyHere.{keysHere}
 use Rattle.reader.specs.Heads.{headIn}
 use Rattle.release.specs.Outcomes.{volumeOf, Laid}
-use Rattle.release.proofs.TopLaws.{summed-few, summed-up, tables-made, zeros-at}
+use Rattle.release.proofs.TopLaws.{summed-few, summed-up, tables-made}
 use borrow.Author.Needs.{needs}
 use Rattle.release.proofs.lists.release_buckets.Statement.{statement}
 use Rattle.release.proofs.lists.release_buckets.Tie as tie
 
-abbrev laid : (c : tie.After-find-records) → Laid (c .before .before .before .before .before .before .before .before .before .before .before .before .args .s .now) (headIn (c .before .before .before .before .before .before .before .before .before .before .before .before .args .head)) (c .before .before .before .before .before .before .before .before .before .before .before .before .args .requests .now) (c .before .before .before .before .before .before .before .before .before .before .before .before .args .buckets .now) (c .before .before .before .before .before .before .before .before .before .before .before .before .args .amounts .now) (take (length (c .before .before .before .before .before .before .before .before .before .before .before .before .args .buckets .now)) (c .before .before .before .find-allocs .last .1 .1 .1 .0)) (c .find-records .last .1 .1 .0)
+abbrev start : tie.After-find-records → tie.Start
+start c = c .before .before .before .before .before .before .before .before .before .before .before .before
+
+abbrev laid : (c : tie.After-find-records) →
+    let a = start c .args in
+    Laid (a .s .now) (headIn (a .head)) (a .requests .now) (a .buckets .now) (a .amounts .now) (take (length (a .buckets .now)) (c .before .before .before .find-allocs .last .1 .1 .1 .0)) (c .find-records .last .1 .1 .0)
 laid c =
-    let a = c .before .before .before .before .before .before .before .before .before .before .before .before in
+    let a = start c in
     let v = volumeOf (headIn (a .args .head)) (keysHere (a .args .s .now) (a .args .alloc .now)) (keysHere (a .args .s .now) (a .args .gens .now)) in
     let m = a .pre .1 .0 in
     record { volume = v; head = refl; summed = m; tabled = tables-made m v refl (c .before .before .before .find-allocs .ensures); recorded = c .find-records .ensures }
@@ -23,14 +28,11 @@ slice-aggregate-find-allocs c = search needs
 find-allocs-requires : tie.Need-find-allocs-requires
 find-allocs-requires c κs = let a = c .before .before .before .before .before .before .before .before in let m = a .pre .1 .0 in ((a .pre .0 .0, a .pre .0 .1), (summed-up m, summed-few m))
 
-slice-aggregate-find-records : tie.Need-slice-aggregate-find-records
-slice-aggregate-find-records c = search needs
-
 find-records-requires : tie.Need-find-records-requires
-find-records-requires c κs = let a = c .before .before .before .before .before .before .before .before .before .before .before in ((a .pre .0 .2, a .pre .0 .3), (refl, zeros-at 256))
+find-records-requires c κs = let a = c .before .before .before .before .before .before .before .before .before .before .before in (a .pre .0 .2, refl)
 
 array-share-prefix-places : tie.Need-array-share-prefix-places
-array-share-prefix-places c = omega (arith, c .before .before .before .before .find-allocs .kept .1 .1 .1 .0, summed-few (c .before .before .before .before .before .before .before .before .before .before .before .before .before .pre .1 .0))
+array-share-prefix-places c = omega (arith, c .before .before .before .find-allocs .kept .1 .1 .1 .0, summed-few (start c .pre .1 .0))
 
 slice-aggregate-release-tables : tie.Need-slice-aggregate-release-tables
 slice-aggregate-release-tables c = search needs
@@ -39,13 +41,13 @@ slice-aggregate-release-tables-2 : tie.Need-slice-aggregate-release-tables-2
 slice-aggregate-release-tables-2 c = search needs
 
 release-tables-requires : tie.Need-release-tables-requires
-release-tables-requires c κs = (laid (c .before .before .before .before .before), c .before .before .before .before .before .before .before .before .before .before .before .before .before .before .before .before .before .pre .1 .1)
+release-tables-requires c κs = (laid (c .before .before .before .before), start (c .before .before .before .before) .pre .1 .1)
 
 same-length : tie.Need-same-length
 same-length c = search needs
 
 returns : tie.Need-returns
-returns c = c .before .before .release-tables .ensures (laid (c .before .before .before .before .before .before .before .before))
+returns c = c .before .before .release-tables .ensures (laid (c .before .before .before .before .before .before .before))
 
 pub release-buckets-spec : {M : Type 1} → statement M
 release-buckets-spec =
@@ -53,7 +55,6 @@ release-buckets-spec =
     (tie.spec
     slice-aggregate-find-allocs
     find-allocs-requires
-    slice-aggregate-find-records
     find-records-requires
     array-share-prefix-places
     slice-aggregate-release-tables

@@ -7,14 +7,14 @@ use lib.ListN.{length}
 use Rattle.wire.specs.Keys.{Key}
 use Rattle.wire.specs.declared.kinds.Bucket.{Bucket}
 use Rattle.wire.proofs.OutputLaws.{wrote-length}
+use Rattle.gens.specs.Records.{RecordsFound}
 use Rattle.shares.specs.Buckets.{bucketsIn}
-use Rattle.shares.specs.Tables.{RecordsOf}
 use Rattle.shares.proofs.QueueLaws.{Queue, queue-starts, queue-turn, queue-ends, age-at}
 use Rattle.shares.proofs.queued.put_gens.Statement.{statement}
 use Rattle.shares.proofs.queued.put_gens.Tie as tie
 
 abbrev Inv-loop : tie.InvT-loop
-Inv-loop s records gone ages out₀ at p₀ k₀ last₀ out p k last = (k ≤ length gone) × (last .key .value .len ≤ 256) × (length out ≡ length out₀) × ((gens : List Key) (age : Bucket → ℕ) → RecordsOf s records gens → ages ≡ map age (bucketsIn gone) → Queue gens age gone out₀ out at p k last)
+Inv-loop s records gone ages out₀ at p₀ k₀ last₀ out p k last = (k ≤ length gone) × (last .key .value .len ≤ 256) × (length out ≡ length out₀) × ((gens : List Key) (age : Bucket → ℕ) → RecordsFound s gens records → ages ≡ map age (bucketsIn gone) → Queue gens age gone out₀ out at p k last)
 
 abbrev μ-loop : tie.MeasureT-loop
 μ-loop s records gone ages out₀ at p₀ k₀ last₀ out p k last = length gone - k

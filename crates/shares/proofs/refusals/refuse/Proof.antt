@@ -7,15 +7,16 @@ use lib.ListN.{length, drop}
 use Rattle.calls.specs.CallList.{Volume, Freed}
 use Rattle.calls.specs.Refusals.{verdict}
 use Rattle.calls.specs.Release.{bucketRefusal}
+use Rattle.gens.specs.Records.{RecordsFound}
 use Rattle.shares.specs.Buckets.{bucketsIn}
-use Rattle.shares.specs.Tables.{RecordsOf, Tabled}
+use Rattle.shares.specs.Tables.{Tabled}
 use Rattle.shares.proofs.ShareLaws.{buckets-next, buckets-none, tabled-verdict}
 use Rattle.shares.proofs.RefusalLaws.{verdict-next, verdict-stops, verdict-none}
 use Rattle.shares.proofs.refusals.refuse.Statement.{statement}
 use Rattle.shares.proofs.refusals.refuse.Tie as tie
 
 abbrev Inv-loop : tie.InvT-loop
-Inv-loop s sectors buckets amounts places records k₀ k = (k ≤ length buckets) × ((v : Volume) (rs : List Freed) → Tabled s v rs buckets amounts places → RecordsOf s records (v .trees .gens) → v .head .bucketSectors ≡ sectors → verdict (map (bucketRefusal v rs) (drop k (bucketsIn buckets))) ≡ verdict (map (bucketRefusal v rs) (bucketsIn buckets)))
+Inv-loop s sectors buckets amounts places records k₀ k = (k ≤ length buckets) × ((v : Volume) (rs : List Freed) → Tabled s v rs buckets amounts places → RecordsFound s (v .trees .gens) records → v .head .bucketSectors ≡ sectors → verdict (map (bucketRefusal v rs) (drop k (bucketsIn buckets))) ≡ verdict (map (bucketRefusal v rs) (bucketsIn buckets)))
 
 abbrev μ-loop : tie.MeasureT-loop
 μ-loop s sectors buckets amounts places records k₀ k = length buckets - k
@@ -52,7 +53,7 @@ bucket-refusal-requires c κs =
     let l = c .before .before .before .before in
     let a = l .before .before .before .before .before .before in
     let t = a .pre .tabled .at (l .loop .k) (omega arith) in
-    (record { gens = _; are = a .pre .recorded }, record { key = _; is = t .key }, t .low)
+    (a .pre .recorded .stand, record { key = _; is = t .key }, t .low)
 
 returns : tie.Need-returns Inv-loop μ-loop
 returns c =

@@ -1,4 +1,4 @@
--- `gens::fill_gens` meets its contract. The invariant: those of the first i buckets are filled in. Assumes nothing.
+-- `ages::fill_gens` meets its contract. The invariant: those of the first i buckets are filled in. Assumes nothing.
 use native.Mathlib.Omega.{arith}
 use mathlib.Core.Path.{_≡_, refl}
 use Prim.Native.Nat.{_-_, _≤_}
@@ -6,8 +6,8 @@ use lib.ListN.{length, length-set}
 use Rattle.calls.specs.Answers.{readVolume}
 use Rattle.calls.specs.Generations.{genOf}
 use Rattle.placed.proofs.FillLaws.{Filled, filled-next, filled-end}
-use Rattle.placed.proofs.gens.fill_gens.Statement.{statement}
-use Rattle.placed.proofs.gens.fill_gens.Tie as tie
+use Rattle.placed.proofs.ages.fill_gens.Statement.{statement}
+use Rattle.placed.proofs.ages.fill_gens.Tie as tie
 
 abbrev Inv-loop : tie.InvT-loop
 Inv-loop out₀ s records taken i₀ out i = (i ≤ length taken) × (length out ≡ length out₀) × Filled (genOf (readVolume s .trees .gens)) taken out i
@@ -16,7 +16,7 @@ abbrev μ-loop : tie.MeasureT-loop
 μ-loop out₀ s records taken i₀ out i = length taken - i
 
 abbrev start : tie.At-loop Inv-loop μ-loop → tie.Start Inv-loop μ-loop
-start l = l .before .before .before .before
+start l = l .before .before .before .before .before
 
 loop-holds : tie.Need-loop-holds Inv-loop μ-loop
 loop-holds c = (omega arith, refl, refl)
@@ -28,7 +28,7 @@ shared-slice-read-t10 : tie.Need-shared-slice-read-t10 Inv-loop μ-loop
 shared-slice-read-t10 c = omega arith
 
 bucket-gen-requires : tie.Need-bucket-gen-requires Inv-loop μ-loop
-bucket-gen-requires c κs = let l = c .before .before in let a = start l in (a .pre .0, a .pre .1 .1 (l .loop .i))
+bucket-gen-requires c κs = let l = c .before .before in let a = start l in (a .pre .0 .stand, a .pre .1 .1 (l .loop .i))
 
 slice-write-out : tie.Need-slice-write-out Inv-loop μ-loop
 slice-write-out c =
@@ -47,7 +47,7 @@ loop-again c =
     let a = start l in
     let t = c .before .before .loop-test .taken in
     let e = l .loop .inv .1 in
-    (omega arith, simp length-set e, rw (c .bucket-gen .ensures) (filled-next (genOf (readVolume (a .args .s .now) .trees .gens)) (a .args .taken .now) (l .loop .out) (l .loop .i) (l .loop .inv .2) t (omega (arith, e, a .pre .1 .0, t))))
+    (omega arith, simp length-set e, rw (c .bucket-gen .ensures (readVolume (a .args .s .now) .trees .gens) (a .pre .0)) (filled-next (genOf (readVolume (a .args .s .now) .trees .gens)) (a .args .taken .now) (l .loop .out) (l .loop .i) (l .loop .inv .2) t (omega (arith, e, a .pre .1 .0, t))))
 
 same-length : tie.Need-same-length Inv-loop μ-loop
 same-length c = c .before .loop .inv .1

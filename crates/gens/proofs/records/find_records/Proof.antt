@@ -1,19 +1,17 @@
 -- `find_records` meets its contract. The loop's invariant: the table is that of the keys from here on.
-use mathlib.Core.Path.{_≡_, refl, sym, ap, _∙_}
-use Prim.Native.Nat.{ℕ, _+_, _-_, _/_, _%_, _≤_, _<_}
-use mathlib.Core.List.{List, _∷_}
+use mathlib.Core.Path.{_≡_}
+use Prim.Native.Nat.{_+_, _-_, _≤_, _<_}
 use lib.ListN.{length, drop, getD, drop-of-length-le}
-use Rattle.wire.specs.Keys.{Key}
-use Rattle.calls.specs.Answers.{readVolume}
-use Rattle.reader.specs.KeyHere.{keyHere}
+use Rattle.reader.specs.KeyHere.{keysHere}
 use Rattle.reader.proofs.KeyHereLaws.{whole-at, keys-next}
-use Rattle.choose.proofs.RecordLaws.{Noting, noting-start, noting-on}
+use Rattle.gens.specs.Records.{RecordsFound}
+use Rattle.gens.proofs.RecordLaws.{noting-start, noting-on}
 use native.Mathlib.Omega.{arith}
-use Rattle.choose.proofs.gens.find_records.Statement.{statement}
-use Rattle.choose.proofs.gens.find_records.Tie as tie
+use Rattle.gens.proofs.records.find_records.Statement.{statement}
+use Rattle.gens.proofs.records.find_records.Tie as tie
 
 abbrev Inv-loop : tie.InvT-loop
-Inv-loop s gens table₀ i₀ table i = (i ≤ length gens) × Noting s (drop i (readVolume s .trees .gens)) table
+Inv-loop s gens table₀ i₀ table i = (i ≤ length gens) × RecordsFound s (drop i (keysHere s gens)) table
 
 abbrev μ-loop : tie.MeasureT-loop
 μ-loop s gens table₀ i₀ table i = i
@@ -27,8 +25,8 @@ below t = omega (arith, t .loop-test .taken, t .before .loop .inv .0)
 loop-holds : tie.Need-loop-holds Inv-loop μ-loop
 loop-holds c =
     let a = c .before .before in
-    let h : length (readVolume (a .args .s .now) .trees .gens) ≤ length (a .args .gens .now) = omega (arith, a .pre .0 .count) in
-    (omega arith, rw (drop-of-length-le (readVolume (a .args .s .now) .trees .gens) h) (noting-start _ _ (a .pre .1)))
+    let h : length (keysHere (a .args .s .now) (a .args .gens .now)) ≤ length (a .args .gens .now) = omega (arith, a .pre .0 .count) in
+    (omega arith, rw (drop-of-length-le (keysHere (a .args .s .now) (a .args .gens .now)) h) (noting-start _ _ (a .pre .1)))
 
 sub-i : tie.Need-sub-i Inv-loop μ-loop
 sub-i c = omega arith
@@ -53,14 +51,14 @@ loop-again c =
     let i = l .loop .i - 1 in
     let e : i + 1 ≡ l .loop .i = omega (arith, t .loop-test .taken) in
     let n = keys-next (a .pre .0) i (below t) in
-    let m : Noting (a .args .s .now) (drop (i + 1) (readVolume (a .args .s .now) .trees .gens)) (l .loop .table) = rw e (l .loop .inv .1) in
+    let m : RecordsFound (a .args .s .now) (drop (i + 1) (keysHere (a .args .s .now) (a .args .gens .now))) (l .loop .table) = rw e (l .loop .inv .1) in
     (omega (arith, l .loop .inv .0), rw n (noting-on (a .args .s .now) (getD (a .args .gens .now) i 0) (whole-at (a .pre .0) i (below t)) _ _ m _ (c .note-record .ensures)))
 
 returns : tie.Need-returns Inv-loop μ-loop
 returns c =
     let l = c .before .loop in
     let e : l .i ≡ 0 = omega (arith, c .loop-test .left) in
-    rw e at (l .inv .1) .found
+    rw e at (l .inv .1)
 
 pub find-records-spec : {M : Type 1} → statement M
 find-records-spec =

@@ -2,26 +2,23 @@
 use mathlib.Core.Path.{_≡_, refl, ap, sym, _∙_}
 use mathlib.Core.Bool.{Bool, true, false, _&&_, and-false, cond}
 use mathlib.Core.List.{List, [], _∷_}
-use mathlib.Core.Option.{Option, none, some}
-use Prim.Native.Nat.{ℕ, zero, suc, _+_, _/_, _≤_, _<_, Ordering, Ordering·lt, Ordering·eq, Ordering·gt}
+use mathlib.Core.Option.{none, some}
+use Prim.Native.Nat.{ℕ, _/_, _≤_, _<_, Ordering, Ordering·lt, Ordering·eq, Ordering·gt}
 use native.Mathlib.Omega.{arith}
-use lib.Dec.{leb, ltb, eqb}
-use lib.ListN.{length, getD, set, drop, replicate, length-set, length-replicate, getD-replicate}
+use lib.Dec.{ltb, eqb}
+use lib.ListN.{length, getD, set, replicate, length-set, length-replicate, getD-replicate}
 use lib.Seq.{getD-set-same, getD-set-other}
 use borrow.Author.Tests.{eqb-true, eqb-false, eq-eqb, ne-eqb, lt-ltb, le-ltb, ltb-true, ltb-false}
 use Rattle.wire.specs.Keys.{Key}
 use Rattle.wire.specs.Order.{cmp}
-use Rattle.wire.specs.Positions.{gensAt, gensByte}
+use Rattle.wire.specs.Positions.{gensAt}
 use Rattle.wire.specs.declared.bpos.Bpos.{Bpos}
 use Rattle.wire.specs.declared.kinds.Bucket.{Bucket}
 use Rattle.wire.proofs.OrderLaws.{pos-cmp, mk-eq}
-use Rattle.format.specs.Gens.{genIn}
-use Rattle.calls.specs.Lists.{fromOption}
 use Rattle.calls.specs.Trees.{onEq, lookup}
-use Rattle.calls.specs.Generations.{ofType30, genRecord, genOf}
-use Rattle.calls.proofs.BoolLaws.{parts as and-true}
+use Rattle.calls.specs.Generations.{ofType30, genRecord}
 use Rattle.reader.specs.KeyHere.{keyHere, Whole}
-use Rattle.choose.specs.Records.{noted, recordAt, RecordsFound}
+use Rattle.gens.specs.Records.{noted, recordAt, RecordsFound}
 
 -- what the code stores, by its tests
 module _ (at : ℕ) (k : Key) (table : List ℕ) where
@@ -48,22 +45,14 @@ module _ (at : ℕ) (k : Key) (table : List ℕ) where
     pub noted-other : (k .type ≡ 30 → ⊥) → set table (k .pos .offset) 0 ≡ noted at k table
     noted-other n = ap (λ (t : Bool). set table (k .pos .offset) (cond t at 0)) (sym (ne-eqb (k .type) 30 n)) ∙ noted-here
 
--- the table of the keys so far
-pub record Noting (s : List ℕ) (ks : List Key) (table : List ℕ) : Type 0 where
-  pub size : length table ≡ 256
-  pub found : RecordsFound s ks table
-
-pub noting-start : (s table : List ℕ) → table ≡ replicate 256 0 → Noting s [] table
+-- no key yet
+pub noting-start : (s table : List ℕ) → table ≡ replicate 256 0 → RecordsFound s [] table
 unfolding genRecord lookup
 noting-start s table e =
     let z : (o : ℕ) → o < 256 → getD table o 0 ≡ 0 = λ o h. ap (λ (t : List ℕ). getD t o 0) e ∙ getD-replicate {A = ℕ} 256 o 0 0 h in
     record {
-      size = ap length e ∙ length-replicate {A = ℕ} 256 0;
-      found =
-          record {
-            whole = λ o h n. absurd (n (z o h));
-            is = λ b h. ap (recordAt s) (z (b .0 / 256) (omega arith));
-          };
+      stand = record { count = ap length e ∙ length-replicate {A = ℕ} 256 0; whole = λ o h n. absurd (n (z o h)) };
+      is = λ b h. ap (recordAt s) (z (b .0 / 256) (omega arith));
     }
 
 -- a key that no bucket's record is
@@ -86,7 +75,7 @@ unfolding cmp
 at-gens b k o i z = rw (mk-eq 0 (k .pos .inode) (sym i), mk-eq (b .0 / 256) (k .pos .offset) o, mk-eq 0 (k .pos .snapshot) (sym z))
 
 -- one key more, before the others
-module _ (s : List ℕ) (at : ℕ) (w : Whole s at) (ks : List Key) (table : List ℕ) (n : Noting s ks table) where
+module _ (s : List ℕ) (at : ℕ) (w : Whole s at) (ks : List Key) (table : List ℕ) (n : RecordsFound s ks table) where
   abbrev k : Key
   k = keyHere s at
 
@@ -108,26 +97,23 @@ module _ (s : List ℕ) (at : ℕ) (w : Whole s at) (ks : List Key) (table : Lis
       go true h = w
       go false h = absurd (h refl)
 
-  kept : ((b : Bucket) → b .0 < 65536 → cmp (gensAt b) (k .pos) ≡ Ordering·eq → ⊥) → Noting s (k ∷ ks) table
+  kept : ((b : Bucket) → b .0 < 65536 → cmp (gensAt b) (k .pos) ≡ Ordering·eq → ⊥) → RecordsFound s (k ∷ ks) table
   kept h =
-      record {
-        size = n .size;
-        found = record { whole = n .found .whole; is = λ b l. n .found .is b l ∙ record-same k ks b (h b l) };
-      }
+      record { stand = n .stand; is = λ b l. n .is b l ∙ record-same k ks b (h b l) }
 
-  stored : k .pos .inode ≡ 0 → k .pos .snapshot ≡ 0 → k .pos .offset < 256 → Noting s (k ∷ ks) (set table (k .pos .offset) entry)
+  stored : k .pos .inode ≡ 0 → k .pos .snapshot ≡ 0 → k .pos .offset < 256 → RecordsFound s (k ∷ ks) (set table (k .pos .offset) entry)
   stored i z o =
       record {
-        size = length-set table (k .pos .offset) entry ∙ n .size;
-        found =
+        stand =
             record {
+              count = length-set table (k .pos .offset) entry ∙ n .stand .count;
               whole = λ j h. at-index j h (eqb j (k .pos .offset)) refl;
-              is = λ b h. of-bucket b h (eqb (b .0 / 256) (k .pos .offset)) refl;
             };
+        is = λ b h. of-bucket b h (eqb (b .0 / 256) (k .pos .offset)) refl;
       }
     where
       inside : k .pos .offset < length table
-      inside = omega (arith, n .size)
+      inside = omega (arith, n .stand .count)
 
       same : getD (set table (k .pos .offset) entry) (k .pos .offset) 0 ≡ entry
       same = getD-set-same table (k .pos .offset) entry 0 inside
@@ -139,7 +125,7 @@ module _ (s : List ℕ) (at : ℕ) (w : Whole s at) (ks : List Key) (table : Lis
           rw (q, same) (entry-whole (λ v. m (ap (λ (x : ℕ). getD (set table (k .pos .offset) entry) x 0) q ∙ same ∙ v)))
       at-index j h false e m =
           let q = getD-set-other table (k .pos .offset) j entry 0 (eqb-false j (k .pos .offset) e) in
-          rw q (n .found .whole j h (λ v. m (q ∙ v)))
+          rw q (n .stand .whole j h (λ v. m (q ∙ v)))
 
       of-bucket : (b : Bucket) → b .0 < 65536 → (t : Bool) → eqb (b .0 / 256) (k .pos .offset) ≡ t
           → recordAt s (getD (set table (k .pos .offset) entry) (b .0 / 256) 0) ≡ genRecord (k ∷ ks) b
@@ -149,36 +135,17 @@ module _ (s : List ℕ) (at : ℕ) (w : Whole s at) (ks : List Key) (table : Lis
           ∙ record-here k ks b (at-gens b k q i z)
       of-bucket b h false e =
           let d = eqb-false (b .0 / 256) (k .pos .offset) e in
-          ap (recordAt s) (getD-set-other table (k .pos .offset) (b .0 / 256) entry 0 d) ∙ n .found .is b h
+          ap (recordAt s) (getD-set-other table (k .pos .offset) (b .0 / 256) entry 0 d) ∙ n .is b h
           ∙ record-same k ks b (λ c. d (ap (λ (p : Bpos). p .offset) (pos-cmp .eq-path (gensAt b) (k .pos) c)))
 
-  pub noting-on : (next : List ℕ) → next ≡ noted at k table → Noting s (k ∷ ks) next
+  pub noting-on : (next : List ℕ) → next ≡ noted at k table → RecordsFound s (k ∷ ks) next
   unfolding noted
   noting-on next e = rw e (go (eqb (k .pos .inode) 0) refl (eqb (k .pos .snapshot) 0) refl (ltb (k .pos .offset) 256) refl)
     where
       go : (t : Bool) → eqb (k .pos .inode) 0 ≡ t → (u : Bool) → eqb (k .pos .snapshot) 0 ≡ u → (v : Bool) → ltb (k .pos .offset) 256 ≡ v
-          → Noting s (k ∷ ks) (cond (t && (u && v)) (set table (k .pos .offset) entry) table)
+          → RecordsFound s (k ∷ ks) (cond (t && (u && v)) (set table (k .pos .offset) entry) table)
       go false f u g v h = kept (λ b l c. eqb-false (k .pos .inode) 0 f (sym (ap (λ (p : Bpos). p .inode) (pos-cmp .eq-path (gensAt b) (k .pos) c))))
       go true f false g v h = kept (λ b l c. eqb-false (k .pos .snapshot) 0 g (sym (ap (λ (p : Bpos). p .snapshot) (pos-cmp .eq-path (gensAt b) (k .pos) c))))
       go true f true g false h =
           kept (λ b l c. omega (arith, ltb-false (k .pos .offset) 256 h, ap (λ (p : Bpos). p .offset) (pos-cmp .eq-path (gensAt b) (k .pos) c)))
       go true f true g true h = stored (eqb-true (k .pos .inode) 0 f) (eqb-true (k .pos .snapshot) 0 g) (ltb-true (k .pos .offset) 256 h)
-
--- a bucket's generation, by the entry of its record
-module _ (s : List ℕ) (gens : List Key) (table : List ℕ) (b : Bucket) (at : ℕ) (e : recordAt s at ≡ genRecord gens b) where
-  pub gen-missing : at ≡ 0 → 0 ≡ genOf gens b
-  unfolding genOf
-  gen-missing z = rw (← e, eq-eqb at 0 z)
-
-  module _ (n : at ≡ 0 → ⊥) where
-    pub gen-here : genOf gens b ≡ fromOption 0 (λ g. g) (genIn (keyHere s at .value) b)
-    unfolding genOf
-    gen-here = rw (← e, ne-eqb at 0 n)
-
-    pub gen-past : length (keyHere s at .value) ≤ gensByte b → 0 ≡ genOf gens b
-    unfolding genIn
-    gen-past h = sym (gen-here ∙ rw (le-ltb (gensByte b) (length (keyHere s at .value)) h))
-
-    pub gen-there : gensByte b < length (keyHere s at .value) → getD (keyHere s at .value) (gensByte b) 0 ≡ genOf gens b
-    unfolding genIn
-    gen-there h = sym (gen-here ∙ rw (lt-ltb (gensByte b) (length (keyHere s at .value)) h))

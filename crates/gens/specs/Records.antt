@@ -1,7 +1,7 @@
 -- The table of the generation records.
 use Prim.Native.Nat.{ℕ, _/_, _<_}
 use mathlib.Core.Path.{_≡_}
-use mathlib.Core.Bool.{Bool, _&&_, cond}
+use mathlib.Core.Bool.{_&&_, cond}
 use mathlib.Core.List.{List}
 use mathlib.Core.Option.{Option, none, some}
 use lib.Dec.{ltb, eqb}
@@ -21,7 +21,12 @@ noted at k table =
 abbrev pub recordAt : List ℕ → ℕ → Option Key
 recordAt s at = cond (eqb at 0) none (some (keyHere s at))
 
+-- where an entry is not 0, a key stands
+pub record Recorded (s table : List ℕ) : Type 0 where
+  pub count : length table ≡ 256
+  pub whole : (o : ℕ) → o < 256 → (getD table o 0 ≡ 0 → ⊥) → Whole s (getD table o 0)
+
 -- the table finds the record that holds a bucket's generation
 pub record RecordsFound (s : List ℕ) (gens : List Key) (table : List ℕ) : Type 0 where
-  pub whole : (o : ℕ) → o < 256 → (getD table o 0 ≡ 0 → ⊥) → Whole s (getD table o 0)
+  pub stand : Recorded s table
   pub is : (b : Bucket) → b .0 < 65536 → recordAt s (getD table (b .0 / 256) 0) ≡ genRecord gens b

@@ -1,15 +1,14 @@
 -- `note_record` meets its contract.
-use mathlib.Core.Path.{_≡_, refl, sym, ap, _∙_}
-use mathlib.Core.List.{List}
-use Prim.Native.Nat.{ℕ, _+_, _-_, _/_, _%_, _≤_, _<_}
+use mathlib.Core.Path.{_≡_, sym, ap, _∙_}
+use Prim.Native.Nat.{ℕ, _<_}
 use lib.ListN.{set}
 use Rattle.wire.specs.declared.bpos.Bpos.{Bpos}
 use Rattle.reader.specs.KeyHere.{keyHere}
-use Rattle.choose.proofs.RecordLaws.{noted-inode, noted-snapshot, noted-past, noted-record, noted-other}
+use Rattle.gens.proofs.RecordLaws.{noted-inode, noted-snapshot, noted-past, noted-record, noted-other}
 use native.Mathlib.Omega.{arith}
 use borrow.Author.Needs.{needs}
-use Rattle.choose.proofs.gens.note_record.Statement.{statement}
-use Rattle.choose.proofs.gens.note_record.Tie as tie
+use Rattle.gens.proofs.records.note_record.Statement.{statement}
+use Rattle.gens.proofs.records.note_record.Tie as tie
 
 abbrev start : tie.Else3 → tie.Start
 start c = c .before .before .before .before .before .before .before .before
