@@ -34,6 +34,7 @@ pub mod ReleasePhases
 pub mod RunLaws
 pub mod SixTrees
 pub mod SortedLaws
+pub mod TakenAscend
 pub mod TotalLaws
 pub mod TreeFields
 pub mod TreeLaws
