@@ -20,6 +20,8 @@ pub mod Examples
 pub mod FieldBytes
 pub mod FitLaws
 pub mod GensLaws
+pub mod HistoryKeeps
+pub mod HistoryRecords
 pub mod JoinLaws
 pub mod KeyFitsLaws
 pub mod Phases
