@@ -22,6 +22,7 @@ pub mod FitLaws
 pub mod GensLaws
 pub mod HistoryKeeps
 pub mod HistoryRecords
+pub mod HistoryRuns
 pub mod JoinLaws
 pub mod KeyFitsLaws
 pub mod Phases
