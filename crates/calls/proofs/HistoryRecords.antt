@@ -8,7 +8,7 @@ use Rattle.wire.specs.Keys.{Key}
 use Rattle.wire.specs.Positions.{gensAt}
 use Rattle.wire.specs.declared.kinds.Bucket.{Bucket}
 use Rattle.wire.specs.Bytes.{All, none as nothing, more}
-use Rattle.format.specs.Gens.{withGen, noGens}
+use Rattle.format.specs.Gens.{noGens}
 use Rattle.format.proofs.GenLaws.{gens-length}
 use Rattle.calls.specs.Lists.{fromOption}
 use Rattle.calls.specs.CallList.{Volume}
@@ -18,7 +18,7 @@ use Rattle.calls.specs.Release.{gensQueued, releaseBatch}
 use Rattle.calls.specs.Discard.{discardBatch}
 use Rattle.calls.specs.Apply.{applyTrees, applyBatch}
 use Rattle.calls.specs.Answers.{readCall, readVolume}
-use Rattle.calls.specs.History.{Clean, Live, Step, after, History, start}
+use Rattle.calls.specs.History.{Clean, Step, after, History, start}
 use Rattle.calls.proofs.ApplyLaws.{all-applyQueue}
 use Rattle.calls.proofs.DiscardLaws.{discard-keeps, after-all}
 use Rattle.calls.proofs.GensLaws.{type-30, key-is}
