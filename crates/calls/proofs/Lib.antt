@@ -20,6 +20,9 @@ pub mod Examples
 pub mod FieldBytes
 pub mod FitLaws
 pub mod GensLaws
+pub mod HistoryKeeps
+pub mod HistoryRecords
+pub mod HistoryRuns
 pub mod JoinLaws
 pub mod KeyFitsLaws
 pub mod Phases
@@ -34,6 +37,7 @@ pub mod ReleasePhases
 pub mod RunLaws
 pub mod SixTrees
 pub mod SortedLaws
+pub mod TakenAscend
 pub mod TotalLaws
 pub mod TreeFields
 pub mod TreeLaws

@@ -1,0 +1,257 @@
+-- In every history from a clean volume the freespace runs are disjoint and begin at bucket 0 or later. Assumes nothing.
+use mathlib.Core.Path.{_≡_, refl}
+use mathlib.Core.Bool.{Bool, true, false, not, _&&_, cond}
+use mathlib.Core.List.{List, [], _∷_, _++_}
+use mathlib.Core.Option.{some, Option·none-ne-some}
+use Prim.Native.Nat.{ℕ, zero, suc, _+_, _-_, _≤_}
+use native.Mathlib.Omega.{arith}
+use lib.Dec.{ltb, eqb}
+use lib.ListN.{length}
+use borrow.Author.Tests.{lt-ltb, le-ltb, ltb-true, ltb-false, le-leb, not-true}
+use Rattle.wire.specs.Keys.{Key}
+use Rattle.wire.specs.Kinds.{bucketBelow, beganBefore}
+use Rattle.wire.specs.declared.kinds.Bucket.{Bucket}
+use Rattle.wire.specs.Bytes.{All, none, more}
+use Rattle.calls.specs.Lists.{allOf, anyOf, those, total}
+use Rattle.calls.specs.CallList.{Trees, Volume}
+use Rattle.calls.specs.Limits.{isRun}
+use Rattle.calls.specs.Trees.{lookup, applyQueue, deletion}
+use Rattle.calls.specs.Freespace.{isIn, runsOf, startOf, endOf, bucketsOf, overlap, overlaps, isUsed, pass, shortened, walk}
+use Rattle.calls.specs.Pieces.{bucketsNeeded}
+use Rattle.calls.specs.Refusals.{verdict}
+use Rattle.calls.specs.Place.{slotsOf, walkOf, placeTests, placeBatch}
+use Rattle.calls.specs.Release.{releaseTests, releaseBatch}
+use Rattle.calls.specs.Discard.{runKey, discardBatch, discardBatches}
+use Rattle.calls.specs.Apply.{applyTrees, withRoots, applyBatch, applyBatches}
+use Rattle.calls.specs.Answers.{readCall, readVolume}
+use Rattle.calls.specs.History.{Clean, Live, Step, takeAll, after, History, start, isFree, one}
+use Rattle.calls.proofs.AllLaws.{all-imp, all-map, all-test, test-all, all-those}
+use Rattle.calls.proofs.ApplyLaws.{all-applyQueue}
+use Rattle.calls.proofs.BoolLaws.{parts}
+use Rattle.calls.proofs.ClaimLaws.{clean-good, sectors-same}
+use Rattle.calls.proofs.CoverLaws.{length-from, cover-once}
+use Rattle.calls.proofs.DiscardLaws.{bucketsAt, Due, Sound, discarding, batch-sound, discard-keeps, after-all}
+use Rattle.calls.proofs.DiscardPhases.{Discarding, wait-cover}
+use Rattle.calls.proofs.HistoryKeeps.{Read, Keeps, history-keeps}
+use Rattle.calls.proofs.JoinLaws.{joined}
+use Rattle.calls.proofs.Phases.{Good}
+use Rattle.calls.proofs.PlaceFits.{gens-small, sectors-small}
+use Rattle.calls.proofs.PlaceLaws.{runKeys, newPieces, placedVolume, place-keeps, place-placing}
+use Rattle.calls.proofs.ReleaseLaws.{released, releasing-good}
+use Rattle.calls.proofs.SortedLaws.{Sorted}
+use Rattle.calls.proofs.TreeLaws.{Typed, typed-applyQueue}
+use Rattle.calls.proofs.View.{bucket, covers, coverOf, view}
+
+-- ---- runs that cover no bucket twice do not overlap
+-- two runs that overlap have a bucket in common
+record Shared (k j : Key) : Type 0 where
+  at : ℕ
+  one : covers at k ≡ 1
+  other : covers at j ≡ 1
+
+covers-at : (b : ℕ) (k : Key) → isRun k ≡ true → startOf k .0 ≤ b → suc b ≤ endOf k .0 → covers b k ≡ 1
+covers-at b k r l u = rw (r, le-leb (startOf k .0) b l, lt-ltb b (endOf k .0) u)
+
+shared : (k j : Key) → isRun k ≡ true → isRun j ≡ true → overlap k j ≡ true → Shared k j
+unfolding overlap
+shared k j r q o =
+    let a = parts (bucketBelow (startOf k) (endOf k)) _ o in
+    let b = parts (bucketBelow (startOf j) (endOf j)) _ (a .1) in
+    let c = parts (bucketBelow (startOf k) (endOf j)) (bucketBelow (startOf j) (endOf k)) (b .1) in
+    go (ltb-true _ _ (a .0)) (ltb-true _ _ (b .0)) (ltb-true _ _ (c .0)) (ltb-true _ _ (c .1)) (ltb (startOf k .0) (startOf j .0)) refl
+  where
+    go : suc (startOf k .0) ≤ endOf k .0 → suc (startOf j .0) ≤ endOf j .0 → suc (startOf k .0) ≤ endOf j .0 → suc (startOf j .0) ≤ endOf k .0
+        → (t : Bool) → ltb (startOf k .0) (startOf j .0) ≡ t → Shared k j
+    go a b c d true e =
+        let l = ltb-true (startOf k .0) (startOf j .0) e in
+        record { at = startOf j .0; one = covers-at (startOf j .0) k r (omega arith) d; other = covers-at (startOf j .0) j q (omega arith) b }
+    go a b c d false e =
+        let l = ltb-false (startOf k .0) (startOf j .0) e in
+        record { at = startOf k .0; one = covers-at (startOf k .0) k r (omega arith) a; other = covers-at (startOf k .0) j q (omega arith) c }
+
+none-meets : (k : Key) → isRun k ≡ true → (l : List Key) → ((b : ℕ) → covers b k + coverOf l b ≤ 1) → anyOf (overlap k) (runsOf l) ≡ false
+unfolding anyOf runsOf those total
+none-meets k r [] h = refl
+none-meets k r (j ∷ js) h = go (isRun j) refl (overlap k j) refl (none-meets k r js (λ b. omega (arith, h b)))
+  where
+    go : (t : Bool) → isRun j ≡ t → (u : Bool) → overlap k j ≡ u → anyOf (overlap k) (those isRun js) ≡ false
+        → anyOf (overlap k) (cond t (j ∷ those isRun js) (those isRun js)) ≡ false
+    go true q true o ih = let s = shared k j r q o in absurd (omega (arith, h (s .at), s .one, s .other))
+    go true q false o ih = rw (o, ih)
+    go false q u o ih = ih
+
+pub once-disjoint : (l : List Key) → ((b : ℕ) → coverOf l b ≤ 1) → overlaps (runsOf l) ≡ false
+unfolding overlaps runsOf those total
+once-disjoint [] h = refl
+once-disjoint (k ∷ ks) h = go (isRun k) refl (once-disjoint ks (λ b. omega (arith, h b)))
+  where
+    go : (t : Bool) → isRun k ≡ t → overlaps (those isRun ks) ≡ false → overlaps (cond t (k ∷ those isRun ks) (those isRun ks)) ≡ false
+    go true r ih = rw (none-meets k r ks h, ih)
+    go false r ih = ih
+
+-- ---- runs from bucket 0 on
+abbrev Begun : Key → Type 0
+Begun k = k .size ≤ k .pos .offset
+
+module _ (reserved used : Bucket → Bool) where
+  pass-left : (need : ℕ) (bs : List Bucket) → pass reserved used need bs .left ≤ length bs
+  unfolding pass
+  pass-left need [] = omega arith
+  pass-left zero (b ∷ bs) = omega arith
+  pass-left (suc n) (b ∷ bs) = omega (arith, pass-left (cond (reserved b) (suc n) n) bs)
+
+  shortened-begun : (k : Key) (left : ℕ) → left ≤ k .pos .offset → Begun (shortened k left)
+  unfolding shortened
+  shortened-begun k left h = go (eqb left 0)
+    where
+      go : (t : Bool)
+          → Begun (cond t (deletion (k .pos)) (record { type = k .type; size = left; versionHi = k .versionHi; versionLo = k .versionLo; pos = k .pos; value = k .value }))
+      go true = omega arith
+      go false = h
+
+  queue-begun : (need : ℕ) (ks : List Key) → All Begun (walk reserved used need ks .queue)
+  unfolding walk bucketsOf
+  queue-begun need [] = none
+  queue-begun zero (k ∷ ks) = none
+  queue-begun (suc n) (k ∷ ks) =
+      let p = pass reserved used (suc n) (bucketsOf k) in
+      more (shortened-begun k (p .left) (omega (arith, pass-left (suc n) (bucketsOf k), length-from (endOf k .0 - startOf k .0) (startOf k))))
+      (queue-begun (p .need) ks)
+
+-- ---- what a discard's batches keep
+module _ (B : ℕ) (offered : ℕ → Bool) (live : List Live) where
+  record After (v : Volume) : Type 0 where
+    sound : Sound B offered live v
+    typed : Typed (v .trees .alloc)
+    once : (b : ℕ) → coverOf (v .trees .freespace) b ≤ 1
+    begun : All Begun (v .trees .freespace)
+
+  module _ (t : Trees) (v : Volume) (ks : List Key) (due : All (Due (v .trees .alloc)) ks) (sorted : Sorted ks) (h : After v) where
+    abbrev gone : ℕ → Bool
+    gone b = isIn (bucketsAt ks) (bucket b)
+
+    -- no run covered a bucket that waited
+    batch-once : (b : ℕ) → coverOf (applyBatch (discardBatch t ks) v .trees .freespace) b ≤ 1
+    batch-once b = go (gone b) refl (d .cover b)
+      where
+        d : Discarding (view v live) (view (applyBatch (discardBatch t ks) v) live) gone
+        d = discarding t ks v due B offered live (h .sound) sorted
+
+        go : (u : Bool) → gone b ≡ u → coverOf (applyBatch (discardBatch t ks) v .trees .freespace) b ≡ coverOf (v .trees .freespace) b + one u
+            → coverOf (applyBatch (discardBatch t ks) v .trees .freespace) b ≤ 1
+        go true e c = omega (arith, wait-cover _ _ _ _ _ _ (h .sound .good .phase b) (d .waited b e))
+        go false e c = omega (arith, h .once b)
+
+    batch-after : After (applyBatch (discardBatch t ks) v)
+    unfolding applyBatch applyTrees discardBatch
+    batch-after =
+        record {
+          sound = batch-sound t ks v due B offered live (h .sound) sorted;
+          typed = typed-applyQueue _ (v .trees .alloc) (h .typed);
+          once = batch-once;
+          begun = all-applyQueue (all-map runKey (all-imp (λ r w. omega (arith, w .1)) (joined (bucketsAt ks) .whole))) (h .begun);
+        }
+
+-- ---- what each call keeps
+record Held (offered : ℕ → Bool) (v : Volume) (live : List Live) : Type 0 where
+  good : Good (v .head .bucketSectors) offered (view v live)
+  typed : Typed (v .trees .alloc)
+  once : (b : ℕ) → coverOf (v .trees .freespace) b ≤ 1
+  begun : All Begun (v .trees .freespace)
+
+module _ (offered : ℕ → Bool) where
+  held-same : (v w : Volume) (live : List Live) → w .trees ≡ v .trees → w .reserved ≡ v .reserved → w .head .bucketSectors ≡ v .head .bucketSectors
+      → Held offered v live → Held offered w live
+  held-same v w live t r b h =
+      record { good = rw (b, t, r) (h .good); typed = rw t (h .typed); once = rw t (h .once); begun = rw t (h .begun) }
+
+  held-place : (s : List ℕ) (live : List Live) → Read s → verdict (placeTests (readCall s)) ≡ 0 → Held offered (readVolume s) live
+      → Held offered (placedVolume (readCall s)) (live ++ newPieces (readCall s))
+  unfolding applyBatch applyTrees placeBatch walkOf withRoots
+  held-place s live r ok h =
+      let c = readCall s in
+      let f = r .trees .freespace .0 in
+      let p = place-placing c ok f live offered (h .good) (sectors-small (r .bytes)) (gens-small (r .bytes)) in
+      record {
+        good = place-keeps c ok f live offered (h .good) (sectors-small (r .bytes)) (gens-small (r .bytes));
+        typed = typed-applyQueue _ (c .volume .trees .alloc) (h .typed);
+        once = λ b. omega (arith, p .cover-le b, h .once b);
+        begun = all-applyQueue
+            (queue-begun (isIn (c .volume .reserved)) (isUsed (c .volume .trees .alloc)) (bucketsNeeded (slotsOf c)) (runsOf (runKeys c)))
+            (h .begun);
+      }
+
+  held-release : (s : List ℕ) (live left : List Live) → Read s → verdict (releaseTests (readVolume s) (readCall s .releases)) ≡ 0
+      → takeAll (readCall s .releases) live ≡ some left → Held offered (readVolume s) live
+      → Held offered (released (readVolume s) (readCall s .releases)) left
+  unfolding applyBatch applyTrees releaseBatch applyQueue withRoots
+  held-release s live left r ok named h =
+      let v = readVolume s in
+      let rs = readCall s .releases in
+      record {
+        good = releasing-good v rs live left ok (sectors-small (r .bytes)) (h .typed) named offered (h .good);
+        typed = typed-applyQueue (releaseBatch v rs .trees .alloc) (v .trees .alloc) (h .typed);
+        once = h .once;
+        begun = h .begun;
+      }
+
+  held-discard : (s : List ℕ) (live : List Live) → Read s → Held offered (readVolume s) live
+      → Held offered (applyBatches (discardBatches (readVolume s)) (readVolume s)) live
+  held-discard s live r h =
+      let v = readVolume s in
+      let B = v .head .bucketSectors in
+      let o = r .trees in
+      let begin : After B offered live v =
+      record {
+        sound = record { good = h .good; alloc = o .alloc .0; freespace = o .freespace .0; needDiscard = o .needDiscard .0 };
+        typed = h .typed;
+        once = h .once;
+        begun = h .begun;
+      } in
+      let a = after-all v (After B offered live)
+      (discard-keeps v (o .alloc .0) (o .alloc .1) (After B offered live) (λ w ks d c g. batch-after B offered live (v .trees) w ks d c g) begin) in
+      record { good = rw (sectors-same (discardBatches v) v) (a .sound .good); typed = a .typed; once = a .once; begun = a .begun }
+
+  keeps-runs : Keeps (Held offered)
+  keeps-runs = record { same = held-same; place = held-place; release = held-release; discard = held-discard }
+
+-- ---- a clean volume
+typed-none : Typed []
+unfolding lookup
+typed-none p k e = absurd (Option·none-ne-some k e)
+
+clean-held : (clean : List ℕ) → Clean clean → Held (λ n. isFree (start clean) (bucket n)) (readVolume clean) []
+clean-held clean c =
+    let l = readVolume clean .trees .freespace in
+    record {
+      good = clean-good (readVolume clean .head .bucketSectors) clean c;
+      typed = rw (c .alloc) typed-none;
+      once = λ b. cover-once b l (c .disjoint);
+      begun = all-imp (λ k h. begun k h) (test-all _ l (c .runs));
+    }
+  where
+    begun : (k : Key) → isRun k && (ltb 0 (k .size) && not (beganBefore (endOf k) (k .size))) ≡ true → Begun k
+    begun k h =
+        let a = parts (isRun k) _ h in
+        let b = parts (ltb 0 (k .size)) (not (beganBefore (endOf k) (k .size))) (a .1) in
+        omega (arith, ltb-false (k .pos .offset) (k .size) (not-true _ (b .1)))
+
+-- ---- the whole
+-- two runs have no bucket in common, and none began before bucket 0
+pub record RunsApart (l : List Key) : Type 0 where
+  pub disjoint : overlaps (runsOf l) ≡ false
+  pub begun : allOf (λ k. not (beganBefore (endOf k) (k .size))) (runsOf l) ≡ true
+
+held-apart : (l : List Key) → ((b : ℕ) → coverOf l b ≤ 1) → All Begun l → RunsApart l
+unfolding runsOf
+held-apart l o b =
+    record {
+      disjoint = once-disjoint l o;
+      begun = all-test _ (all-imp (λ k h. rw (le-ltb (k .pos .offset) (k .size) h)) (all-those isRun b));
+    }
+
+pub history-runs : (clean : List ℕ) → Clean clean → (steps : List Step) → History (start clean) steps
+    → RunsApart (readVolume (after (start clean) steps .volume) .trees .freespace)
+history-runs clean c steps h =
+    let k = history-keeps (keeps-runs (λ n. isFree (start clean) (bucket n))) steps (start clean) (clean-held clean c) h in
+    held-apart (readVolume (after (start clean) steps .volume) .trees .freespace) (k .once) (k .begun)
