@@ -1,8 +1,7 @@
 -- In every history from a clean volume the freespace runs are disjoint and begin at bucket 0 or later. Assumes nothing.
 use mathlib.Core.Path.{_≡_, refl}
 use mathlib.Core.Bool.{Bool, true, false, not, _&&_, cond}
-use mathlib.Core.List.{List, [], _∷_, _++_}
-use mathlib.Core.Option.{some, Option·none-ne-some}
+use mathlib.Core.List.{List, [], _∷_}
 use Prim.Native.Nat.{ℕ, zero, suc, _+_, _-_, _≤_}
 use native.Mathlib.Omega.{arith}
 use lib.Dec.{ltb, eqb}
@@ -15,31 +14,27 @@ use Rattle.wire.specs.Bytes.{All, none, more}
 use Rattle.calls.specs.Lists.{allOf, anyOf, those, total}
 use Rattle.calls.specs.CallList.{Trees, Volume}
 use Rattle.calls.specs.Limits.{isRun}
-use Rattle.calls.specs.Trees.{lookup, applyQueue, deletion}
+use Rattle.calls.specs.Trees.{applyQueue, deletion}
 use Rattle.calls.specs.Freespace.{isIn, runsOf, startOf, endOf, bucketsOf, overlap, overlaps, isUsed, pass, shortened, walk}
 use Rattle.calls.specs.Pieces.{bucketsNeeded}
-use Rattle.calls.specs.Refusals.{verdict}
-use Rattle.calls.specs.Place.{slotsOf, walkOf, placeTests, placeBatch}
-use Rattle.calls.specs.Release.{releaseTests, releaseBatch}
-use Rattle.calls.specs.Discard.{runKey, discardBatch, discardBatches}
-use Rattle.calls.specs.Apply.{applyTrees, withRoots, applyBatch, applyBatches}
+use Rattle.calls.specs.Place.{slotsOf, walkOf, placeBatch}
+use Rattle.calls.specs.Release.{releaseBatch}
+use Rattle.calls.specs.Discard.{runKey, discardBatch}
+use Rattle.calls.specs.Apply.{applyTrees, applyBatch}
 use Rattle.calls.specs.Answers.{readCall, readVolume}
-use Rattle.calls.specs.History.{Clean, Live, Step, takeAll, after, History, start, isFree, one}
+use Rattle.calls.specs.History.{Clean, Live, Step, after, History, start, one}
 use Rattle.calls.proofs.AllLaws.{all-imp, all-map, all-test, test-all, all-those}
 use Rattle.calls.proofs.ApplyLaws.{all-applyQueue}
 use Rattle.calls.proofs.BoolLaws.{parts}
-use Rattle.calls.proofs.ClaimLaws.{clean-good, sectors-same}
 use Rattle.calls.proofs.CoverLaws.{length-from, cover-once}
+use Rattle.calls.proofs.Demand3.{offeredBy, Kept, keeps-demand, kept-clean}
 use Rattle.calls.proofs.DiscardLaws.{bucketsAt, Due, Sound, discarding, batch-sound, discard-keeps, after-all}
 use Rattle.calls.proofs.DiscardPhases.{Discarding, wait-cover}
-use Rattle.calls.proofs.HistoryKeeps.{Read, Keeps, history-keeps}
+use Rattle.calls.proofs.HistoryKeeps.{Keeps, history-keeps}
 use Rattle.calls.proofs.JoinLaws.{joined}
-use Rattle.calls.proofs.Phases.{Good}
 use Rattle.calls.proofs.PlaceFits.{gens-small, sectors-small}
-use Rattle.calls.proofs.PlaceLaws.{runKeys, newPieces, placedVolume, place-keeps, place-placing}
-use Rattle.calls.proofs.ReleaseLaws.{released, releasing-good}
+use Rattle.calls.proofs.PlaceLaws.{runKeys, place-placing}
 use Rattle.calls.proofs.SortedLaws.{Sorted}
-use Rattle.calls.proofs.TreeLaws.{Typed, typed-applyQueue}
 use Rattle.calls.proofs.View.{bucket, covers, coverOf, view}
 
 -- ---- runs that cover no bucket twice do not overlap
@@ -122,7 +117,6 @@ module _ (reserved used : Bucket → Bool) where
 module _ (B : ℕ) (offered : ℕ → Bool) (live : List Live) where
   record After (v : Volume) : Type 0 where
     sound : Sound B offered live v
-    typed : Typed (v .trees .alloc)
     once : (b : ℕ) → coverOf (v .trees .freespace) b ≤ 1
     begun : All Begun (v .trees .freespace)
 
@@ -147,85 +141,55 @@ module _ (B : ℕ) (offered : ℕ → Bool) (live : List Live) where
     batch-after =
         record {
           sound = batch-sound t ks v due B offered live (h .sound) sorted;
-          typed = typed-applyQueue _ (v .trees .alloc) (h .typed);
           once = batch-once;
           begun = all-applyQueue (all-map runKey (all-imp (λ r w. omega (arith, w .1)) (joined (bucketsAt ks) .whole))) (h .begun);
         }
 
 -- ---- what each call keeps
 record Held (offered : ℕ → Bool) (v : Volume) (live : List Live) : Type 0 where
-  good : Good (v .head .bucketSectors) offered (view v live)
-  typed : Typed (v .trees .alloc)
+  kept : Kept offered v live
   once : (b : ℕ) → coverOf (v .trees .freespace) b ≤ 1
   begun : All Begun (v .trees .freespace)
 
-module _ (offered : ℕ → Bool) where
-  held-same : (v w : Volume) (live : List Live) → w .trees ≡ v .trees → w .reserved ≡ v .reserved → w .head .bucketSectors ≡ v .head .bucketSectors
-      → Held offered v live → Held offered w live
-  held-same v w live t r b h =
-      record { good = rw (b, t, r) (h .good); typed = rw t (h .typed); once = rw t (h .once); begun = rw t (h .begun) }
-
-  held-place : (s : List ℕ) (live : List Live) → Read s → verdict (placeTests (readCall s)) ≡ 0 → Held offered (readVolume s) live
-      → Held offered (placedVolume (readCall s)) (live ++ newPieces (readCall s))
-  unfolding applyBatch applyTrees placeBatch walkOf withRoots
-  held-place s live r ok h =
-      let c = readCall s in
-      let f = r .trees .freespace .0 in
-      let p = place-placing c ok f live offered (h .good) (sectors-small (r .bytes)) (gens-small (r .bytes)) in
-      record {
-        good = place-keeps c ok f live offered (h .good) (sectors-small (r .bytes)) (gens-small (r .bytes));
-        typed = typed-applyQueue _ (c .volume .trees .alloc) (h .typed);
-        once = λ b. omega (arith, p .cover-le b, h .once b);
-        begun = all-applyQueue
-            (queue-begun (isIn (c .volume .reserved)) (isUsed (c .volume .trees .alloc)) (bucketsNeeded (slotsOf c)) (runsOf (runKeys c)))
-            (h .begun);
-      }
-
-  held-release : (s : List ℕ) (live left : List Live) → Read s → verdict (releaseTests (readVolume s) (readCall s .releases)) ≡ 0
-      → takeAll (readCall s .releases) live ≡ some left → Held offered (readVolume s) live
-      → Held offered (released (readVolume s) (readCall s .releases)) left
-  unfolding applyBatch applyTrees releaseBatch applyQueue withRoots
-  held-release s live left r ok named h =
-      let v = readVolume s in
-      let rs = readCall s .releases in
-      record {
-        good = releasing-good v rs live left ok (sectors-small (r .bytes)) (h .typed) named offered (h .good);
-        typed = typed-applyQueue (releaseBatch v rs .trees .alloc) (v .trees .alloc) (h .typed);
-        once = h .once;
-        begun = h .begun;
-      }
-
-  held-discard : (s : List ℕ) (live : List Live) → Read s → Held offered (readVolume s) live
-      → Held offered (applyBatches (discardBatches (readVolume s)) (readVolume s)) live
-  held-discard s live r h =
-      let v = readVolume s in
-      let B = v .head .bucketSectors in
-      let o = r .trees in
-      let begin : After B offered live v =
-      record {
-        sound = record { good = h .good; alloc = o .alloc .0; freespace = o .freespace .0; needDiscard = o .needDiscard .0 };
-        typed = h .typed;
-        once = h .once;
-        begun = h .begun;
-      } in
-      let a = after-all v (After B offered live)
-      (discard-keeps v (o .alloc .0) (o .alloc .1) (After B offered live) (λ w ks d c g. batch-after B offered live (v .trees) w ks d c g) begin) in
-      record { good = rw (sectors-same (discardBatches v) v) (a .sound .good); typed = a .typed; once = a .once; begun = a .begun }
-
-  keeps-runs : Keeps (Held offered)
-  keeps-runs = record { same = held-same; place = held-place; release = held-release; discard = held-discard }
+keeps-runs : (offered : ℕ → Bool) → Keeps (Held offered)
+unfolding applyBatch applyTrees placeBatch releaseBatch walkOf applyQueue
+keeps-runs offered =
+    let d = keeps-demand offered in
+    record {
+      same = λ v w live t r b h. record { kept = d .same v w live t r b (h .kept); once = rw t (h .once); begun = rw t (h .begun) };
+      place = λ s live r ok h.
+          let c = readCall s in
+          let p = place-placing c ok (r .trees .freespace .0) live offered (h .kept .good) (sectors-small (r .bytes)) (gens-small (r .bytes)) in
+          record {
+            kept = d .place s live r ok (h .kept);
+            once = λ b. omega (arith, p .cover-le b, h .once b);
+            begun = all-applyQueue
+                (queue-begun (isIn (c .volume .reserved)) (isUsed (c .volume .trees .alloc)) (bucketsNeeded (slotsOf c)) (runsOf (runKeys c)))
+                (h .begun);
+          };
+      release = λ s live left r ok named h.
+          record { kept = d .release s live left r ok named (h .kept); once = h .once; begun = h .begun };
+      discard = λ s live r h.
+          let v = readVolume s in
+          let o = r .trees in
+          let B = v .head .bucketSectors in
+          let begin : After B offered live v =
+          record {
+            sound = record { good = h .kept .good; alloc = o .alloc .0; freespace = o .freespace .0; needDiscard = o .needDiscard .0 };
+            once = h .once;
+            begun = h .begun;
+          } in
+          let a = after-all v (After B offered live)
+          (discard-keeps v (o .alloc .0) (o .alloc .1) (After B offered live) (λ w ks e c g. batch-after B offered live (v .trees) w ks e c g) begin) in
+          record { kept = d .discard s live r (h .kept); once = a .once; begun = a .begun };
+    }
 
 -- ---- a clean volume
-typed-none : Typed []
-unfolding lookup
-typed-none p k e = absurd (Option·none-ne-some k e)
-
-clean-held : (clean : List ℕ) → Clean clean → Held (λ n. isFree (start clean) (bucket n)) (readVolume clean) []
+clean-held : (clean : List ℕ) → Clean clean → Held (offeredBy clean) (readVolume clean) []
 clean-held clean c =
     let l = readVolume clean .trees .freespace in
     record {
-      good = clean-good (readVolume clean .head .bucketSectors) clean c;
-      typed = rw (c .alloc) typed-none;
+      kept = kept-clean clean c;
       once = λ b. cover-once b l (c .disjoint);
       begun = all-imp (λ k h. begun k h) (test-all _ l (c .runs));
     }
@@ -253,5 +217,5 @@ held-apart l o b =
 pub history-runs : (clean : List ℕ) → Clean clean → (steps : List Step) → History (start clean) steps
     → RunsApart (readVolume (after (start clean) steps .volume) .trees .freespace)
 history-runs clean c steps h =
-    let k = history-keeps (keeps-runs (λ n. isFree (start clean) (bucket n))) steps (start clean) (clean-held clean c) h in
+    let k = history-keeps (keeps-runs (offeredBy clean)) steps (start clean) (clean-held clean c) h in
     held-apart (readVolume (after (start clean) steps .volume) .trees .freespace) (k .once) (k .begun)
