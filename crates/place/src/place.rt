@@ -20,7 +20,7 @@ use crate::choice;
 use choose::clock;
 use choose::take::Taken;
 use gens::records;
-use placed::ages;
+use placed::generations;
 use reader::call;
 use reader::call::Reading;
 use reader::head::Head;
@@ -85,9 +85,9 @@ fn place_buckets(
 {
     let n = taken.len();
     let mut records = [0u32; 256];
-    let mut ages = [0u8; 1024];
+    let mut generations = [0u8; 1024];
     records::find_records(s, gens, &mut records);
-    ages::fill_gens(&mut ages, s, &records, taken);
+    generations::fill_gens(&mut generations, s, &records, taken);
     let clock = clock::write_clock(s, alloc);
     write_change(
         s,
@@ -95,7 +95,7 @@ fn place_buckets(
         runs,
         pieces,
         taken,
-        &ages[..n],
+        &generations[..n],
         passed,
         left,
         clock,

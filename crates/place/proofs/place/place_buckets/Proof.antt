@@ -37,8 +37,8 @@ fill-gens-requires c κs =
 write-clock-requires : tie.Need-write-clock-requires
 write-clock-requires c κs = search needs
 
-array-share-prefix-ages : tie.Need-array-share-prefix-ages
-array-share-prefix-ages c = search needs
+array-share-prefix-generations : tie.Need-array-share-prefix-generations
+array-share-prefix-generations c = search needs
 
 slice-aggregate-write-change : tie.Need-slice-aggregate-write-change
 slice-aggregate-write-change c = sym (length-take-le _ _ (search needs))
@@ -66,7 +66,7 @@ place-buckets-spec =
     slice-aggregate-fill-gens-2
     fill-gens-requires
     write-clock-requires
-    array-share-prefix-ages
+    array-share-prefix-generations
     slice-aggregate-write-change
     write-change-requires
     same-length

@@ -1,4 +1,4 @@
--- `ages::fill_gens` meets its contract. The invariant: those of the first i buckets are filled in. Assumes nothing.
+-- `generations::fill_gens` meets its contract. The invariant: those of the first i buckets are filled in. Assumes nothing.
 use native.Mathlib.Omega.{arith}
 use mathlib.Core.Path.{_≡_, refl}
 use Prim.Native.Nat.{_-_, _≤_}
@@ -6,8 +6,8 @@ use lib.ListN.{length, length-set}
 use Rattle.calls.specs.Answers.{readVolume}
 use Rattle.calls.specs.Generations.{genOf}
 use Rattle.placed.proofs.FillLaws.{Filled, filled-next, filled-end}
-use Rattle.placed.proofs.ages.fill_gens.Statement.{statement}
-use Rattle.placed.proofs.ages.fill_gens.Tie as tie
+use Rattle.placed.proofs.generations.fill_gens.Statement.{statement}
+use Rattle.placed.proofs.generations.fill_gens.Tie as tie
 
 abbrev Inv-loop : tie.InvT-loop
 Inv-loop out₀ s records taken i₀ out i = (i ≤ length taken) × (length out ≡ length out₀) × Filled (genOf (readVolume s .trees .gens)) taken out i
