@@ -16,7 +16,7 @@ use Rattle.gens.specs.Records.{recordAt, Recorded, RecordsFound}
 
 -- where the entry of a bucket's record stands
 pub stands : {s table : List ℕ} → Recorded s table → (b : Bucket) → b .0 < 65536 → {at : ℕ} → at ≡ getD table (b .0 / 256) 0 → (at ≡ 0 → ⊥) → Whole s at
-stands {s} r b h e n = rw e (r .whole (b .0 / 256) (omega arith) (λ z. n (e ∙ z)))
+stands {s} r b h e n = rw e (r .are .stand .whole (b .0 / 256) (omega arith) (λ z. n (e ∙ z)))
 
 pub record-is : {s table : List ℕ} {gens : List Key} → RecordsFound s gens table → (b : Bucket) → b .0 < 65536 → {at : ℕ} → at ≡ getD table (b .0 / 256) 0 → recordAt s at ≡ genRecord gens b
 record-is {s} f b h e = ap (recordAt s) e ∙ f .is b h

@@ -22,11 +22,16 @@ abbrev pub recordAt : List ℕ → ℕ → Option Key
 recordAt s at = cond (eqb at 0) none (some (keyHere s at))
 
 -- where an entry is not 0, a key stands
-pub record Recorded (s table : List ℕ) : Type 0 where
+pub record RecordsStand (s table : List ℕ) : Type 0 where
   pub count : length table ≡ 256
   pub whole : (o : ℕ) → o < 256 → (getD table o 0 ≡ 0 → ⊥) → Whole s (getD table o 0)
 
 -- the table finds the record that holds a bucket's generation
 pub record RecordsFound (s : List ℕ) (gens : List Key) (table : List ℕ) : Type 0 where
-  pub stand : Recorded s table
+  pub stand : RecordsStand s table
   pub is : (b : Bucket) → b .0 < 65536 → recordAt s (getD table (b .0 / 256) 0) ≡ genRecord gens b
+
+-- it finds those of some tree
+pub record Recorded (s table : List ℕ) : Type 0 where
+  pub gens : List Key
+  pub are : RecordsFound s gens table

@@ -40,7 +40,7 @@ within c =
     omega (arith, c .value-at .ensures, inside (c .before), g .gens-byte .ensures, value-within _ _ (standing (g .before)))
 
 record-of-requires : tie.Need-record-of-requires
-record-of-requires c κs = let a = c .before .before in (a .pre .0 .count, a .pre .1)
+record-of-requires c κs = let a = c .before .before in (a .pre .0 .are .stand .count, a .pre .1)
 
 returns : tie.Need-returns
 returns c = λ gens r. look-missing _ gens _ _ (its (c .before) gens r) (c .if1 .taken)

@@ -28,7 +28,7 @@ shared-slice-read-t10 : tie.Need-shared-slice-read-t10 Inv-loop μ-loop
 shared-slice-read-t10 c = omega arith
 
 bucket-gen-requires : tie.Need-bucket-gen-requires Inv-loop μ-loop
-bucket-gen-requires c κs = let l = c .before .before in let a = start l in (a .pre .0 .stand, a .pre .1 .1 (l .loop .i))
+bucket-gen-requires c κs = let l = c .before .before in let a = start l in (record { gens = _; are = a .pre .0 }, a .pre .1 .1 (l .loop .i))
 
 slice-write-out : tie.Need-slice-write-out Inv-loop μ-loop
 slice-write-out c =

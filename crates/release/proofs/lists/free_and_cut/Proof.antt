@@ -81,7 +81,7 @@ put-backpointers-requires : tie.Need-put-backpointers-requires
 put-backpointers-requires c κs = (c .before .before .before .before .before .before .before .before .before .before .before .before .before .before .before .before .before .before .before .before .before .before .before .before .before .pre .laid .summed .requested, draft-checked (c .before .before .before .before .before .before .before .before .before .before .before .before .before .before .before .before .before .before .before .before .before .before .before .before .before .pre) (small (c .before .before .before .before .before .before .before .before .before .before .before .before .before .before .before)))
 
 put-gens-requires : tie.Need-put-gens-requires
-put-gens-requires c κs = let d = c .before .before .before .before .before .before .before .before .before .before .before .before .before .before .before .before .before .before .before .before .before .before .before .before .before .before .before .before .before .pre in (d .laid .recorded .stand, gone-aged d, gone-low d, gone-up d)
+put-gens-requires c κs = let d = c .before .before .before .before .before .before .before .before .before .before .before .before .before .before .before .before .before .before .before .before .before .before .before .before .before .before .before .before .before .pre in (record { gens = _; are = d .laid .recorded }, gone-aged d, gone-low d, gone-up d)
 
 put-roots-requires : tie.Need-put-roots-requires
 put-roots-requires c κs = search needs

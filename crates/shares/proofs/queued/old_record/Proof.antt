@@ -28,7 +28,7 @@ its : (c : tie.After-record-of) (gens : List Key) → RecordsFound (start c .arg
 its c gens r = let a = start c in record-is r (a .args .b) (a .pre .1) (c .record-of .ensures)
 
 record-of-requires : tie.Need-record-of-requires
-record-of-requires c κs = let a = c .before .before in (a .pre .0 .count, a .pre .1)
+record-of-requires c κs = let a = c .before .before in (a .pre .0 .are .stand .count, a .pre .1)
 
 new-record-requires : tie.Need-new-record-requires
 new-record-requires c κs = search needs

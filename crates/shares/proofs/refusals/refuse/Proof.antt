@@ -53,7 +53,7 @@ bucket-refusal-requires c κs =
     let l = c .before .before .before .before in
     let a = l .before .before .before .before .before .before in
     let t = a .pre .tabled .at (l .loop .k) (omega arith) in
-    (a .pre .recorded .stand, record { key = _; is = t .key }, t .low)
+    (record { gens = _; are = a .pre .recorded }, record { key = _; is = t .key }, t .low)
 
 returns : tie.Need-returns Inv-loop μ-loop
 returns c =
