@@ -82,7 +82,8 @@ extern "C" {
 #define ZERGLAZ_MAX_VALUE 256
 
 /* Lengths that follow from the limits, in bytes. An output as long as the call's figure is never
- * refused 21. docs/FORMAT.md, "Lengths", has what each is made of. */
+ * refused 21. docs/FORMAT.md, "Lengths", has what each is made of. They are reckoned from the
+ * definitions and attained by tests, and not proved. */
 /* a volume, and so the output of apply: 42 + 6 * 4096 * 296 + 4096 * 7 */
 #define ZERGLAZ_MAX_VOLUME 7303210
 /* a call list: a volume + 1024 * 16 */

@@ -44,14 +44,10 @@ pub enum Tree {
 
 impl Tree {
     /// The trees of a volume, by tag: all but the extents.
-    pub const STORED: [Tree; 6] = [
-        Tree::Alloc,
-        Tree::Lru,
-        Tree::Freespace,
-        Tree::NeedDiscard,
-        Tree::Backpointers,
-        Tree::BucketGens,
-    ];
+    pub const STORED: [Tree; 6] = {
+        let [_, stored @ ..] = Tree::ALL;
+        stored
+    };
 
     /// All trees, by tag.
     pub const ALL: [Tree; 7] = [

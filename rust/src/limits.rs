@@ -2,6 +2,7 @@
 //! each length stand in docs/FORMAT.md, "Lengths".
 //!
 //! An output that is as long as the constant says is never too short, so that it can be sized once.
+//! The lengths are reckoned from the definitions and attained by tests, and not proved.
 
 /// Keys of a tree.
 pub const MAX_KEYS: usize = 4_096;
