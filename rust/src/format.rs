@@ -40,7 +40,7 @@ pub struct Format {
     pub bucket_sectors: u16,
     /// The runs of free buckets, of which none is empty and no two share a bucket.
     pub free: Vec<Range<Bucket>>,
-    /// Buckets that are set aside and never taken.
+    /// Buckets that are set aside: a placement passes over them.
     pub reserved: Vec<Bucket>,
     /// The journal number of the first step.
     pub journal: u64,
