@@ -7,7 +7,7 @@ use lib.ListN.{length, drop, length-append}
 use lib.Seq.{drop-at}
 use Rattle.wire.specs.Numbers.{le, leBytes, each, wordsBytes}
 use Rattle.wire.specs.Keys.{Key}
-use Rattle.wire.specs.Kinds.{sectorWord}
+use Rattle.wire.specs.Kinds.{sectorNumber}
 use Rattle.wire.specs.Bytes.{All, none, more, Bytes}
 use Rattle.wire.proofs.EncodeLaws.{each-append}
 use Rattle.wire.proofs.NumberLaws.{le-length}
@@ -54,7 +54,7 @@ extent-pointers h (p ∷ ps) = rw (extent-pointer h p, extent-pointers h ps)
 
 -- a pointer gives the first sector and the generation back
 abbrev pub ReadBack : Spot → Type 0
-ReadBack t = unpack (1 ∷ 1 ∷ 1 ∷ 1 ∷ 44 ∷ 8 ∷ 8 ∷ []) (pointerAt t) ≡ 1 ∷ 0 ∷ 0 ∷ 0 ∷ sectorWord (t .first) ∷ 0 ∷ t .generation ∷ []
+ReadBack t = unpack (1 ∷ 1 ∷ 1 ∷ 1 ∷ 44 ∷ 8 ∷ 8 ∷ []) (pointerAt t) ≡ 1 ∷ 0 ∷ 0 ∷ 0 ∷ sectorNumber (t .first) ∷ 0 ∷ t .generation ∷ []
 
 -- what an accepted placement's batch tells twice
 pub record Told (b : Batch) : Type 0 where

@@ -6,7 +6,7 @@ use native.Mathlib.Omega.{arith}
 use lib.ListN.{getD}
 use lib.Pow.{pow-pos, pow-add}
 use mathlib.Core.List.{List, [], _∷_, map}
-use Rattle.wire.specs.Kinds.{sectorWord}
+use Rattle.wire.specs.Kinds.{sectorNumber}
 use Rattle.wire.specs.declared.kinds.DeviceSector.{DeviceSector}
 use Rattle.format.specs.Packing.{pack, unpack}
 use Rattle.format.specs.Entries.{pointer, crc32, crc64}
@@ -40,17 +40,17 @@ pack-below ((w, x) ∷ fs) =
     rw (pow-add 2 w (widthOf fs)) (omega (arith, mod-lt x (pow-pos w), mul-le-mul-left (2 ^ w) l, mul-add (2 ^ w) (pack fs) 1))
 
 -- struct bch_extent_ptr: type, cached, unused, unwritten, offset, dev, gen; FORMAT.md, "Pieces and extents": the pointer is 1 + 16 × first device sector + 2^56 × generation
-pub pointer-decodes : (d : DeviceSector) (generation : ℕ) → sectorWord d < 2 ^ 44 → generation < 256
-    → unpack (1 ∷ 1 ∷ 1 ∷ 1 ∷ 44 ∷ 8 ∷ 8 ∷ []) (pointer d generation) ≡ 1 ∷ 0 ∷ 0 ∷ 0 ∷ sectorWord d ∷ 0 ∷ generation ∷ []
+pub pointer-decodes : (d : DeviceSector) (generation : ℕ) → sectorNumber d < 2 ^ 44 → generation < 256
+    → unpack (1 ∷ 1 ∷ 1 ∷ 1 ∷ 44 ∷ 8 ∷ 8 ∷ []) (pointer d generation) ≡ 1 ∷ 0 ∷ 0 ∷ 0 ∷ sectorNumber d ∷ 0 ∷ generation ∷ []
 unfolding pointer
 pointer-decodes d generation h g =
-    unpack-pack ((1, 1) ∷ (1, 0) ∷ (1, 0) ∷ (1, 0) ∷ (44, sectorWord d) ∷ (8, 0) ∷ (8, generation) ∷ []) (omega arith)
+    unpack-pack ((1, 1) ∷ (1, 0) ∷ (1, 0) ∷ (1, 0) ∷ (44, sectorNumber d) ∷ (8, 0) ∷ (8, generation) ∷ []) (omega arith)
 
 -- the pointer is one word
 pub pointer-below : (d : DeviceSector) (generation : ℕ) → pointer d generation < 2 ^ 64
 unfolding pointer
 pointer-below d generation =
-    pack-below ((1, 1) ∷ (1, 0) ∷ (1, 0) ∷ (1, 0) ∷ (44, sectorWord d) ∷ (8, 0) ∷ (8, generation) ∷ [])
+    pack-below ((1, 1) ∷ (1, 0) ∷ (1, 0) ∷ (1, 0) ∷ (44, sectorNumber d) ∷ (8, 0) ∷ (8, generation) ∷ [])
 
 -- a checksum of more than 32 bits is cut
 crc32-low : (stored file ctype kind checksum : ℕ) → crc32 stored file ctype kind checksum ≡ crc32 stored file ctype kind (checksum % 2 ^ 32)

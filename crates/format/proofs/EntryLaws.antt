@@ -5,14 +5,14 @@ use native.Mathlib.Nat.{mod-eq-of-lt}
 use native.Mathlib.Omega.{arith}
 use mathlib.Core.List.{List, [], _∷_}
 use lib.ListN.{getD}
-use Rattle.wire.specs.Kinds.{sectorWord}
+use Rattle.wire.specs.Kinds.{sectorNumber}
 use Rattle.wire.specs.declared.kinds.DeviceSector.{DeviceSector}
 use Rattle.format.specs.Packing.{pack}
 use Rattle.format.specs.Entries.{pointer, crc32, crc64, csumTypeOf, checksumEntry, extentWords}
 
 -- the pointer word is 1 + 16 × device sector + 2^56 × generation
-pub pointer-is : (d : DeviceSector) (generation : ℕ) → sectorWord d < 2 ^ 44 → generation < 256
-    → 1 + 16 * sectorWord d + 2 ^ 56 * generation ≡ pointer d generation
+pub pointer-is : (d : DeviceSector) (generation : ℕ) → sectorNumber d < 2 ^ 44 → generation < 256
+    → 1 + 16 * sectorNumber d + 2 ^ 56 * generation ≡ pointer d generation
 unfolding pointer pack
 pointer-is d generation h g = omega arith
 

@@ -2,14 +2,14 @@
 use Prim.Native.Nat.{ℕ, zero, suc, _+_, _-_, _*_, _^_}
 use mathlib.Core.List.{List, [], _∷_, _++_}
 use lib.ListN.{getD}
-use Rattle.wire.specs.Kinds.{sectorWord}
+use Rattle.wire.specs.Kinds.{sectorNumber}
 use Rattle.wire.specs.declared.kinds.DeviceSector.{DeviceSector}
 use Rattle.format.specs.Packing.{pack}
 
 -- type (the first bit set), cached, unused, unwritten, offset, dev, gen
 unfoldable pub pointer : DeviceSector → ℕ → ℕ
 pointer d generation =
-    pack ((1, 1) ∷ (1, 0) ∷ (1, 0) ∷ (1, 0) ∷ (44, sectorWord d) ∷ (8, 0) ∷ (8, generation) ∷ [])
+    pack ((1, 1) ∷ (1, 0) ∷ (1, 0) ∷ (1, 0) ∷ (44, sectorNumber d) ∷ (8, 0) ∷ (8, generation) ∷ [])
 
 -- type (the second bit set), _compressed_size and _uncompressed_size less one, offset, _unused, csum_type, compression_type, csum
 unfoldable pub crc32 : ℕ → ℕ → ℕ → ℕ → ℕ → ℕ

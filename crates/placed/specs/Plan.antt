@@ -4,7 +4,7 @@ use mathlib.Core.Path.{_≡_}
 use mathlib.Core.Bool.{true}
 use mathlib.Core.List.{List, _∷_, map}
 use lib.ListN.{length, getD, drop}
-use Rattle.wire.specs.Kinds.{noBucket, baseInRange, fileSectorNumber, sectorWord}
+use Rattle.wire.specs.Kinds.{noBucket, baseInRange, fileSectorNumber, sectorNumber}
 use Rattle.calls.specs.Lists.{allOf}
 use Rattle.calls.specs.CallList.{CallList, Volume}
 use Rattle.calls.specs.Clock.{clockOf}
@@ -72,7 +72,7 @@ pub record Bounded (p : Placed) : Type 0 where
   pub stored : (1 ≤ p .piece .stored) × (p .piece .stored ≤ 128)
   pub file : (1 ≤ p .piece .file) × (p .piece .file ≤ 128)
   pub kind : p .piece .kind < 16
-  pub first : sectorWord (p .first) < 2 ^ 44
+  pub first : sectorNumber (p .first) < 2 ^ 44
 
 -- one step: piece i at its place, in the bucket that is now open, and the pieces after it
 pub record Stepped (s numbers : List ℕ) (h : Head) (i : ℕ) (o : Cursor) (r : Step) : Type 0 where

@@ -1,7 +1,6 @@
--- Document 01: "A bucket number, a device sector and a file sector each have a kind of their own in every promise." These are the ways from one to
--- another, and the only ones: no other module reads the number in a device sector or a file sector.
+-- A bucket number, a device sector and a file sector each have a kind of their own. These are the ways from one to another.
 use Prim.Native.Nat.{ℕ, zero, suc, _+_, _-_, _*_, _/_, _%_, _^_}
-use mathlib.Core.List.{List, [], _∷_}
+use mathlib.Core.List.{List, [], _∷_, map}
 use mathlib.Core.Bool.{Bool, _&&_}
 use lib.Dec.{leb, ltb, eqb}
 use Rattle.wire.specs.Numbers.{le, leBytes}
@@ -39,6 +38,14 @@ noBucket = record { 0 = 0 }
 -- a device sector for a place that none has
 abbrev pub noSector : DeviceSector
 noSector = record { 0 = 0 }
+
+-- a bucket by its number
+abbrev pub bucketIs : ℕ → Bucket
+bucketIs n = record { 0 = n }
+
+-- the buckets of a table that holds their numbers
+unfoldable pub bucketsIn : List ℕ → List Bucket
+bucketsIn ns = map bucketIs ns
 
 -- the next bucket
 abbrev pub nextBucket : Bucket → Bucket
@@ -99,7 +106,7 @@ fileSectorRead s = record { 0 = le 8 s }
 abbrev pub baseInRange : FileSector → Bool
 baseInRange f = ltb (f .0) (2 ^ 40)
 
--- the numbers of a kind, for a line of text and for a bound
+-- the numbers of a kind, for a line of text, a pointer's offset and a bound
 abbrev pub bucketNumber : Bucket → ℕ
 bucketNumber b = b .0
 
@@ -108,7 +115,3 @@ sectorNumber d = d .0
 
 abbrev pub fileSectorNumber : FileSector → ℕ
 fileSectorNumber f = f .0
-
--- a device sector in a pointer's offset
-abbrev pub sectorWord : DeviceSector → ℕ
-sectorWord d = d .0

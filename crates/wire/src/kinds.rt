@@ -2,7 +2,7 @@
 ghost use mathlib.Core.Path.{_≡_};
 ghost use Prim.Native.Nat.{_+_, _<_, _≤_, _^_};
 ghost use lib.ListN.{length, drop};
-ghost use Rattle.wire.specs.Kinds.{sectorAt, bucketOf, offsetIn, extentEnd, nextBucket, sameBucket, bucketBelow, bucketInRange, runEndInRange, runStart, beganBefore, bucketsUpTo, bucketRead, baseInRange, sectorWord};
+ghost use Rattle.wire.specs.Kinds.{sectorAt, bucketOf, offsetIn, extentEnd, nextBucket, sameBucket, bucketBelow, bucketInRange, runEndInRange, runStart, beganBefore, bucketsUpTo, bucketRead, baseInRange, sectorNumber};
 use crate::le;
 
 pub struct Bucket(pub u64);
@@ -121,7 +121,7 @@ pub fn base_in_range(f: FileSector) -> bool
 
 // A device sector as a pointer has it.
 pub fn sector_word(d: DeviceSector) -> u64
-    ensures { λ r. ⌜ r ≡ sectorWord d ⌝ }
+    ensures { λ r. ⌜ r ≡ sectorNumber d ⌝ }
 {
     d.0
 }
