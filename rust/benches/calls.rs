@@ -1,6 +1,6 @@
 //! How long the calls take through the archive on lists at the limits, beside a copy of the bytes that
-//! they read: medians in nanoseconds and their ratio. Apply with changes of 1, 64 and 1,024 keys. Then
-//! the crate's two readers.
+//! they read: medians in nanoseconds and their ratio. Apply with changes of 1, 64 and 1,024 keys, and with
+//! what each call of 1,024 wrote. Then the crate's two readers.
 
 use lists::call_list::{DISCARD, PLACE, RELEASE};
 use lists::{limits, timed};
@@ -87,6 +87,28 @@ fn applies() {
     }
 }
 
+/// What each call of 1,024 wrote, applied to its own volume.
+fn followed() {
+    let mut change = vec![0; 1 << 21];
+    let mut scratch = vec![0; SUMS];
+    for (call, name) in [(PLACE, "place"), (RELEASE, "release"), (DISCARD, "discard")] {
+        let list = timed::list(call, timed::Volume::Bare, 1_024);
+        let (volume, list) = (list.volume().bytes(), list.bytes());
+        let written = match call {
+            PLACE => zerglaz::place(&list, &mut change),
+            RELEASE => zerglaz::release(&list, &mut scratch, &mut change),
+            _ => zerglaz::discard(&list, &mut change),
+        };
+        let change = &change[..written.expect("it is accepted")];
+        let mut out = vec![0; volume.len() + change.len()];
+        let read = [&volume[..], change].concat();
+        row(&format!("apply: what a {name} of 1,024 wrote"), &read, || {
+            let next = zerglaz::apply(black_box(&volume), black_box(change), &mut out);
+            next.expect("it is accepted")
+        });
+    }
+}
+
 /// The same volume read into a list of its own and where it stands, and one key of each looked up.
 fn readings() {
     let bytes = timed::volume().bytes();
@@ -110,5 +132,6 @@ fn main() {
     calls(RELEASE, "release");
     calls(DISCARD, "discard");
     applies();
+    followed();
     readings();
 }

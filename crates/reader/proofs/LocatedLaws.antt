@@ -49,7 +49,7 @@ no-freed = refl
 
 module _ (call : ℕ) (any : Bool) (s : List ℕ) (h : 0 ≡ listRefusal call any s) (index : List ℕ) (base : ℕ) where
   -- the keys of a tree
-  pub keys-located : (t : ℕ) → 1 < t → t ≤ 14 → base + length (bodies t (fields s)) ≤ length index → Tabled s index base (bodies t (fields s))
+  pub keys-located : (t : ℕ) → 1 < t → t ≤ 14 → base + length (bodies t (fields s)) ≤ length index → Tabled s index base t (bodies t (fields s))
       → KeysAt s (take (length (bodies t (fields s))) (drop base index)) (map keyOf (bodies t (fields s)))
   unfolding keyHere
   keys-located t l m fits tab =
@@ -71,13 +71,13 @@ module _ (call : ℕ) (any : Bool) (s : List ℕ) (h : 0 ≡ listRefusal call an
     within : getD index (base + i) 0 + n ≤ length s
     here : getD bs i [] ≡ take n (drop (getD index (base + i) 0) s)
 
-  fixed : (t n : ℕ) (bs : List (List ℕ)) (i : ℕ) → FieldHere s (getD index (base + i) 0) (getD bs i []) → length (getD bs i []) ≡ n → Fixed n i bs
+  fixed : (t n : ℕ) (bs : List (List ℕ)) (i : ℕ) → FieldHere s (getD index (base + i) 0) t (getD bs i []) → length (getD bs i []) ≡ n → Fixed n i bs
   fixed t n bs i f e =
       let q : le 2 (drop (getD index (base + i) 0 - 2) s) ≡ n = sym (here-length f) ∙ e in
       record { within = omega (arith, f .within, q); here = f .here ∙ ap (λ (k : ℕ). take k (drop (getD index (base + i) 0) s)) q }
 
   -- the reserved buckets
-  pub buckets-located : base + length (bodies 64 (fields s)) ≤ length index → Tabled s index base (bodies 64 (fields s))
+  pub buckets-located : base + length (bodies 64 (fields s)) ≤ length index → Tabled s index base 64 (bodies 64 (fields s))
       → BucketsAt s (take (length (bodies 64 (fields s))) (drop base index)) (map bucketRead (bodies 64 (fields s)))
   buckets-located fits tab =
       let bs = bodies 64 (fields s) in
@@ -90,7 +90,7 @@ module _ (call : ℕ) (any : Bool) (s : List ℕ) (h : 0 ≡ listRefusal call an
       }
 
   -- the pieces of a placement
-  pub pieces-located : base + length (bodies 65 (fields s)) ≤ length index → Tabled s index base (bodies 65 (fields s))
+  pub pieces-located : base + length (bodies 65 (fields s)) ≤ length index → Tabled s index base 65 (bodies 65 (fields s))
       → PiecesAt s (take (length (bodies 65 (fields s))) (drop base index)) (map pieceOf (bodies 65 (fields s)))
   pieces-located fits tab =
       let bs = bodies 65 (fields s) in
@@ -103,7 +103,7 @@ module _ (call : ℕ) (any : Bool) (s : List ℕ) (h : 0 ≡ listRefusal call an
       }
 
   -- the requests of a release
-  pub freeds-located : base + length (bodies 66 (fields s)) ≤ length index → Tabled s index base (bodies 66 (fields s))
+  pub freeds-located : base + length (bodies 66 (fields s)) ≤ length index → Tabled s index base 66 (bodies 66 (fields s))
       → FreedsAt s (take (length (bodies 66 (fields s))) (drop base index)) (map freedOf (bodies 66 (fields s)))
   freeds-located fits tab =
       let bs = bodies 66 (fields s) in

@@ -87,7 +87,7 @@ module _ (call : ℕ) (any : Bool) (s : List ℕ) (h : 0 ≡ listRefusal call an
       all-at r [] i k
 
 -- the length before a body is the body's
-pub here-length : {s body : List ℕ} {at : ℕ} → FieldHere s at body → length body ≡ le 2 (drop (at - 2) s)
+pub here-length : {s body : List ℕ} {at tag : ℕ} → FieldHere s at tag body → length body ≡ le 2 (drop (at - 2) s)
 here-length {s} {at = at} f = ap length (f .here) ∙ body-length s at (le 2 (drop (at - 2) s)) (f .within)
 
 -- what `read_key` asks, of a key at its place
@@ -103,7 +103,7 @@ key-sizes (reserved e l) h = absurd (omega arith)
 key-sizes (piece c e l) h = absurd (omega arith)
 key-sizes (freed c e l) h = absurd (omega arith)
 
-pub key-ready : {call t at : ℕ} {s body : List ℕ} → t ≤ 14 → FieldHere s at body → Listed call t (length body) → KeyReady s at
+pub key-ready : {call t at : ℕ} {s body : List ℕ} → t ≤ 14 → FieldHere s at t body → Listed call t (length body) → KeyReady s at
 key-ready h f l =
     let b = key-sizes l h in
     record { after = f .after; within = f .within; long = omega (arith, b .0, here-length f); short = omega (arith, b .1, here-length f) }

@@ -119,7 +119,7 @@ module _ (call : ℕ) (s index : List ℕ) (h : Head) (c : Ends) (z : 0 ≡ call
 
   -- a part of the table, of as many offsets as bodies
   counted : (from to t : ℕ) → 1 < t → t ≤ 14 → to ≡ from + length (bodies t (fields s)) → to ≤ length index → length (map keyOf (bodies t (fields s))) ≤ 4096
-      → Tabled s index from (bodies t (fields s)) → Part from to 4096 index × KeysAt s (between from to index) (map keyOf (bodies t (fields s)))
+      → Tabled s index from t (bodies t (fields s)) → Part from to 4096 index × KeysAt s (between from to index) (map keyOf (bodies t (fields s)))
   counted from to t l m e low short tab =
       let w : to - from ≡ length (bodies t (fields s)) = omega arith in (
         record { forth = omega arith; within = low; few = omega (arith, w, short, length-map (bodies t (fields s)) keyOf) },

@@ -4,8 +4,8 @@ use mathlib.Core.Path.{_≡_, refl, sym, _∙_, ap, subst}
 use mathlib.Core.Logic.{⊎-elim}
 use mathlib.Core.List.{List, [], _∷_}
 use mathlib.Core.Bool.{Bool, true, false, not, _&&_, _||_, cond}
-use lib.ListN.{length, take, drop}
-use lib.Seq.{drop-drop}
+use lib.ListN.{length, take, drop, getD}
+use lib.Seq.{drop-drop, getD-drop}
 use lib.Dec.{leb, ltb, eqb}
 use borrow.Author.Tests.{eq-eqb, ne-eqb, eqb-true, leb-true}
 use native.Mathlib.Omega.{arith}
@@ -115,7 +115,18 @@ listed-most (reserved e l) = omega arith
 listed-most (piece c e l) = omega arith
 listed-most (freed c e l) = omega arith
 
--- a step says where a field's length stands
+-- a step says where a field's tag and its length stand
+front-tag : (xs : List ℕ) (at t b n : ℕ) → stepOf at xs ≡ Found t b n → t ≡ getD xs 0 0
+unfolding stepOf
+front-tag [] at t b n e = absurd (let z : _≡_ {A = ℕ} 0 1 = cc in omega arith)
+front-tag (u ∷ []) at t b n e = absurd (let z : _≡_ {A = ℕ} 0 1 = cc in omega arith)
+front-tag (u ∷ lo ∷ []) at t b n e = absurd (let z : _≡_ {A = ℕ} 0 1 = cc in omega arith)
+front-tag (u ∷ lo ∷ hi ∷ xs) at t b n e = go (leb (le 2 (lo ∷ hi ∷ xs)) (length xs)) e
+  where
+    go : (q : Bool) → cond q (Found u (at + 3) (le 2 (lo ∷ hi ∷ xs))) Stop ≡ Found t b n → t ≡ u
+    go false e = absurd (let z : _≡_ {A = ℕ} 0 1 = cc in omega arith)
+    go true e = cc
+
 front-length : (xs : List ℕ) (at t b n : ℕ) → stepOf at xs ≡ Found t b n → n ≡ le 2 (drop 1 xs)
 unfolding stepOf
 front-length [] at t b n e = absurd (let z : _≡_ {A = ℕ} 0 1 = cc in omega arith)
@@ -129,8 +140,14 @@ front-length (u ∷ lo ∷ hi ∷ xs) at t b n e = go (leb (le 2 (lo ∷ hi ∷ 
 
 -- the field of a step, as the table has it
 pub here-at :
-    (s : List ℕ) (at t b n : ℕ) → stepOf at (drop at s) ≡ Found t b n → FieldAt s at t b n → FieldHere s b (take n (drop b s))
+    (s : List ℕ) (at t b n : ℕ) → stepOf at (drop at s) ≡ Found t b n → FieldAt s at t b n → FieldHere s b t (take n (drop b s))
 here-at s at t b n e f =
     let i : b - 2 ≡ at + 1 = omega (arith, f .on) in
     let l : n ≡ le 2 (drop (b - 2) s) = rw i (front-length (drop at s) at t b n e ∙ ap (le 2) (drop-drop 1 at s)) in
-    record { after = omega (arith, f .on); within = rw (sym l) (f .within); here = ap (λ (k : ℕ). take k (drop b s)) l }
+    let j : at + 0 ≡ b - 3 = omega (arith, f .on) in
+    record {
+      after = omega (arith, f .on);
+      tagged = front-tag (drop at s) at t b n e ∙ getD-drop at s 0 0 ∙ ap (λ (k : ℕ). getD s k 0) j;
+      within = rw (sym l) (f .within);
+      here = ap (λ (k : ℕ). take k (drop b s)) l;
+    }

@@ -1,10 +1,10 @@
 -- The pass over a call list: how it starts, what one more field changes, and what it finds in the end.
-use Prim.Native.Nat.{ℕ, suc, _+_, _*_, _≤_, _<_}
+use Prim.Native.Nat.{ℕ, zero, suc, _+_, _*_, _≤_, _<_}
 use mathlib.Core.Path.{_≡_, refl, sym, _∙_, ap}
 use mathlib.Core.Logic.{inl, inr, ⊎-elim}
-use mathlib.Core.List.{List, [], _∷_, _++_}
+use mathlib.Core.List.{List, [], _∷_, _++_, map}
 use mathlib.Core.Bool.{Bool, true, false, not, _&&_, _||_, cond, and-false, and-assoc}
-use lib.ListN.{length, take, drop, getD, set, length-set, drop-of-length-le}
+use lib.ListN.{length, take, drop, getD, set, length-set, length-map, drop-of-length-le}
 use lib.Dec.{eqb}
 use borrow.Author.Tests.{eq-eqb, ne-eqb, eqb-true, eqb-false}
 use native.Mathlib.Omega.{arith}
@@ -17,8 +17,9 @@ use Rattle.calls.specs.Lists.{allOf, inOrder}
 use Rattle.calls.specs.CallList.{Head, headOf, headOk, bodies, firstBody, callListOf, shaped, volumeShapes, requestShapes, laidOut}
 use Rattle.calls.specs.Limits.{listWithin}
 use Rattle.calls.specs.Refusals.{test, verdict}
+use Rattle.calls.proofs.Blocks.{field}
 use Rattle.reader.specs.CallFields.{restShapes, callFieldOk, startsOk, fieldFrom, leastOf, follows, headWithin, fieldWithin}
-use Rattle.reader.specs.Table.{slotOf, mostOf, Fits, Free, room, Passed, endOf, Indexed, Ended, endsIn, requestBodies, Tabled}
+use Rattle.reader.specs.Table.{slotOf, mostOf, Fits, Free, room, Passed, endOf, Indexed, Ended, endsIn, requestBodies, requestTag, Tabled}
 use Rattle.reader.specs.Readings.{listRefusal}
 use Rattle.reader.proofs.BoolLaws.{apart, and-left, and-right, fails}
 use Rattle.reader.proofs.ListLaws.{all-true, all-map, order-tail, bodies-here, bodies-other}
@@ -27,7 +28,7 @@ use Rattle.reader.proofs.SlotLaws.{inSlot, AllListed, slot-at, slot-all
 use Rattle.reader.proofs.LimitLaws.{Within, within-parts, parts-within, fields-within, within-alloc, within-run, within-waiting, within-reserved, few-at}
 use Rattle.reader.proofs.PlaceLaws.{within-cut, follows-cut, listed-least, listed-most, here-at}
 use Rattle.reader.proofs.TableLaws.{room-true, room-false}
-use Rattle.reader.proofs.NotingLaws.{Noting, end-most, noting-none, noting-more, place-fits, ends-fit, table-free, rank-full, field-over, rank-counted, all-here, all-within}
+use Rattle.reader.proofs.NotingLaws.{noField, Standing, Noting, end-most, noting-none, noting-more, place-fits, ends-fit, table-free, rank-full, field-over, rank-counted, all-here, all-within}
 use Rattle.reader.proofs.RankLaws.{Ranked, ranked, fewer, rank-at, rank-inside, counted-fewer}
 
 -- the first field
@@ -63,6 +64,25 @@ head-any h any x e a = simp (e, a)
 
 pub head-own : (h any x : Bool) → h ≡ true → any ≡ false → (h && (any || x)) ≡ x
 head-own h any x e a = simp (e, a)
+
+-- the place of field 1 tells whether it stands first
+module _ (s : List ℕ) (call : ℕ) (any : Bool) (at : ℕ) (h : at ≡ cond (startsOk call any (fields s)) 3 0) where
+  pub start-none : at ≡ 0 → startsOk call any (fields s) ≡ false
+  start-none e = go (startsOk call any (fields s)) (sym h ∙ e)
+    where
+      go : (b : Bool) → _≡_ {A = ℕ} (cond b 3 0) 0 → b ≡ false
+      go true z = absurd (omega arith)
+      go false z = refl
+
+  pub start-some : (at ≡ 0 → ⊥) → startsOk call any (fields s) ≡ true
+  start-some n = go (startsOk call any (fields s)) (λ z. n (h ∙ z))
+    where
+      go : (b : Bool) → (_≡_ {A = ℕ} (cond b 3 0) 0 → ⊥) → b ≡ true
+      go true z = refl
+      go false z = absurd (z refl)
+
+  pub start-place : (at ≡ 0 → ⊥) → at ≡ 3
+  start-place n = h ∙ ap (λ (b : Bool). cond b 3 0) (start-some n)
 
 -- field 1 stands first, with the fields after it from place 42 on
 pub record Opened (s : List ℕ) (call : ℕ) (any : Bool) : Type 0 where
@@ -294,7 +314,7 @@ module _ (s : List ℕ) (call : ℕ) (any : Bool) (o : Opened s call any) where
   over-rank t n l r h =
       refute (listWithin (callListOf (fields s)))
       (λ k.
-      omega (arith, few-at (fields s) (within-parts (fields s) k) l, ap length (after-first s call any o t (listed-above l)), ap length (slot-at l (fields (drop 42 s)) r)))
+      omega (arith, few-at (fields s) (within-parts (fields s) k) l, ap length (after-first s call any o t (listed-above l)), ap length (slot-at l (fields (drop 42 s)) r), length-map (bodies t (fields (drop 42 s))) (field t)))
 
 -- one more field
 
@@ -382,6 +402,12 @@ module _
 
 -- the end of the list
 
+-- the field of a tag with a body of some
+field-of : (t : ℕ) (bs : List (List ℕ)) (i : ℕ) → i < length bs → getD (map (field t) bs) i noField ≡ field t (getD bs i [])
+field-of t [] i h = absurd (omega arith)
+field-of t (b ∷ bs) zero h = refl
+field-of t (b ∷ bs) (suc i) h = field-of t bs i (omega arith)
+
 module _
     (s : List ℕ) (call : ℕ) (any : Bool) (at m last before : ℕ) (over : Bool) (counts index : List ℕ)
     (g : Going s call any at m last before over counts index) (e : length s ≤ at) where
@@ -430,25 +456,34 @@ module _
     ends-table = ends-fit s (fields (drop 42 s)) at m counts index (g .width) (noted .0)
 
     -- a rank's bodies, in the whole list
-    rank-bodies : (k t : ℕ) → 1 < t → inSlot k (fields (drop 42 s)) ≡ bodies t (fields (drop 42 s)) → inSlot k (fields (drop 42 s)) ≡ bodies t (fields s)
-    rank-bodies k t l z = z ∙ sym (after-first s call any (g .open1) t l)
+    rank-bodies :
+        (k t : ℕ) → 1 < t → inSlot k (fields (drop 42 s)) ≡ map (field t) (bodies t (fields (drop 42 s)))
+        → inSlot k (fields (drop 42 s)) ≡ map (field t) (bodies t (fields s))
+    rank-bodies k t l z = z ∙ ap (map (field t)) (sym (after-first s call any (g .open1) t l))
 
-    rank-requests : inSlot 7 (fields (drop 42 s)) ≡ requestBodies call (fields s)
+    rank-requests : inSlot 7 (fields (drop 42 s)) ≡ map (field (requestTag call)) (requestBodies call (fields s))
     rank-requests =
         slot-requests call (fields (drop 42 s)) rest
-        ∙ sym
+        ∙ ap (map (field (requestTag call)))
+        (sym
         (λ i.
         cond (eqb call 1) (after-first s call any (g .open1) 65 (omega arith) i)
-        (cond (eqb call 2) (after-first s call any (g .open1) 66 (omega arith) i) []))
+        (cond (eqb call 2) (after-first s call any (g .open1) 66 (omega arith) i) [])))
 
-    count-is : (k : ℕ) (bs : List (List ℕ)) → k < 8 → inSlot k (fields (drop 42 s)) ≡ bs → getD counts k 0 ≡ length bs
-    count-is k bs l z = rank-counted s (fields (drop 42 s)) at m counts index (noted .0) e k l ∙ ap length z
+    -- the fields of a rank are those of a tag, with these bodies
+    abbrev RankIs : ℕ → ℕ → List (List ℕ) → Type 0
+    RankIs k t bs = inSlot k (fields (drop 42 s)) ≡ map (field t) bs
 
-    few-is : (k : ℕ) (bs : List (List ℕ)) → k < 8 → inSlot k (fields (drop 42 s)) ≡ bs → length bs ≤ mostOf k
-    few-is k bs l z = omega (arith, count-is k bs l z, noted .0 .few k l)
+    count-is : (k t : ℕ) (bs : List (List ℕ)) → k < 8 → RankIs k t bs → getD counts k 0 ≡ length bs
+    count-is k t bs l z = rank-counted s (fields (drop 42 s)) at m counts index (noted .0) e k l ∙ ap length z ∙ length-map bs (field t)
+
+    few-is : (k t : ℕ) (bs : List (List ℕ)) → k < 8 → RankIs k t bs → length bs ≤ mostOf k
+    few-is k t bs l z = omega (arith, count-is k t bs l z, noted .0 .few k l)
 
     -- the places of a rank stand after those of the ranks below
-    in-rank : (k : ℕ) → k < 8 → Tabled s index (endOf counts k) (inSlot k (fields (drop 42 s)))
+    in-rank :
+        (k : ℕ) → k < 8 → (i : ℕ) → i < length (inSlot k (fields (drop 42 s)))
+        → Standing s (getD index (endOf counts k + i) 0) (getD (inSlot k (fields (drop 42 s))) i noField)
     in-rank k l i h =
         let fs = fields (drop 42 s) in
         let base : endOf counts k ≡ fewer k fs = counted-fewer counts fs (rank-counted s fs at m counts index (noted .0) e) k (omega arith) in
@@ -458,50 +493,51 @@ module _
         rest-ranked : Ranked (fields (drop 42 s))
         rest-ranked = ranked call (fields (drop 42 s)) rest-ordered rest
 
-    table-is : (k : ℕ) (bs : List (List ℕ)) → k < 8 → inSlot k (fields (drop 42 s)) ≡ bs → Tabled s index (endOf counts k) bs
-    table-is k bs l z = rw z at (in-rank k l)
+    table-is : (k t : ℕ) (bs : List (List ℕ)) → k < 8 → RankIs k t bs → Tabled s index (endOf counts k) t bs
+    table-is k t bs l z i h =
+        rw (z, field-of t bs i h) at (in-rank k l i (omega (arith, ap length z, length-map bs (field t))))
 
     -- where a rank ends
-    end-is : (k : ℕ) (bs : List (List ℕ)) → k < 8 → inSlot k (fields (drop 42 s)) ≡ bs → endOf counts (suc k) ≡ endOf counts k + length bs
+    end-is : (k t : ℕ) (bs : List (List ℕ)) → k < 8 → RankIs k t bs → endOf counts (suc k) ≡ endOf counts k + length bs
     unfolding endOf
-    end-is k bs l z = ap (λ (x : ℕ). endOf counts k + x) (count-is k bs l z)
+    end-is k t bs l z = ap (λ (x : ℕ). endOf counts k + x) (count-is k t bs l z)
 
-    alloc : inSlot 0 (fields (drop 42 s)) ≡ bodies 4 (fields s)
+    alloc : RankIs 0 4 (bodies 4 (fields s))
     alloc = rank-bodies 0 4 (omega arith) (slot-alloc call (fields (drop 42 s)) rest)
 
-    lru : inSlot 1 (fields (drop 42 s)) ≡ bodies 10 (fields s)
+    lru : RankIs 1 10 (bodies 10 (fields s))
     lru = rank-bodies 1 10 (omega arith) (slot-lru call (fields (drop 42 s)) rest)
 
-    freespace : inSlot 2 (fields (drop 42 s)) ≡ bodies 11 (fields s)
+    freespace : RankIs 2 11 (bodies 11 (fields s))
     freespace = rank-bodies 2 11 (omega arith) (slot-freespace call (fields (drop 42 s)) rest)
 
-    needDiscard : inSlot 3 (fields (drop 42 s)) ≡ bodies 12 (fields s)
+    needDiscard : RankIs 3 12 (bodies 12 (fields s))
     needDiscard = rank-bodies 3 12 (omega arith) (slot-need-discard call (fields (drop 42 s)) rest)
 
-    backpointers : inSlot 4 (fields (drop 42 s)) ≡ bodies 13 (fields s)
+    backpointers : RankIs 4 13 (bodies 13 (fields s))
     backpointers = rank-bodies 4 13 (omega arith) (slot-backpointers call (fields (drop 42 s)) rest)
 
-    gens : inSlot 5 (fields (drop 42 s)) ≡ bodies 14 (fields s)
+    gens : RankIs 5 14 (bodies 14 (fields s))
     gens = rank-bodies 5 14 (omega arith) (slot-gens call (fields (drop 42 s)) rest)
 
-    reserved : inSlot 6 (fields (drop 42 s)) ≡ bodies 64 (fields s)
+    reserved : RankIs 6 64 (bodies 64 (fields s))
     reserved = rank-bodies 6 64 (omega arith) (slot-reserved call (fields (drop 42 s)) rest)
 
     first-end : endOf counts 1 ≡ length (bodies 4 (fields s))
     unfolding endOf
-    first-end = omega (arith, count-is 0 (bodies 4 (fields s)) (omega arith) alloc)
+    first-end = omega (arith, count-is 0 4 (bodies 4 (fields s)) (omega arith) alloc)
 
     pub ends-ended : Ended call s index (endsIn counts)
     ends-ended =
         record {
           alloc = first-end;
-          lru = end-is 1 _ (omega arith) lru;
-          freespace = end-is 2 _ (omega arith) freespace;
-          needDiscard = end-is 3 _ (omega arith) needDiscard;
-          backpointers = end-is 4 _ (omega arith) backpointers;
-          gens = end-is 5 _ (omega arith) gens;
-          reserved = end-is 6 _ (omega arith) reserved;
-          requests = end-is 7 _ (omega arith) rank-requests;
+          lru = end-is 1 10 (bodies 10 (fields s)) (omega arith) lru;
+          freespace = end-is 2 11 (bodies 11 (fields s)) (omega arith) freespace;
+          needDiscard = end-is 3 12 (bodies 12 (fields s)) (omega arith) needDiscard;
+          backpointers = end-is 4 13 (bodies 13 (fields s)) (omega arith) backpointers;
+          gens = end-is 5 14 (bodies 14 (fields s)) (omega arith) gens;
+          reserved = end-is 6 64 (bodies 64 (fields s)) (omega arith) reserved;
+          requests = end-is 7 (requestTag call) (requestBodies call (fields s)) (omega arith) rank-requests;
           within = omega (arith, end-most counts (g .width), noted .0 .all, noted .0 .inside);
         }
 
@@ -509,14 +545,14 @@ module _
     unfolding endOf
     ends-indexed =
         record {
-          alloc = table-is 0 _ (omega arith) alloc;
-          lru = table-is 1 _ (omega arith) lru;
-          freespace = table-is 2 _ (omega arith) freespace;
-          needDiscard = table-is 3 _ (omega arith) needDiscard;
-          backpointers = table-is 4 _ (omega arith) backpointers;
-          gens = table-is 5 _ (omega arith) gens;
-          reserved = table-is 6 _ (omega arith) reserved;
-          requests = table-is 7 _ (omega arith) rank-requests;
+          alloc = table-is 0 4 (bodies 4 (fields s)) (omega arith) alloc;
+          lru = table-is 1 10 (bodies 10 (fields s)) (omega arith) lru;
+          freespace = table-is 2 11 (bodies 11 (fields s)) (omega arith) freespace;
+          needDiscard = table-is 3 12 (bodies 12 (fields s)) (omega arith) needDiscard;
+          backpointers = table-is 4 13 (bodies 13 (fields s)) (omega arith) backpointers;
+          gens = table-is 5 14 (bodies 14 (fields s)) (omega arith) gens;
+          reserved = table-is 6 64 (bodies 64 (fields s)) (omega arith) reserved;
+          requests = table-is 7 (requestTag call) (requestBodies call (fields s)) (omega arith) rank-requests;
         }
 
     fields-ok : allOf fieldWithin (fields s) ≡ true
@@ -530,7 +566,7 @@ module _
     pieces-few = go (eqb call 1) refl
       where
         go : (p : Bool) → eqb call 1 ≡ p → length (bodies 65 (fields s)) ≤ 1024
-        go true x = few-is 7 (bodies 65 (fields s)) (omega arith) (rank-requests ∙ simp x)
+        go true x = few-is 7 65 (bodies 65 (fields s)) (omega arith) (rank-requests ∙ simp x)
         go false x =
             omega (arith, ap length (after-first s call any (g .open1) 65 (omega arith) ∙ no-pieces call (fields (drop 42 s)) rest (eqb-false call 1 x)))
 
@@ -539,7 +575,7 @@ module _
       where
         go : (p : Bool) → eqb call 2 ≡ p → length (bodies 66 (fields s)) ≤ 1024
         go true x =
-            few-is 7 (bodies 66 (fields s)) (omega arith) (rank-requests ∙ simp (ne-eqb call 1 (λ z. omega (arith, eqb-true call 2 x)), x))
+            few-is 7 66 (bodies 66 (fields s)) (omega arith) (rank-requests ∙ simp (ne-eqb call 1 (λ z. omega (arith, eqb-true call 2 x)), x))
         go false x =
             omega (arith, ap length (after-first s call any (g .open1) 66 (omega arith) ∙ no-releases call (fields (drop 42 s)) rest (eqb-false call 2 x)))
 
@@ -553,16 +589,16 @@ module _
     within-all : Within (fields s)
     within-all =
         record {
-          alloc = few-is 0 _ (omega arith) alloc;
-          lru = few-is 1 _ (omega arith) lru;
-          freespace = few-is 2 _ (omega arith) freespace;
-          needDiscard = few-is 3 _ (omega arith) needDiscard;
-          backpointers = few-is 4 _ (omega arith) backpointers;
-          gens = few-is 5 _ (omega arith) gens;
+          alloc = few-is 0 4 (bodies 4 (fields s)) (omega arith) alloc;
+          lru = few-is 1 10 (bodies 10 (fields s)) (omega arith) lru;
+          freespace = few-is 2 11 (bodies 11 (fields s)) (omega arith) freespace;
+          needDiscard = few-is 3 12 (bodies 12 (fields s)) (omega arith) needDiscard;
+          backpointers = few-is 4 13 (bodies 13 (fields s)) (omega arith) backpointers;
+          gens = few-is 5 14 (bodies 14 (fields s)) (omega arith) gens;
           allocKeys = within-alloc (fields s) fields-ok;
           waitingKeys = within-waiting (fields s) fields-ok;
           runKeys = within-run (fields s) fields-ok;
-          reserved = few-is 6 _ (omega arith) reserved;
+          reserved = few-is 6 64 (bodies 64 (fields s)) (omega arith) reserved;
           reservedRange = within-reserved (fields s) fields-ok;
           head = ap (λ (b : List ℕ). headWithin (headOf b)) head-is ∙ noted .1;
           pieces = pieces-few;

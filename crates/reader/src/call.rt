@@ -1,6 +1,6 @@
 // Call lists and volumes: refusals 2 and 3, judged in one pass.
 ghost use mathlib.Core.Path.{_≡_};
-ghost use mathlib.Core.Bool.{false, true};
+ghost use mathlib.Core.Bool.{false, true, cond};
 ghost use Prim.Native.Nat.{_+_, _≤_};
 ghost use lib.ListN.{length};
 ghost use Rattle.wire.specs.Fields.{fields};
@@ -22,27 +22,30 @@ pub enum Reading {
     Read(Head, Ends),
 }
 
-// Whether a list starts with field 1, of this call or of any.
-fn starts(s: &[u8], call: u8, any: bool) -> bool
-    ensures { λ r. ⌜ r ≡ startsOk call any (fields (now (s .entry))) ⌝ }
+// Where the body of field 1 starts, if the list starts with one of this call, or of any; else 0.
+fn head_start(s: &[u8], call: u8, any: bool) -> usize
+    ensures { λ r. ⌜ r ≡ cond (startsOk call any (fields (now (s .entry)))) 3 0 ⌝ }
 {
     let NextField::Found { tag, start, len } = fields::next_field(s, 0) else {
-        return false;
+        return 0;
     };
     if tag != 1 {
-        return false;
+        return 0;
     }
     if len != 39 {
-        return false;
+        return 0;
     }
     let first = head::read_head(s, start);
     if !head::head_ok(first) {
-        return false;
+        return 0;
     }
     if any {
-        return true;
+        return start;
     }
-    first.call == call
+    if first.call == call {
+        return start;
+    }
+    0
 }
 
 // Whether a limit is passed, now or before: else the field's place is noted behind n others. The length that its tag asks shows the bound.
@@ -73,15 +76,16 @@ fn read_list(s: &[u8], call: u8, any: bool, index: &mut [u32]) -> Reading
     requires { ⌜ Fits (now s) (now index) ⌝ }
     ensures { λ r. ⌜ Answered (listRefusal call any (now (s .entry))) call (now (s .entry)) (now (index .exit)) r ⌝ }
 {
-    if !starts(s, call, any) {
+    let start = head_start(s, call, any);
+    if start == 0 {
         return Reading::Refused(2);
     }
-    let first = head::read_head(s, 3);
+    let first = head::read_head(s, start);
     let mut over = !head::head_within(first);
     let mut counts = [0usize; 8];
     let mut last: u8 = 1;
-    let mut before: usize = 3;
-    let mut at: usize = 42;
+    let mut before: usize = start;
+    let mut at: usize = start + 39;
     let mut n: usize = 0;
     while at < s.len() {
         let NextField::Found { tag, start, len } = fields::next_field(s, at) else {

@@ -10,39 +10,45 @@ use Rattle.wire.specs.Fields.{fieldAt, stepOf}
 use Rattle.wire.specs.declared.fields.NextField.the-variants.{Found}
 use Rattle.wire.proofs.FieldLaws.{FieldAt, field-at}
 use Rattle.reader.specs.CallFields.{callFieldOk, headWithin}
-use Rattle.reader.proofs.ReadingLaws.{Opened, ends-table, next-free, passed-length, opened, not-started, Going, going-start, breaks, bad, back, last-within, next-within, goes-on, ends-over, ends-accepted, ends-ended, ends-indexed, ends-headed}
+use Rattle.reader.proofs.ReadingLaws.{Opened, start-none, start-some, start-place, ends-table, next-free, passed-length, opened, not-started, Going, going-start, breaks, bad, back, last-within, next-within, goes-on, ends-over, ends-accepted, ends-ended, ends-indexed, ends-headed}
 use Rattle.reader.proofs.call.read_list.Statement.{statement}
 use Rattle.reader.proofs.call.read_list.Tie as tie
 
 abbrev Inv-loop : tie.InvT-loop
-Inv-loop s call any index₀ first over₀ counts₀ last₀ before₀ at₀ n₀ index over counts last before at n =
+Inv-loop s call any index₀ start first over₀ counts₀ last₀ before₀ at₀ n₀ index over counts last before at n =
     Going s call any at n last before over counts index × (length index ≡ length index₀)
 
 abbrev μ-loop : tie.MeasureT-loop
-μ-loop s call any index₀ first over₀ counts₀ last₀ before₀ at₀ n₀ index over counts last before at n = length s - at
+μ-loop s call any index₀ start first over₀ counts₀ last₀ before₀ at₀ n₀ index over counts last before at n = length s - at
 
-starts-requires : tie.Need-starts-requires Inv-loop μ-loop
-starts-requires c κs = tt
+head-start-requires : tie.Need-head-start-requires Inv-loop μ-loop
+head-start-requires c κs = tt
 
 returns : tie.Need-returns Inv-loop μ-loop
-returns c = not-started _ _ _ (sym (c .before .starts .ensures) ∙ not-true _ (c .if1 .taken))
+returns c = not-started _ _ _ (start-none _ _ _ _ (c .before .head-start .ensures) (c .if1 .taken))
 
 -- field 1 is there
 first : (c : tie.Else1 Inv-loop μ-loop) → Opened (now (c .before .before .before .before .args .s)) (c .before .before .before .before .args .call) (c .before .before .before .before .args .any)
-first c = opened _ _ _ (sym (c .before .starts .ensures) ∙ not-false _ (c .if1 .left))
+first c = opened _ _ _ (start-some _ _ _ _ (c .before .head-start .ensures) (c .if1 .left))
+
+-- where its body starts
+place : (c : tie.Else1 Inv-loop μ-loop) → c .before .head-start .result ≡ 3
+place c = start-place _ _ _ _ (c .before .head-start .ensures) (c .if1 .left)
 
 read-head-requires : tie.Need-read-head-requires Inv-loop μ-loop
-read-head-requires c κs = first c .first .within
+read-head-requires c κs = omega (arith, place c, first c .first .within)
 
 head-within-requires : tie.Need-head-within-requires Inv-loop μ-loop
 head-within-requires c κs = tt
 
 loop-holds : tie.Need-loop-holds Inv-loop μ-loop
-loop-holds c = (
-  going-start _ _ _ _ _ (first (c .before .before)) (c .before .before .before .before .before .before .pre)
-      (c .head-within .ensures ∙ ap headWithin (c .before .read-head .ensures)),
-  refl,
-)
+loop-holds c =
+    let e = place (c .before .before) in (
+      rw e
+      (going-start _ _ _ _ _ (first (c .before .before)) (c .before .before .before .before .before .before .pre)
+      (c .head-within .ensures ∙ ap headWithin (rw e at (c .before .read-head .ensures)))),
+      refl,
+    )
 
 next-field-requires : tie.Need-next-field-requires Inv-loop μ-loop
 next-field-requires c κs = c .before .loop .inv .0 .walked .within
@@ -114,7 +120,10 @@ passes-requires c κs =
     (next-within _ _ _ _ _ _ _ _ _ _ g _ _ _ (took (c .before .before .before .before .before .before)) (fine (c .before .before .before .before)), next-free _ _ _ _ _ _ _ _ _ _ g _ _ _ (step (c .before .before .before .before .before .before)) (fine (c .before .before .before .before)))
 
 add-at : tie.Need-add-at Inv-loop μ-loop
-add-at c = omega (arith, took (c .before .before .before .before .before .before .before .before .before) .within, c .before .before .before .before .before .before .before .before .before .before .before .before .before .before .before .before .before .before .before .before .before .good .0 .0)
+add-at c = omega (arith, place (c .before .before))
+
+add-at-2 : tie.Need-add-at-2 Inv-loop μ-loop
+add-at-2 c = omega (arith, took (c .before .before .before .before .before .before .before .before .before) .within, c .before .before .before .before .before .before .before .before .before .before .before .before .before .before .before .before .before .before .before .before .before .good .0 .0)
 
 add-n : tie.Need-add-n Inv-loop μ-loop
 add-n c = omega (arith, c .before .before .before .before .before .before .before .before .before .before .before .before .before .before .loop .inv .0 .many, took (c .before .before .before .before .before .before .before .before .before) .within, c .before .before .before .before .before .before .before .before .before .before .before .before .before .before .before .before .before .before .before .before .before .good .0 .0)
@@ -153,7 +162,9 @@ returns-6 c =
     let h = c .before .if4 .left in (
       ends-accepted _ _ _ _ _ _ _ _ _ _ g e h,
       record {
-        head = c .before .before .before .before .before .read-head .ensures ∙ sym (ends-headed _ _ _ _ _ _ _ _ _ _ g e h);
+        head =
+            rw (place (c .before .before .before .before .before .before)) at (c .before .before .before .before .before .read-head .ensures)
+            ∙ sym (ends-headed _ _ _ _ _ _ _ _ _ _ g e h);
         ends = rw (c .ends-of .ensures) (ends-ended _ _ _ _ _ _ _ _ _ _ g e h);
         table = rw (c .ends-of .ensures) (ends-indexed _ _ _ _ _ _ _ _ _ _ g e h);
       },
@@ -165,10 +176,11 @@ read-list-spec =
     (tie.spec
     Inv-loop
     μ-loop
-    starts-requires
+    head-start-requires
     returns
     read-head-requires
     head-within-requires
+    add-at
     loop-holds
     next-field-requires
     enum-known-tag
@@ -182,7 +194,7 @@ read-list-spec =
     same-length-3
     returns-4
     passes-requires
-    add-at
+    add-at-2
     add-n
     loop-less
     loop-again
