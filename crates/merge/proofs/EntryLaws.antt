@@ -1,4 +1,4 @@
--- One field's part of a section: its key, its bytes, and what it leaves of the fields. Assumes nothing.
+-- One field's part of a section: its key and its bytes. Assumes nothing.
 use Prim.Native.Nat.{ℕ, _+_, _-_, _≤_, _<_}
 use mathlib.Core.Path.{_≡_, refl, ap, sym, _∙_}
 use mathlib.Core.Bool.{Bool, true, false, _&&_, cond, and-false}
@@ -25,8 +25,8 @@ use Rattle.wire.proofs.OutputLaws.{lt-or-ge}
 use Rattle.wire.proofs.RoundTrip.{body-again}
 use Rattle.calls.specs.CallList.{reservedField}
 use Rattle.calls.proofs.BoolLaws.{both, parts}
-use Rattle.merge.specs.Entries.{isBucket, isEntry, entryOf, entries, isLeading, leading, past, fieldFor}
-use Rattle.merge.specs.Places.{sizeAt, tagAt, entryFrom, Kept, EntryHere, LeadHere}
+use Rattle.merge.specs.Entries.{isBucket, isEntry, entryOf, entries, fieldFor}
+use Rattle.merge.specs.Places.{sizeAt, tagAt, entryFrom, Kept, Stands, EntryHere}
 
 -- a field that a step found, by the place of its body
 pub record StepAt (s : List ℕ) (at t b n : ℕ) : Type 0 where
@@ -53,21 +53,22 @@ step-at s at t b n e =
     (lt-or-ge (length s - at - 3) (le 2 (drop (at + 1) s))))
     (lt-or-ge (length s - at) 3)
 
--- the bytes of a field that was read
-pub field-bytes : {s : List ℕ} {at t b n : ℕ} → Bytes s → StepAt s at t b n → take (3 + n) (drop at s) ≡ encodeField (fieldAt s t b n)
+-- the bytes of a field, by the place of its body
+field-bytes : {s : List ℕ} {b : ℕ} → Bytes s → 3 ≤ b → b + sizeAt s b ≤ length s
+    → take (3 + sizeAt s b) (drop (b - 3) s) ≡ encodeField (fieldAt s (tagAt s b) b (sizeAt s b))
 unfolding encodeField headBytes tagAt sizeAt
-field-bytes {s} {at} {t} {b} {n} r h =
-    let f = h .field in
-    let l : at + 3 + n ≤ length s = omega (arith, f .within, f .on) in
-    let x : b - 3 ≡ at = omega (arith, f .on) in
-    let y : b - 2 ≡ at + 1 = omega (arith, f .on) in
-    let tag : leBytes 1 t ≡ take 1 (drop at s) =
-    ap (leBytes 1) (h .tag ∙ ap (λ (i : ℕ). getD s i 0) x ∙ sym (le-byte s at)) ∙ leBytes-le 1 (all-drop at r) (rw length-drop (omega arith)) in
+field-bytes {s} {b} r h l =
+    let at : ℕ = b - 3 in
+    let n : ℕ = le 2 (drop (b - 2) s) in
+    let y : b - 2 ≡ at + 1 = omega arith in
+    let z : b ≡ at + 3 = omega arith in
+    let tag : leBytes 1 (getD s at 0) ≡ take 1 (drop at s) =
+    ap (leBytes 1) (sym (le-byte s at)) ∙ leBytes-le 1 (all-drop at r) (rw length-drop (omega arith)) in
     let size : leBytes 2 n ≡ take 2 (drop (at + 1) s) =
-    ap (leBytes 2) (h .size ∙ ap (λ (i : ℕ). le 2 (drop i s)) y) ∙ leBytes-le 2 (all-drop (at + 1) r) (rw length-drop (omega arith)) in
-    rw (body-length s b n (f .within), tag, size, f .on)
+    ap (λ (i : ℕ). leBytes 2 (le 2 (drop i s))) y ∙ leBytes-le 2 (all-drop (at + 1) r) (rw length-drop (omega arith)) in
+    rw (body-length s b n l, tag, size)
     (take-add 3 n (drop at s)
-    ∙ rw (drop-drop 3 at s, take-add 1 2 (drop at s), drop-drop 1 at s))
+    ∙ rw (drop-drop 3 at s, take-add 1 2 (drop at s), drop-drop 1 at s, ← z))
 
 -- what the tests of a field say
 
@@ -136,51 +137,9 @@ module _ (t : ℕ) {s : List ℕ} {at tag b n : ℕ} (h : StepAt s at tag b n) w
   entry-here e from l i =
       record { here = sym i ∙ entries-on e; kept = kept-at h e; size = sym (h .size); on = omega (arith, h .field .on) }
 
-  leads : tag ≡ t → isEntry t tag n ≡ true → isLeading t f ≡ true
-  unfolding isLeading
-  leads z e = both (eq-eqb tag t z) (rw long e)
-
-  pub lead-here : Bytes s → tag ≡ t → isEntry t tag n ≡ true → LeadHere s at t b n
-  unfolding leading past
-  lead-here r z e =
-      let l : isLeading t f ≡ true = leads z e in
-      let k : fieldFor t (entryFrom t s b) ≡ f =
-      ap (fieldFor t) (sym (entry-at t h)) ∙ field-for t tag n e (take n (drop b s)) long (all-take n (all-drop b r))
-      ∙ (λ i. fieldAt s (sym z i) b n) in
-      record {
-        here = ap (leading t) (h .field .here) ∙ rw l (ap (λ (x : Key). x ∷ leading t fs) (entry-at t h));
-        gone = sym (ap (past t) (h .field .here) ∙ rw l);
-        bytes = field-bytes r h ∙ ap encodeField (sym k);
-        kept = kept-at h e;
-        size = sym (h .size);
-        on = h .field .on;
-      }
-
-  pub lead-other : (tag ≡ t → ⊥) → leading t (fields (drop at s)) ≡ []
-  unfolding leading isLeading
-  lead-other z = ap (leading t) (h .field .here) ∙ rw (ne-eqb tag t z)
-
-  pub lead-broken : isEntry t tag n ≡ false → leading t (fields (drop at s)) ≡ []
-  unfolding leading isLeading
-  lead-broken e = ap (leading t) (h .field .here) ∙ rw (long, e, and-false (eqb tag t))
-
--- where no field leads, none is passed
-pub none-past : (t : ℕ) (fs : List Field) → leading t fs ≡ [] → past t fs ≡ fs
-unfolding leading past
-none-past t [] h = refl
-none-past t (f ∷ fs) h = go (isLeading t f) h
-  where
-    go : (u : Bool) → cond u (entryOf t f ∷ leading t fs) [] ≡ [] → cond u (past t fs) (f ∷ fs) ≡ f ∷ fs
-    go true e = absurd (let z : _≡_ {A = ℕ} 0 1 = cc in omega arith)
-    go false e = refl
-
 pub entries-none : (t : ℕ) {fs : List Field} → fs ≡ [] → entries t fs ≡ []
 unfolding entries
 entries-none t e = ap (entries t) e
-
-pub leading-none : (t : ℕ) {fs : List Field} → fs ≡ [] → leading t fs ≡ []
-unfolding leading
-leading-none t e = ap (leading t) e
 
 -- what is read at the place of a key
 
@@ -222,3 +181,11 @@ module _ {t : ℕ} {s : List ℕ} {o : ℕ} (k : Kept t s o) where
   entry-field r =
       field-for t (tagAt s o) (sizeAt s o) (k .entry) (take (sizeAt s o) (drop o s)) (body-length s o (sizeAt s o) (k .within))
       (all-take (sizeAt s o) (all-drop o r))
+
+-- a key of a volume is written as it stands
+pub stands-bytes : {t : ℕ} {s : List ℕ} {o : ℕ} → Bytes s → Stands t s o
+    → take (3 + sizeAt s o) (drop (o - 3) s) ≡ encodeField (fieldFor t (entryFrom t s o))
+stands-bytes {t} {s} {o} r h =
+    field-bytes r (h .kept .after) (h .kept .within)
+    ∙ ap (λ (u : ℕ). encodeField (fieldAt s u o (sizeAt s o))) (h .tag)
+    ∙ ap encodeField (sym (entry-field (h .kept) r))

@@ -40,19 +40,6 @@ unfoldable pub entries : ℕ → List Field → List Key
 entries t [] = []
 entries t (f ∷ fs) = cond (isEntry t (f .tag) (length (f .body))) (entryOf t f ∷ entries t fs) (entries t fs)
 
--- a volume's field of section t
-unfoldable pub isLeading : ℕ → Field → Bool
-isLeading t f = eqb (f .tag) t && isEntry t (f .tag) (length (f .body))
-
--- the keys of the first fields, as many as are of section t, and the fields after them
-unfoldable pub leading : ℕ → List Field → List Key
-leading t [] = []
-leading t (f ∷ fs) = cond (isLeading t f) (entryOf t f ∷ leading t fs) []
-
-unfoldable pub past : ℕ → List Field → List Field
-past t [] = []
-past t (f ∷ fs) = cond (isLeading t f) (past t fs) (f ∷ fs)
-
 -- a key as a volume's field
 unfoldable pub fieldFor : ℕ → Key → Field
 fieldFor t k = cond (eqb t 64) (reservedField (bucketIn (k .pos))) (keyField t k)

@@ -57,6 +57,9 @@ upTo p = record { any = true; pos = p }
 abbrev pub all : Bpos → Bound
 all p = record { any = false; pos = p }
 
+abbrev pub unbounded : Bound
+unbounded = all (record { inode = 0; offset = 0; snapshot = 0 })
+
 -- what sorted keys g of a queue make of the front of sorted keys, and what is left after the last of them
 unfoldable pub front : List Key → List Key → List Key
 front [] l = []

@@ -3,12 +3,13 @@ ghost use mathlib.Core.Path.{_≡_};
 ghost use Prim.Native.Nat.{_+_, _≤_};
 ghost use lib.ListN.{length};
 ghost use Rattle.merge.specs.Entries.{isBucket, isEntry};
-ghost use Rattle.merge.specs.Places.{Kept, entryFrom, EntryStepped, LeadStepped};
+ghost use Rattle.merge.specs.Places.{Kept, entryFrom, sizeAt, EntryStepped};
 use wire::bpos;
 use wire::bpos::Bpos;
 use wire::fields;
 use wire::fields::NextField;
 use wire::kinds;
+use wire::le;
 use wire::positions;
 
 // What stands next of a section.
@@ -54,7 +55,7 @@ fn is_entry(section: u8, tag: u8, len: usize) -> bool
     len <= 293
 }
 
-// The position of the key whose body starts at o. `next_entry` and `leading_at` show that one does.
+// The position of the key whose body starts at o. `next_entry` and the table of a volume show that one does, here and below.
 pub fn pos_at(s: &[u8], o: usize, section: u8) -> Bpos
     requires { ⌜ Kept section (now s) o ⌝ }
     ensures { λ r. ⌜ r ≡ entryFrom section (now (s .entry)) o .pos ⌝ }
@@ -79,6 +80,14 @@ pub fn type_at(s: &[u8], o: usize, section: u8) -> u8
     s[o]
 }
 
+// How many bytes its body has.
+pub fn len_at(s: &[u8], o: usize, section: u8) -> usize
+    requires { ⌜ Kept section (now s) o ⌝ }
+    ensures { λ r. ⌜ r ≡ sizeAt (now (s .entry)) o ⌝ }
+{
+    le::le16(s, o - 2) as usize
+}
+
 // The next key of a section from a place on. The place after a key, or 0, shows the bound.
 pub fn next_entry(s: &[u8], from: usize, section: u8) -> NextEntry
     requires { ⌜ from ≤ length (now s) ⌝ }
@@ -94,21 +103,4 @@ pub fn next_entry(s: &[u8], from: usize, section: u8) -> NextEntry
         }
         at = start + len;
     }
-}
-
-// The key of a section at a place of a volume, if one stands there. The place after a key, or a section's first, shows the bound.
-pub fn leading_at(vol: &[u8], at: usize, section: u8) -> NextEntry
-    requires { ⌜ at ≤ length (now vol) ⌝ }
-    ensures { λ r. ⌜ LeadStepped (now (vol .entry)) at section r ⌝ }
-{
-    let NextField::Found { tag, start, len } = fields::next_field(vol, at) else {
-        return NextEntry::Stop;
-    };
-    if tag != section {
-        return NextEntry::Stop;
-    }
-    if !is_entry(section, tag, len) {
-        return NextEntry::Stop;
-    }
-    NextEntry::Found { start, len }
 }

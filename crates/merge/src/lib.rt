@@ -1,6 +1,8 @@
-// One section of the next volume: the queued keys merged into the volume's, in chunks, and their weight. A section is the keys of a tree, or the reserved buckets.
+// One section of the next volume: the queued keys merged into the volume's, and their weight. A section is the keys of a tree, or the reserved buckets.
+pub mod below;
 pub mod bound;
 pub mod chunk;
 pub mod entries;
 pub mod limits;
 pub mod merge;
+pub mod queued;

@@ -1,0 +1,50 @@
+-- `put_queued` meets its contract.
+use borrow.Author.Needs.{needs}
+use denote.Ref.{now}
+use Rattle.merge.specs.Places.{entryFrom}
+use Rattle.merge.proofs.SectionLaws.{put-one}
+use Rattle.merge.proofs.queued.put_queued.Statement.{statement}
+use Rattle.merge.proofs.queued.put_queued.Tie as tie
+
+pos-at-requires : tie.Need-pos-at-requires
+pos-at-requires c κs = search needs
+
+put-below-requires : tie.Need-put-below-requires
+put-below-requires c κs = search needs
+
+skip-at-requires : tie.Need-skip-at-requires
+skip-at-requires c κs = search needs
+
+put-shown-requires : tie.Need-put-shown-requires
+put-shown-requires c κs = search needs
+
+add-shown-requires : tie.Need-add-shown-requires
+add-shown-requires c κs = search needs
+
+same-length : tie.Need-same-length
+same-length c = search needs
+
+returns : tie.Need-returns
+returns c =
+    let d = c .before .before .before in
+    let k = d .before .before in
+    let b = k .before .before .before in
+    let e = b .before .before in
+    let a = e .before .before .before .before .before .args in
+    put-one (entryFrom (a .section) (now (a .list)) (a .o))
+    (rw (e .pos-at .ensures) at (b .put-below .ensures))
+    (rw (e .pos-at .ensures) at (k .skip-at .ensures))
+    (d .put-shown .ensures)
+    (c .add-shown .ensures)
+
+pub put-queued-spec : {M : Type 1} → statement M
+put-queued-spec =
+    tie.close
+    (tie.spec
+    pos-at-requires
+    put-below-requires
+    skip-at-requires
+    put-shown-requires
+    add-shown-requires
+    same-length
+    returns)

@@ -1,0 +1,56 @@
+// One queued key: what is written of it, what it weighs, and what it makes of the volume's keys.
+ghost use mathlib.Core.Path.{_≡_};
+ghost use mathlib.Core.List.{[], _∷_};
+ghost use Prim.Native.Nat.{_+_, _≤_, min};
+ghost use lib.ListN.{length};
+ghost use Rattle.wire.specs.Bytes.{All};
+ghost use Rattle.wire.specs.Output.{Wrote};
+ghost use Rattle.merge.specs.Entries.{sectionBytes};
+ghost use Rattle.merge.specs.Queues.{shown, front, back};
+ghost use Rattle.merge.specs.Places.{Kept, Stands, entryFrom};
+ghost use Rattle.merge.specs.Weights.{weighs};
+ghost use Rattle.merge.specs.Merging.{keysFrom, Put};
+use crate::below;
+use crate::below::Spot;
+use crate::bound::Bound;
+use crate::entries;
+use crate::limits;
+use wire::emit;
+
+// A queued key, unless it is a deletion. `refill` shows that one starts at o.
+fn put_shown(out: &mut [u8], p: usize, list: &[u8], o: usize, section: u8) -> usize
+    requires { ⌜ Kept section (now list) o ⌝ }
+    ensures { λ r. ⌜ Wrote (now (out .entry)) p (length (sectionBytes section (shown (entryFrom section (now (list .entry)) o)))) (sectionBytes section (shown (entryFrom section (now (list .entry)) o))) (now (out .exit)) r ⌝ }
+{
+    if entries::type_at(list, o, section) == 0 {
+        return p;
+    }
+    let len = entries::len_at(list, o, section);
+    let q = emit::put_head(out, p, section, len);
+    emit::put_bytes(out, q, list, o, len)
+}
+
+// A queued key on the scale, unless it is a deletion.
+fn add_shown(w: usize, list: &[u8], o: usize, section: u8) -> usize
+    requires { ⌜ Kept section (now list) o ⌝ }
+    ensures { λ r. ⌜ min r 4097 ≡ min (w + weighs section (shown (entryFrom section (now (list .entry)) o))) 4097 ⌝ }
+{
+    let ty = entries::type_at(list, o, section);
+    if ty == 0 {
+        return w;
+    }
+    limits::add(w, section, ty, entries::pos_at(list, o, section))
+}
+
+// What one queued key makes of the volume's keys from an index on. `refill` and `sort_queue` show that one starts at o.
+pub fn put_queued(out: &mut [u8], vol: &[u8], keys: &[u32], from: Spot, list: &[u8], o: usize, section: u8) -> Spot
+    requires { ⌜ All (Stands section (now vol)) (now keys) × (from .at ≤ length (now keys)) × Kept section (now list) o ⌝ }
+    ensures { λ r. ⌜ Put section (now (out .entry)) (now (vol .entry)) (now (keys .entry)) from (front (entryFrom section (now (list .entry)) o ∷ []) (keysFrom section (now (vol .entry)) (now (keys .entry)) (from .at))) (back (entryFrom section (now (list .entry)) o ∷ []) (keysFrom section (now (vol .entry)) (now (keys .entry)) (from .at))) (now (out .exit)) r ⌝ }
+{
+    let pos = entries::pos_at(list, o, section);
+    let s = below::put_below(out, vol, keys, from, section, Bound { any: true, pos });
+    let at = below::skip_at(vol, keys, s.at, section, pos);
+    let p = put_shown(out, s.p, list, o, section);
+    let w = add_shown(s.w, list, o, section);
+    Spot { p, at, w }
+}
