@@ -1,4 +1,7 @@
 -- The head that the code holds.
+use Prim.Native.Nat.{ℕ}
+use mathlib.Core.List.{List, _++_}
+use Rattle.wire.specs.Numbers.{leBytes}
 use Rattle.calls.specs.CallList as calls
 use Rattle.reader.specs.declared.head.Head.{Head}
 
@@ -16,3 +19,8 @@ headIn h =
       inode = h .inode;
       base = h .base;
     }
+
+-- the bytes of its call, sizes, option and roots
+unfoldable pub headSizes : calls.Head → List ℕ
+headSizes h =
+    leBytes 1 (h .call) ++ leBytes 2 (h .bucketSectors) ++ leBytes 2 (h .blockSectors) ++ leBytes 1 (h .option) ++ leBytes 1 (h .roots)

@@ -2,9 +2,12 @@
 ghost use mathlib.Core.Path.{_≡_};
 ghost use Prim.Native.Nat.{_+_, _≤_};
 ghost use lib.ListN.{length, take, drop};
-ghost use Rattle.calls.specs.CallList.{headOf, headOk};
+ghost use Rattle.wire.specs.Encode.{encodeField};
+ghost use Rattle.wire.specs.Output.{Wrote};
+ghost use Rattle.calls.specs.CallList.{headOf, headBody, headOk};
 ghost use Rattle.reader.specs.CallFields.{headWithin};
-ghost use Rattle.reader.specs.Heads.{headIn};
+ghost use Rattle.reader.specs.Heads.{headIn, headSizes};
+use wire::emit;
 use wire::kinds;
 use wire::kinds::FileSector;
 use wire::le;
@@ -63,4 +66,29 @@ pub fn head_within(h: Head) -> bool
     }
     let base = h.base;
     kinds::base_in_range(base)
+}
+
+// The first five parts of a head.
+fn put_sizes(out: &mut [u8], at: usize, h: Head) -> usize
+    ensures { λ r. ⌜ Wrote (now (out .entry)) at 7 (headSizes (headIn h)) (now (out .exit)) r ⌝ }
+{
+    let p = emit::put_le(out, at, 1, h.call as u64);
+    let p = emit::put_le(out, p, 2, h.bucket_sectors as u64);
+    let p = emit::put_le(out, p, 2, h.block_sectors as u64);
+    let p = emit::put_le(out, p, 1, h.option as u64);
+    emit::put_le(out, p, 1, h.roots as u64)
+}
+
+// Field 1.
+pub fn put_head(out: &mut [u8], at: usize, h: Head) -> usize
+    ensures { λ r. ⌜ Wrote (now (out .entry)) at 42 (encodeField (record { tag = 1; body = headBody (headIn h) })) (now (out .exit)) r ⌝ }
+{
+    let base = h.base;
+    let p = emit::put_head(out, at, 1, 39);
+    let p = put_sizes(out, p, h);
+    let p = emit::put_le(out, p, 4, h.reserve as u64);
+    let p = emit::put_le(out, p, 4, h.batch as u64);
+    let p = emit::put_le(out, p, 8, h.journal);
+    let p = emit::put_le(out, p, 8, h.inode);
+    emit::put_file_sector(out, p, base)
 }

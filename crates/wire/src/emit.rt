@@ -5,12 +5,13 @@ ghost use mathlib.Core.List.{[], _∷_, _++_};
 ghost use lib.ListN.{length, take, drop};
 ghost use Rattle.wire.specs.Numbers.{leBytes, wordsBytes};
 ghost use Rattle.wire.specs.Held.{valueIn};
-ghost use Rattle.wire.specs.Kinds.{bucketBytes, sectorBytes};
+ghost use Rattle.wire.specs.Kinds.{bucketBytes, sectorBytes, fileSectorBytes};
 ghost use Rattle.wire.specs.Encode.{headBytes, encodeField};
 ghost use Rattle.wire.specs.Output.{top, Wrote};
 use crate::keys::Value;
 use crate::kinds::Bucket;
 use crate::kinds::DeviceSector;
+use crate::kinds::FileSector;
 
 // No slice is as long as this: places are counted up to it.
 const TOP: usize = 0x8000_0000_0000_0000;
@@ -149,6 +150,13 @@ pub fn put_sector(out: &mut [u8], at: usize, d: DeviceSector) -> usize
     ensures { λ r. ⌜ Wrote (now (out .entry)) at 8 (sectorBytes d) (now (out .exit)) r ⌝ }
 {
     put_le(out, at, 8, d.0)
+}
+
+// A file sector.
+pub fn put_file_sector(out: &mut [u8], at: usize, f: FileSector) -> usize
+    ensures { λ r. ⌜ Wrote (now (out .entry)) at 8 (fileSectorBytes f) (now (out .exit)) r ⌝ }
+{
+    put_le(out, at, 8, f.0)
 }
 
 // The first n of eight words. Who makes the words shows the bound.
