@@ -35,7 +35,7 @@ use Rattle.merge.specs.Entries.{sections, bucketKey, entries, fieldFor, section
 use Rattle.merge.specs.Weights.{keyFits, sectionWithin}
 use Rattle.apply.specs.Roots.{rootsIn, frontBytes}
 use Rattle.apply.proofs.BatchLaws.{tree-changes, bucket-changes, head-changes}
-use Rattle.apply.proofs.VolumeLaws.{entries-bodies, tree-entry, tree-keys, bucket-keys, SectionOf, Parted, headBodyOf}
+use Rattle.apply.proofs.VolumeLaws.{entries-bodies, tree-entry, tree-keys, bucket-keys, SectionOf, Parted}
 use Rattle.apply.proofs.RootLaws.{roots-listed}
 
 -- the keys of section t in the next volume
@@ -136,101 +136,17 @@ volume-parts v =
       bucket-bytes,
     )
 
--- field 1: the root bits, and all else
-
-piece : {b : List ℕ} → Bytes b → (n k : ℕ) → k + n ≤ length b → leBytes n (le n (drop k b)) ++ drop (k + n) b ≡ drop k b
-piece {b} r n k h =
-    rw (leBytes-le n (all-drop k r) (rw length-drop (omega arith)), ← drop-drop n k b) (take-append-drop n (drop k b))
-
-one-byte : (r : ℕ) → r < 256 → leBytes 1 r ≡ r ∷ []
-unfolding leBytes
-one-byte r l = let m : r % 256 ≡ r = omega arith in rw m
-
-head-with : {b : List ℕ} → Bytes b → length b ≡ 39 → (r : ℕ) → r < 256 → headBody (withRoots (headOf b) r) ≡ take 6 b ++ (r ∷ drop 7 b)
-unfolding headBody withRoots headOf
-head-with {b} s e r l =
-    let last : leBytes 8 (le 8 (drop 31 b)) ≡ drop 31 b =
-    leBytes-le 8 (all-drop 31 s) (rw length-drop (omega arith)) ∙ take-all 8 (drop 31 b) (omega (arith, length-drop 31 b)) in
-    rw (
-      next-again s 0 1 (omega arith),
-      next-again s 1 2 (omega arith),
-      next-again s 3 2 (omega arith),
-      next-again s 5 1 (omega arith),
-    )
-    (simp append-assoc
-    (rw (
-      last,
-      piece s 8 23 (omega arith),
-      piece s 8 15 (omega arith),
-      piece s 4 11 (omega arith),
-      piece s 4 7 (omega arith),
-      one-byte r l,
-    )))
-
-encode-39 : (c : List ℕ) → length c ≡ 39 → encodeField (field 1 c) ≡ 1 ∷ 39 ∷ 0 ∷ c
-unfolding encodeField headBytes leBytes
-encode-39 c e = rw e
-
-module _ {vol : List ℕ} (p : Parted vol) where
-  abbrev b : List ℕ
-  b = headBodyOf vol
-
-  abbrev rest : List ℕ
-  rest = encode (flat (gather sections (fields vol)))
-
-  -- the volume's first bytes
-  starts : vol ≡ 1 ∷ 39 ∷ 0 ∷ (b ++ rest)
-  starts = p .whole ∙ ap (λ (l : List ℕ). l ++ rest) (encode-39 b (p .long))
-
-  pub front-fits : 42 ≤ length vol
-  front-fits = omega (arith, ap length starts, length-append b rest, p .long)
-
-  head-bytes : Bytes b
-  head-bytes =
-      subst (λ (l : List ℕ). Bytes l) (take-at b rest 39 (p .long))
-      (all-take 39 (all-drop 3 (subst (λ (l : List ℕ). Bytes l) starts (p .bytes))))
-
-  pub roots-at : getD vol 9 0 ≡ headOf b .roots
-  unfolding headOf
-  roots-at = ap (λ (l : List ℕ). getD l 9 0) starts ∙ List·getD-append b rest 0 6 (omega (arith, p .long)) ∙ sym (le-byte b 6)
-
-  pub roots-low : getD vol 9 0 < 8
-  unfolding headOk callListOf
-  roots-low =
-      let h = parts (leb 1 (headOf b .call)) _ (p .head) .1 in
-      let k = parts (leb (headOf b .call) 3) (ltb (headOf b .roots) 8) h .1 in
-      rw roots-at (ltb-true (headOf b .roots) 8 k)
-
-  front-next : (r : ℕ) → r < 256 → encodeField (field 1 (headBody (withRoots (headOf b) r))) ≡ take 9 vol ++ (r ∷ take 32 (drop 10 vol))
-  front-next r l =
-      let c : List ℕ = take 6 b ++ (r ∷ drop 7 b) in
-      let n : length c ≡ 39 = simp (length-append, length-take, length-drop) (omega (arith, p .long)) in
-      let x : take 9 vol ≡ 1 ∷ 39 ∷ 0 ∷ take 6 b =
-      ap (take 9) starts ∙ ap (λ (m : List ℕ). 1 ∷ 39 ∷ 0 ∷ m) (take-append-le 6 b rest (omega (arith, p .long))) in
-      let y : take 32 (drop 10 vol) ≡ drop 7 b =
-      ap (λ (m : List ℕ). take 32 (drop 10 m)) starts ∙ ap (take 32) (drop-append-le 7 b rest (omega (arith, p .long)))
-      ∙ take-at (drop 7 b) rest 32 (length-drop 7 b ∙ omega (arith, p .long)) in
-      ap (λ (m : List ℕ). encodeField (field 1 m)) (head-with head-bytes (p .long) r l)
-      ∙ encode-39 c n
-      ∙ (λ i. sym x i ++ (r ∷ sym y i))
-
 -- the bytes of the next volume
 
 unfoldable pub nextBytes : List ℕ → List ℕ → ℕ → List ℕ
 nextBytes vol list t = sectionBytes t (nextOf vol list t)
 
 module _ {vol : List ℕ} (list : List ℕ) (p : Parted vol) (l : changeLaidOut list ≡ true) where
-  next-front : encodeField (field 1 (headBody (nextVolume vol list .head))) ≡ frontBytes vol list
-  unfolding callListOf frontBytes
-  next-front =
-      let r : ℕ = setRoots (rootsIn (fields list)) (getD vol 9 0) in
-      let low : r < 8 = roots-below (getD vol 9 0) (roots-listed list l) (roots-low p) in
-      ap (λ (h : Head). encodeField (field 1 (headBody h)))
-      (head-changes list (readVolume vol)
-      ∙ ap (λ (n : ℕ). withRoots (headOf (headBodyOf vol)) (setRoots (rootsIn (fields list)) n)) (sym (roots-at p)))
-      ∙ front-next p r (omega arith)
+  next-front : encodeField (field 1 (headBody (nextVolume vol list .head))) ≡ frontBytes (readVolume vol .head) list
+  unfolding frontBytes
+  next-front = ap (λ (h : Head). encodeField (field 1 (headBody h))) (head-changes list (readVolume vol))
 
-  pub next-bytes : volumeBytes (nextVolume vol list) ≡ frontBytes vol list ++ each (nextBytes vol list) sections
+  pub next-bytes : volumeBytes (nextVolume vol list) ≡ frontBytes (readVolume vol .head) list ++ each (nextBytes vol list) sections
   unfolding each nextBytes
   next-bytes =
       let n = next-is p l in

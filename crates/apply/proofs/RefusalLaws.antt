@@ -12,7 +12,9 @@ use Rattle.calls.specs.Refusals.{test, verdict}
 use Rattle.calls.specs.Answers.{answer, readVolume, nextVolume, apply, made, outcome}
 use Rattle.calls.proofs.AnswerLaws.{apply-is}
 use Rattle.calls.proofs.OutcomeLaws.{answer-next, answer-stops, refused}
-use Rattle.reader.specs.Readings.{volumeRefusal}
+use Rattle.reader.specs.Readings.{volumeRefusal, ListRead}
+use Rattle.reader.specs.declared.head.Head.{Head}
+use Rattle.reader.specs.declared.table.Ends.{Ends}
 use Rattle.apply.specs.NextVolume.{Ready}
 
 -- the refusal of a volume by its two tests
@@ -42,11 +44,13 @@ module _ (vol : List ℕ) {number : ℕ} (read : number ≡ volumeRefusal vol) w
       go false b p q = absurd (f (read ∙ refusal-is vol false b p q))
 
   -- what the writing of the next volume asks
-  pub ready : {list : List ℕ} → number ≡ 0 → changeLaidOut list ≡ true → Ready vol list
-  ready {list} e c = go (volumeLaidOut vol) (volumeWithin (readVolume vol)) refl refl
+  pub ready :
+      {index : List ℕ} {h : Head} {ends : Ends} {list : List ℕ} → number ≡ 0 → ListRead 0 vol index h ends → changeLaidOut list ≡ true
+      → Ready vol index h ends list
+  ready {index} {h} {ends} {list} e r c = go (volumeLaidOut vol) (volumeWithin (readVolume vol)) refl refl
     where
-      go : (a b : Bool) → volumeLaidOut vol ≡ a → volumeWithin (readVolume vol) ≡ b → Ready vol list
-      go true true p q = record { laid = p; within = q; change = c }
+      go : (a b : Bool) → volumeLaidOut vol ≡ a → volumeWithin (readVolume vol) ≡ b → Ready vol index h ends list
+      go true true p q = record { laid = p; within = q; change = c; read = r }
       go true false p q = absurd (omega (arith, e, read, refusal-is vol true false p q))
       go false b p q = absurd (omega (arith, e, read, refusal-is vol false b p q))
 

@@ -1,4 +1,4 @@
--- The sections of a volume, one after the other: where each begins, and its keys. Assumes nothing.
+-- The sections of a volume that is laid out, and their keys. Assumes nothing.
 use mathlib.Core.Path.{_≡_, refl, ap, sym, _∙_}
 use mathlib.Core.Bool.{Bool, true, false, _&&_, _||_, cond, false≢true, and-false}
 use mathlib.Core.List.{List, [], _∷_, _++_, map, map-map}
@@ -26,16 +26,16 @@ use Rattle.calls.proofs.AllLaws.{all-imp, all-tail, test-all}
 use Rattle.calls.proofs.BoolLaws.{both, parts}
 use Rattle.calls.proofs.SixTrees.{trees-each}
 use Rattle.calls.proofs.Blocks.{field, flat, flat-tags, bodies-cons, bodies-all, order-ascend, gather, tagsAbove, gathered, keeps, shaped-out, shaped-tag, shaped-fits, tagsOf, isOf}
-use Rattle.merge.specs.Entries.{sections, bucketKey, isBucket, isEntry, entryOf, entries, isLeading, leading, past}
+use Rattle.merge.specs.Entries.{sections, bucketKey, isBucket, isEntry, entryOf, entries}
 use Rattle.merge.specs.Queues.{ascending}
 use Rattle.apply.proofs.BatchLaws.{bucket-cmp}
 
--- the last section, by elimination
+-- the last of seven, by elimination
 pub up : (i n : ℕ) → n ≤ i → (i ≡ n → ⊥) → suc n ≤ i
 up i n h f = omega arith
 
-pub last-section : (i : ℕ) → i < 7 → 6 ≤ i → 64 ≡ getD sections i 0
-last-section i h l = let e : i ≡ 6 = omega arith in rw e
+pub last-at : (l : List ℕ) (i : ℕ) → i < 7 → 6 ≤ i → getD l 6 0 ≡ getD l i 0
+last-at l i h k = let e : i ≡ 6 = omega arith in rw e
 
 -- the keys of a section, by the bodies with its tag
 
@@ -85,37 +85,6 @@ bucket-entry f s = rw (other 71 refl, other 75 refl) (go (eqb (f .tag) 64) refl)
         rw (eq-eqb (length (f .body)) 4 (omega (arith, l .0, l .1)))
     go false e = and-false (eqb (length (f .body)) 4)
 
--- fields of a section in front of fields of others
-
-leads-none : (t : ℕ) {fs : List Field} → All (λ f. ltb t (f .tag) ≡ true) fs → (leading t fs ≡ []) × (past t fs ≡ fs)
-unfolding leading past isLeading
-leads-none t none = (refl, refl)
-leads-none t (more {a = f} h r) =
-    let z : eqb (f .tag) t ≡ false = ne-eqb (f .tag) t (λ e. omega (arith, ltb-true t (f .tag) h)) in
-    (rw z, rw z)
-
-pub leads-section :
-    (t : ℕ) {bs : List (List ℕ)} {fs : List Field} → All (λ b. isEntry t t (length b) ≡ true) bs → All (λ f. ltb t (f .tag) ≡ true) fs
-    → (leading t (map (field t) bs ++ fs) ≡ map (λ b. entryOf t (field t b)) bs) × (past t (map (field t) bs ++ fs) ≡ fs)
-unfolding leading past isLeading
-leads-section t none h = unfold leading past in (leads-none t h)
-leads-section t (more {a = b} {s = bs} e r) h =
-    let z : (eqb t t && isEntry t t (length b)) ≡ true = both (eq-eqb t t refl) e in
-    let ih = leads-section t r h in
-    (rw z (ap (λ (l : List Key). entryOf t (field t b) ∷ l) (unfold leading past in (ih .0))), rw z (unfold leading past in (ih .1)))
-
--- the tags of the later sections
-tags-above : (t u : ℕ) (ts : List ℕ) (fs : List Field) → t ≤ u → tagsAbove u ts ≡ true → allOf (λ k. ltb t (k .tag)) (gather ts fs) ≡ true
-unfolding allOf
-tags-above t u [] fs l h = refl
-tags-above t u (v ∷ ts) fs l h =
-    let p = parts (ltb u v) (tagsAbove v ts) h in
-    let m : u < v = ltb-true u v (p .0) in
-    both (lt-ltb t v (omega arith)) (tags-above t v ts fs (omega arith) (p .1))
-
-pub flat-above : (t : ℕ) (ts : List ℕ) (fs : List Field) → tagsAbove t ts ≡ true → All (λ f. ltb t (f .tag) ≡ true) (flat (gather ts fs))
-flat-above t ts fs h = flat-tags (ltb t) (gather ts fs) (tags-above t t ts fs (omega arith) h)
-
 -- a volume that is laid out right
 
 -- section t of a volume: its fields, and its keys
@@ -123,23 +92,6 @@ pub record SectionOf (vol : List ℕ) (t : ℕ) : Type 0 where
   pub sized : All (λ b. isEntry t t (length b) ≡ true) (bodies t (fields vol))
   pub is : entries t (fields vol) ≡ map (λ b. entryOf t (field t b)) (bodies t (fields vol))
   pub up : ascending (entries t (fields vol)) ≡ true
-
-abbrev pub headBodyOf : List ℕ → List ℕ
-headBodyOf vol = firstBody (bodies 1 (fields vol))
-
-pub record Parted (vol : List ℕ) : Type 0 where
-  pub bytes : Bytes vol
-  pub long : length (headBodyOf vol) ≡ 39
-  pub whole : vol ≡ encodeField (field 1 (headBodyOf vol)) ++ encode (flat (gather sections (fields vol)))
-  pub fit : All FieldFits (flat (gather sections (fields vol)))
-  pub each : All (SectionOf vol) sections
-  pub head : headOk (readVolume vol .head) ≡ true
-
--- one body of field 1
-one-body : (bs : List (List ℕ)) → length bs ≡ 1 → bs ≡ firstBody bs ∷ []
-one-body [] e = absurd (omega arith)
-one-body (b ∷ []) e = refl
-one-body (b ∷ c ∷ bs) e = absurd (omega arith)
 
 -- the order of buckets is that of their keys
 bucket-order : (bs : List Bucket) → inOrder bucketBelow bs ≡ true → ascending (map (bucketKey 1) bs) ≡ true
@@ -183,13 +135,14 @@ module _ {vol : List ℕ} (sound : All (λ f. shaped volumeShapes f ≡ true) (f
       section-is 64 (all-imp bucket-entry sound)
       (rw (bucket-keys (bodies 64 (fields vol))) (bucket-order (map bucketRead (bodies 64 (fields vol))) o))
 
-first-of : {P : List ℕ → Type 0} {bs : List (List ℕ)} → length bs ≡ 1 → All P bs → P (firstBody bs)
-first-of e none = absurd (omega arith)
-first-of e (more h r) = h
+-- the sections of a volume that is laid out, and its root bits
+pub record Parted (vol : List ℕ) : Type 0 where
+  pub each : All (SectionOf vol) sections
+  pub roots : readVolume vol .head .roots < 8
 
-pub parted : {vol : List ℕ} → Bytes vol → volumeLaidOut vol ≡ true → Parted vol
-unfolding volumeLaidOut laidOut callListOf treesOf volumeShapes flat encode each allOf
-parted {vol} r h =
+pub parted : {vol : List ℕ} → volumeLaidOut vol ≡ true → Parted vol
+unfolding volumeLaidOut laidOut callListOf treesOf volumeShapes headOk
+parted {vol} h =
     let fs : List Field = fields vol in
     let a = parts (whole vol) _ h in
     let b = parts (allOf (shaped volumeShapes) fs) _ (a .1) in
@@ -198,20 +151,9 @@ parted {vol} r h =
     let e = parts (headOk (readVolume vol .head)) _ (d .1) in
     let f = parts (treesOk (readVolume vol .trees)) (inOrder bucketBelow (readVolume vol .reserved)) (e .1) in
     let sound : All (λ f. shaped volumeShapes f ≡ true) fs = test-all (shaped volumeShapes) fs (b .0) in
-    let one : length (bodies 1 fs) ≡ 1 = eqb-true (length (bodies 1 fs)) 1 (d .0) in
-    let blocks : flat (gather (1 ∷ sections) fs) ≡ fs =
-    gathered (1 ∷ sections) 0 refl (order-ascend fs (c .0)) (all-imp (λ f s. shaped-tag volumeShapes f s) sound) in
-    let parted : fs ≡ field 1 (headBodyOf vol) ∷ flat (gather sections fs) =
-    sym blocks ∙ ap (λ (bs : List (List ℕ)). map (field 1) bs ++ flat (gather sections fs)) (one-body (bodies 1 fs) one) in
-    let fit : All FieldFits (field 1 (headBodyOf vol) ∷ flat (gather sections fs)) =
-    rw parted at (all-imp (λ f s. shaped-fits volumeShapes f refl s) sound) in
-    let size = first-of one (all-imp (λ b s. shaped-out 1 39 39 volumeShapes b refl s) (bodies-all 1 sound)) in
     let k = trees-each (readVolume vol .trees) (f .0) in
+    let r = parts (leb (readVolume vol .head .call) 3) _ (parts (leb 1 (readVolume vol .head .call)) _ (e .0) .1) .1 in
     record {
-      bytes = r;
-      long = omega (arith, size .0, size .1);
-      whole = sym (bytes-again r (a .0)) ∙ ap encode parted;
-      fit = all-tail fit;
       each =
           more (tree-section sound 4 refl refl (k .alloc))
           (more (tree-section sound 10 refl refl (k .lru))
@@ -219,17 +161,5 @@ parted {vol} r h =
           (more (tree-section sound 12 refl refl (k .needDiscard))
           (more (tree-section sound 13 refl refl (k .backpointers))
           (more (tree-section sound 14 refl refl (k .gens)) (more (bucket-section sound (f .1)) none))))));
-      head = e .0;
+      roots = ltb-true (readVolume vol .head .roots) 8 r;
     }
-
--- where the sections begin
-module _ {vol : List ℕ} (p : Parted vol) where
-  front-length : length (encodeField (field 1 (headBodyOf vol))) ≡ 42
-  unfolding encodeField headBytes leBytes
-  front-length = simp length-append (omega (arith, p .long))
-
-  pub sections-at : fields (drop 42 vol) ≡ flat (gather sections (fields vol))
-  sections-at =
-      ap (λ (s : List ℕ). fields (drop 42 s)) (p .whole)
-      ∙ ap fields (drop-at (encodeField (field 1 (headBodyOf vol))) (encode (flat (gather sections (fields vol)))) 42 front-length)
-      ∙ fields-back (p .fit)

@@ -2,13 +2,14 @@
 use mathlib.Core.Path.{_≡_}
 use mathlib.Core.Bool.{Bool, true, _||_, cond}
 use Prim.Native.Nat.{ℕ, _+_, _/_, _%_, _^_, _<_}
-use mathlib.Core.List.{List, _∷_, _++_, map}
-use lib.ListN.{length, take, drop, getD}
+use mathlib.Core.List.{List, map}
+use lib.ListN.{length, getD}
 use lib.Dec.{eqb}
 use Rattle.wire.specs.Numbers.{le}
 use Rattle.wire.specs.Fields.{Field, fields}
-use Rattle.calls.specs.CallList.{bodies}
-use Rattle.calls.specs.Apply.{rootBit, setRoots}
+use Rattle.wire.specs.Encode.{encodeField}
+use Rattle.calls.specs.CallList.{Head, headBody, bodies}
+use Rattle.calls.specs.Apply.{rootBit, setRoots, withRoots}
 
 -- a bit set, unless it is
 unfoldable pub withBit : ℕ → ℕ → ℕ
@@ -37,7 +38,6 @@ pub record Rooted (r is : ℕ) : Type 0 where
   pub same : r ≡ is
   pub low : r < 8
 
--- the volume's field 1 with the root bits after a change list
-unfoldable pub frontBytes : List ℕ → List ℕ → List ℕ
-frontBytes vol list =
-    take 9 vol ++ (setRoots (rootsIn (fields list)) (getD vol 9 0) ∷ take 32 (drop 10 vol))
+-- field 1 of a volume with the root bits after a change list
+unfoldable pub frontBytes : Head → List ℕ → List ℕ
+frontBytes h list = encodeField (record { tag = 1; body = headBody (withRoots h (setRoots (rootsIn (fields list)) (h .roots))) })

@@ -1,14 +1,15 @@
 // Field 1 of the next volume: root bits are set, all else is kept.
 ghost use mathlib.Core.Path.{_≡_};
 ghost use mathlib.Core.Bool.{true};
-ghost use Prim.Native.Nat.{_+_, _≤_, _<_};
-ghost use lib.ListN.{length, getD};
+ghost use Prim.Native.Nat.{_+_, _<_};
 ghost use Rattle.wire.specs.Fields.{fields};
 ghost use Rattle.wire.specs.Output.{Wrote};
 ghost use Rattle.calls.specs.Apply.{setRoots};
 ghost use Rattle.calls.specs.ChangeList.{changeLaidOut};
+ghost use Rattle.reader.specs.Heads.{headIn};
 ghost use Rattle.apply.specs.Roots.{withBit, withRoot, isRoot, rootsIn, NamesRoot, Rooted, afterField, frontBytes};
-use wire::emit;
+use reader::head;
+use reader::head::Head;
 use wire::fields;
 use wire::fields::NextField;
 
@@ -64,13 +65,12 @@ fn roots_after(list: &[u8], roots: u8) -> u8
     }
 }
 
-// Field 1: the volume's 42 bytes, with other root bits. The volume's layout shows the bound.
-pub fn put_front(out: &mut [u8], vol: &[u8], list: &[u8]) -> usize
-    requires { ⌜ (42 ≤ length (now vol)) × (getD (now vol) 9 0 < 8) × (changeLaidOut (now list) ≡ true) ⌝ }
-    ensures { λ r. ⌜ Wrote (now (out .entry)) 0 42 (frontBytes (now (vol .entry)) (now (list .entry))) (now (out .exit)) r ⌝ }
+// Field 1: the volume's head with other root bits. The volume's layout shows that its root bits are low.
+pub fn put_front(out: &mut [u8], h: Head, list: &[u8]) -> usize
+    requires { ⌜ (h .roots < 8) × (changeLaidOut (now list) ≡ true) ⌝ }
+    ensures { λ r. ⌜ Wrote (now (out .entry)) 0 42 (frontBytes (headIn h) (now (list .entry))) (now (out .exit)) r ⌝ }
 {
-    let roots = roots_after(list, vol[9]);
-    let p = emit::put_bytes(out, 0, vol, 0, 9);
-    let p = emit::put_u8(out, p, roots);
-    emit::put_bytes(out, p, vol, 10, 32)
+    let mut next = h;
+    next.roots = roots_after(list, h.roots);
+    head::put_head(out, 0, next)
 }

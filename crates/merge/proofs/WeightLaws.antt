@@ -65,7 +65,7 @@ light-max a b = go (leb a 4096) (leb b 4096) refl refl
     go false y p q = lt-leb (max a b) 4096 (omega (arith, leb-false a 4096 p))
 
 -- one section more: its weight on a scale of its own
-pub light-on : (t : ℕ) (ks : List Key) (a w : ℕ) → min w 4097 ≡ min (0 + weighs t ks) 4097 → leb (max a w) 4096 ≡ (leb a 4096 && sectionWithin t ks)
+pub light-on : (t : ℕ) (ks : List Key) (a w : ℕ) → min w 4097 ≡ min (weighs t ks) 4097 → leb (max a w) 4096 ≡ (leb a 4096 && sectionWithin t ks)
 light-on t ks a w h = light-max a w ∙ ap (λ (b : Bool). leb a 4096 && b) (same (leb (weighs t ks) 4096) refl ∙ weighed t ks)
   where
     same : (x : Bool) → leb (weighs t ks) 4096 ≡ x → leb w 4096 ≡ x

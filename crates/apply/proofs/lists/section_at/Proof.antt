@@ -1,7 +1,8 @@
 -- `section_at` meets its contract.
 use borrow.Author.Needs.{needs}
 use Prim.Native.Nat.{zero-le}
-use Rattle.apply.proofs.VolumeLaws.{up, last-section}
+use Rattle.merge.specs.Entries.{sections}
+use Rattle.apply.proofs.VolumeLaws.{up, last-at}
 use Rattle.apply.proofs.lists.section_at.Statement.{statement}
 use Rattle.apply.proofs.lists.section_at.Tie as tie
 
@@ -27,7 +28,7 @@ returns-7 : tie.Need-returns-7
 returns-7 c =
     let i = c .before .args .i in
     let r = c .match .rest in
-    last-section i (c .before .pre)
+    last-at sections i (c .before .pre)
     (up i 5 (up i 4 (up i 3 (up i 2 (up i 1 (up i 0 zero-le (r .0 .0 .0 .0 .0 .1)) (r .0 .0 .0 .0 .1)) (r .0 .0 .0 .1)) (r .0 .0 .1)) (r .0 .1)) (r .1))
 
 pub section-at-spec : {M : Type 1} → statement M

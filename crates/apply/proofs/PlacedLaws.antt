@@ -1,0 +1,108 @@
+-- The sections of a volume by the reader's table. Assumes nothing.
+use mathlib.Core.Path.{_≡_, refl, ap, sym, _∙_}
+use mathlib.Core.Bool.{true}
+use mathlib.Core.List.{List, [], _∷_, map}
+use Prim.Native.Nat.{ℕ, zero, suc, _+_, _-_, _≤_, _<_}
+use native.Mathlib.Nat.{add-zero}
+use native.Mathlib.Numerals.{add-one}
+use native.Mathlib.Omega.{arith}
+use lib.ListN.{length, take, drop, getD}
+use Rattle.wire.specs.Bytes.{All, none, more}
+use Rattle.wire.specs.Numbers.{le}
+use Rattle.wire.specs.Fields.{Field, fields, fieldAt}
+use Rattle.wire.specs.Keys.{Key}
+use Rattle.wire.proofs.OutputLaws.{drop-next}
+use Rattle.calls.specs.CallList.{bodies}
+use Rattle.calls.proofs.AllLaws.{all-tail, first}
+use Rattle.calls.proofs.Blocks.{field}
+use Rattle.reader.specs.Table.{FieldHere, Tabled}
+use Rattle.reader.specs.Readings.{ListRead}
+use Rattle.reader.specs.declared.head.Head.{Head}
+use Rattle.reader.specs.declared.table.Ends.{Ends}
+use Rattle.reader.proofs.OfferedLaws.{here-length}
+use Rattle.merge.specs.Entries.{sections, isEntry, entryOf, entries}
+use Rattle.merge.specs.Places.{sizeAt, tagAt, entryFrom, entriesAt, Kept, Stands}
+use Rattle.merge.proofs.PlaceLaws.{at-all}
+use Rattle.apply.specs.NextVolume.{endsOf, SectionReady}
+use Rattle.apply.proofs.VolumeLaws.{SectionOf, Parted}
+
+-- a field of section t at its place
+module _ {t at : ℕ} {s body : List ℕ} (f : FieldHere s at t body) where
+  size : length body ≡ sizeAt s at
+  unfolding sizeAt
+  size = here-length f
+
+  pub stands-at : isEntry t t (length body) ≡ true → Stands t s at
+  unfolding sizeAt tagAt
+  stands-at e =
+      record {
+        kept = record { after = f .after; within = f .within; entry = rw (sym (f .tagged), ← here-length f) e };
+        tag = sym (f .tagged);
+      }
+
+  pub entry-at : entryFrom t s at ≡ entryOf t (field t body)
+  unfolding entryFrom sizeAt tagAt
+  entry-at = λ i. entryOf t (field (sym (f .tagged) i) (sym (f .here) i))
+
+-- the fields of section t, from an index of the table on
+abbrev Part : ℕ → List ℕ → List ℕ → ℕ → List (List ℕ) → Type 0
+Part t s index base bs =
+    All (Stands t s) (take (length bs) (drop base index)) × (entriesAt t s (take (length bs) (drop base index)) ≡ map (λ b. entryOf t (field t b)) bs)
+
+tabled-part :
+    (t : ℕ) (s index : List ℕ) (base : ℕ) (bs : List (List ℕ)) → base + length bs ≤ length index → All (λ b. isEntry t t (length b) ≡ true) bs
+    → Tabled s index base t bs → Part t s index base bs
+unfolding entriesAt
+tabled-part t s index base [] h a f = (none, refl)
+tabled-part t s index base (b ∷ bs) h (more e a) f =
+    let z : FieldHere s (getD index base 0) t b = rw (add-zero base) at (f 0 (omega arith)) in
+    let r = tabled-part t s index (base + 1) bs (omega arith) a (λ i l. let q : base + suc i ≡ base + 1 + i = omega arith in rw q at (f (suc i) (omega arith))) in
+    let k : entriesAt t s (take (length bs) (drop (base + 1) index)) ≡ map (λ b. entryOf t (field t b)) bs = r .1 in
+    rw (drop-next 0 index base (omega arith)) (more (stands-at z e) (r .0), λ i. entry-at z i ∷ unfold entriesAt in (k i))
+
+-- section t stands between two ends of the table
+pub record Placed (vol index : List ℕ) (t from to : ℕ) : Type 0 where
+  pub on : from ≤ to
+  pub within : to ≤ length index
+  pub stands : All (Stands t vol) (take (to - from) (drop from index))
+  pub keys : entriesAt t vol (take (to - from) (drop from index)) ≡ entries t (fields vol)
+
+placed :
+    {vol index : List ℕ} {t from to : ℕ} → SectionOf vol t → Tabled vol index from t (bodies t (fields vol)) → to ≡ from + length (bodies t (fields vol))
+    → to ≤ length index → Placed vol index t from to
+placed {vol} {index} {t} {from} {to} s f e w =
+    let bs = bodies t (fields vol) in
+    let n : to - from ≡ length bs = omega arith in
+    let r = tabled-part t vol index from bs (omega arith) (s .sized) f in
+    record { on = omega arith; within = w; stands = rw n (r .0); keys = rw n (r .1 ∙ sym (s .is)) }
+
+-- each end lies within the table
+bound : {vol index : List ℕ} {h : Head} {e : Ends} → ListRead 0 vol index h e → (i : ℕ) → i < 7 → getD (endsOf e) i 0 ≤ length index
+bound r zero l = let x = r .ends in omega (arith, x .lru, x .freespace, x .needDiscard, x .backpointers, x .gens, x .reserved, x .requests, x .within)
+bound r (suc zero) l = let x = r .ends in omega (arith, x .freespace, x .needDiscard, x .backpointers, x .gens, x .reserved, x .requests, x .within)
+bound r (suc (suc zero)) l = let x = r .ends in omega (arith, x .needDiscard, x .backpointers, x .gens, x .reserved, x .requests, x .within)
+bound r (suc (suc (suc zero))) l = let x = r .ends in omega (arith, x .backpointers, x .gens, x .reserved, x .requests, x .within)
+bound r (suc (suc (suc (suc zero)))) l = let x = r .ends in omega (arith, x .gens, x .reserved, x .requests, x .within)
+bound r (suc (suc (suc (suc (suc zero))))) l = let x = r .ends in omega (arith, x .reserved, x .requests, x .within)
+bound r (suc (suc (suc (suc (suc (suc zero)))))) l = let x = r .ends in omega (arith, x .requests, x .within)
+bound r (suc (suc (suc (suc (suc (suc (suc i))))))) l = absurd (omega arith)
+
+-- where section number i starts in the table
+abbrev pub startOf : Ends → ℕ → ℕ
+startOf e i = getD (0 ∷ endsOf e) i 0
+
+pub placed-at :
+    {vol index : List ℕ} {h : Head} {e : Ends} → Parted vol → ListRead 0 vol index h e → (i : ℕ) → i < 7
+    → Placed vol index (getD sections i 0) (startOf e i) (getD (endsOf e) i 0)
+placed-at p r zero l = placed (at-all 0 (p .each) (omega arith)) (r .table .alloc) (omega (arith, r .ends .alloc)) (bound r 0 (omega arith))
+placed-at p r (suc zero) l = placed (at-all 1 (p .each) (omega arith)) (r .table .lru) (omega (arith, r .ends .lru)) (bound r 1 (omega arith))
+placed-at p r (suc (suc zero)) l = placed (at-all 2 (p .each) (omega arith)) (r .table .freespace) (omega (arith, r .ends .freespace)) (bound r 2 (omega arith))
+placed-at p r (suc (suc (suc zero))) l = placed (at-all 3 (p .each) (omega arith)) (r .table .needDiscard) (omega (arith, r .ends .needDiscard)) (bound r 3 (omega arith))
+placed-at p r (suc (suc (suc (suc zero)))) l = placed (at-all 4 (p .each) (omega arith)) (r .table .backpointers) (omega (arith, r .ends .backpointers)) (bound r 4 (omega arith))
+placed-at p r (suc (suc (suc (suc (suc zero))))) l = placed (at-all 5 (p .each) (omega arith)) (r .table .gens) (omega (arith, r .ends .gens)) (bound r 5 (omega arith))
+placed-at p r (suc (suc (suc (suc (suc (suc zero)))))) l = placed (at-all 6 (p .each) (omega arith)) (r .table .reserved) (omega (arith, r .ends .reserved)) (bound r 6 (omega arith))
+placed-at p r (suc (suc (suc (suc (suc (suc (suc i))))))) l = absurd (omega arith)
+
+-- what the writing of a section asks
+pub section-ready : {vol index : List ℕ} {t from to : ℕ} → SectionOf vol t → Placed vol index t from to → SectionReady t vol (take (to - from) (drop from index))
+section-ready s p = record { stands = p .stands; up = rw (p .keys) (s .up) }
