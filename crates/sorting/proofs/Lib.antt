@@ -1,0 +1,4 @@
+pub mod SortLaws
+pub mod PlaceLaws
+pub mod MergeLaws
+pub mod LastLaws
