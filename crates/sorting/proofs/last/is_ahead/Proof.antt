@@ -4,7 +4,7 @@ use Prim.Native.Nat.{_+_}
 use native.Mathlib.Omega.{arith}
 use Rattle.sorting.specs.Places.{placeLess}
 use Rattle.sorting.proofs.PlaceLaws.{all-from}
-use Rattle.sorting.proofs.LastLaws.{ahead-next, ahead-end, inside-next}
+use Rattle.sorting.proofs.KeepLaws.{ahead-next, ahead-end, inside-next}
 use borrow.Author.Needs.{needs}
 use Rattle.sorting.proofs.last.is_ahead.Statement.{statement}
 use Rattle.sorting.proofs.last.is_ahead.Tie as tie

@@ -3,7 +3,7 @@ use mathlib.Core.Path.{sym, _∙_}
 use Prim.Native.Nat.{_-_}
 use native.Mathlib.Omega.{arith}
 use lib.ListN.{length}
-use Rattle.sorting.proofs.LastLaws.{Keeping, keeping-start, keeping-on, keeping-past, keeping-end}
+use Rattle.sorting.proofs.KeepLaws.{Keeping, keeping-start, keeping-on, keeping-past, keeping-end}
 use Rattle.sorting.proofs.last.keep_last.Statement.{statement}
 use Rattle.sorting.proofs.last.keep_last.Tie as tie
 
