@@ -6,3 +6,6 @@ pub mod FillLaws
 pub mod MergeLaws
 pub mod SectionLaws
 pub mod WeightLaws
+pub mod GatherLaws
+pub mod CollectLaws
+pub mod TableLaws

@@ -4,3 +4,4 @@ pub mod chunk;
 pub mod entries;
 pub mod limits;
 pub mod merge;
+pub mod queue;
