@@ -36,7 +36,8 @@ before-requires : tie.Need-before-requires
 before-requires c κs =
     let s = c .before .before .before .before .before in
     let a = s .args in
-    (all-from (a .t .now) (a .i) (s .pre .1) (s .pre .0), all-from (a .t .now) (a .i + 1) (inside-next (a .t .now) (a .i) (s .pre .1) (s .pre .0)) (omega arith))
+    let next = inside-next (a .t .now) (a .i) (s .pre .1) (s .pre .0) in
+    (all-from (a .t .now) (a .i) (s .pre .1) (s .pre .0), all-from (a .t .now) (a .i + 1) next (omega arith))
 
 returns-2 : tie.Need-returns-2
 returns-2 c =
