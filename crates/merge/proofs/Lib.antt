@@ -6,3 +6,9 @@ pub mod FillLaws
 pub mod MergeLaws
 pub mod SectionLaws
 pub mod WeightLaws
+pub mod GatherLaws
+pub mod SectionNumbers
+pub mod CollectLaws
+pub mod TableLaws
+pub mod SortQueueLaws
+pub mod PartLaws

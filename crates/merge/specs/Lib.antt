@@ -3,3 +3,4 @@ pub mod Entries
 pub mod Places
 pub mod Weights
 pub mod Merging
+pub mod QueueTable

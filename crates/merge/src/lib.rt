@@ -5,4 +5,5 @@ pub mod chunk;
 pub mod entries;
 pub mod limits;
 pub mod merge;
-pub mod queued;
+pub mod queue;
+pub mod step;

@@ -3,8 +3,8 @@ use borrow.Author.Needs.{needs}
 use denote.Ref.{now}
 use Rattle.merge.specs.Places.{entryFrom}
 use Rattle.merge.proofs.SectionLaws.{put-one}
-use Rattle.merge.proofs.queued.put_queued.Statement.{statement}
-use Rattle.merge.proofs.queued.put_queued.Tie as tie
+use Rattle.merge.proofs.step.put_queued.Statement.{statement}
+use Rattle.merge.proofs.step.put_queued.Tie as tie
 
 pos-at-requires : tie.Need-pos-at-requires
 pos-at-requires c κs = search needs

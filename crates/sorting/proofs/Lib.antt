@@ -1,0 +1,5 @@
+pub mod SortLaws
+pub mod PlaceLaws
+pub mod MergeLaws
+pub mod LastLaws
+pub mod KeepLaws
