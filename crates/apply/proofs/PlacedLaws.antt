@@ -1,6 +1,6 @@
 -- The sections of a volume by the reader's table. Assumes nothing.
 use mathlib.Core.Path.{_≡_, refl, ap, sym, _∙_}
-use mathlib.Core.Bool.{true}
+use mathlib.Core.Bool.{Bool, true, false, cond, false≢true}
 use mathlib.Core.List.{List, [], _∷_, map}
 use Prim.Native.Nat.{ℕ, zero, suc, _+_, _-_, _≤_, _<_}
 use native.Mathlib.Nat.{add-zero}
@@ -22,8 +22,10 @@ use Rattle.reader.specs.declared.table.Ends.{Ends}
 use Rattle.reader.proofs.OfferedLaws.{here-length}
 use Rattle.merge.specs.Entries.{sections, isEntry, entryOf, entries}
 use Rattle.merge.specs.Places.{sizeAt, tagAt, entryFrom, entriesAt, Kept, Stands}
+use Rattle.merge.specs.QueueTable.{InParts}
+use Rattle.merge.specs.declared.queue.Parts.{Parts}
 use Rattle.merge.proofs.PlaceLaws.{at-all}
-use Rattle.apply.specs.NextVolume.{endsOf, SectionReady}
+use Rattle.apply.specs.NextVolume.{endsOf, queueEnd, SectionReady, QueueReady}
 use Rattle.apply.proofs.VolumeLaws.{SectionOf, Parted}
 
 -- a field of section t at its place
@@ -106,3 +108,24 @@ placed-at p r (suc (suc (suc (suc (suc (suc (suc i))))))) l = absurd (omega arit
 -- what the writing of a section asks
 pub section-ready : {vol index : List ℕ} {t from to : ℕ} → SectionOf vol t → Placed vol index t from to → SectionReady t vol (take (to - from) (drop from index))
 section-ready s p = record { stands = p .stands; up = rw (p .keys) (s .up) }
+
+-- where the queued keys of section number i start in their table
+abbrev pub firstOf : Parts → ℕ → ℕ
+firstOf q i = cond (q .fits) (getD (0 ∷ q .ends) i 0) 0
+
+-- a section's queued keys stand between two ends of their table, if it holds them
+pub record Queued (list table : List ℕ) (q : Parts) (t first last : ℕ) : Type 0 where
+  pub on : first ≤ last
+  pub within : last ≤ length table
+  pub ready : q .fits ≡ true → QueueReady t list (take (last - first) (drop first table))
+
+pub queued-at :
+    (list table : List ℕ) (q : Parts) → InParts list table q → (i : ℕ) → i < 7 → Queued list table q (getD sections i 0) (firstOf q i) (queueEnd q i)
+unfolding queueEnd
+queued-at list table q h i l = go (q .fits) refl
+  where
+    go :
+        (b : Bool) → q .fits ≡ b
+        → Queued list table q (getD sections i 0) (cond b (getD (0 ∷ q .ends) i 0) 0) (cond b (getD (q .ends) i 0) 0)
+    go true e = let p = h e i l in record { on = p .up; within = p .within; ready = λ z. record { kept = p .kept; keys = p .keys } }
+    go false e = record { on = omega arith; within = omega arith; ready = λ z. absurd (false≢true (sym e ∙ z)) }

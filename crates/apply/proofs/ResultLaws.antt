@@ -1,6 +1,6 @@
 -- The loop over the sections, and the answer. Assumes nothing.
 use mathlib.Core.Path.{_≡_, refl, ap, sym, _∙_}
-use mathlib.Core.Bool.{Bool, true, false, _&&_, and-true, and-assoc}
+use mathlib.Core.Bool.{Bool, true, false, _&&_, cond, and-true, and-assoc}
 use mathlib.Core.List.{List, [], _∷_, _++_}
 use Prim.Native.Nat.{ℕ, _+_, _≤_, _<_, max}
 use native.Mathlib.Numerals.{add-one}
@@ -27,41 +27,47 @@ use Rattle.calls.specs.Answers.{Answer, answer, nextVolume, apply, made, outcom
 use Rattle.calls.proofs.AnswerLaws.{apply-is}
 use Rattle.calls.proofs.OutcomeLaws.{answer-short, answer-fits, answer-next, answer-stops, refused, accepted}
 use Rattle.merge.specs.declared.below.Spot.{Spot}
+use Rattle.merge.specs.declared.queue.Parts.{Parts}
 use Rattle.merge.specs.Entries.{sections, entries, sectionBytes}
 use Rattle.merge.specs.Places.{entriesAt}
 use Rattle.merge.specs.Weights.{sectionWithin}
 use Rattle.merge.specs.Merging.{Done}
 use Rattle.merge.proofs.WeightLaws.{light-on}
 use Rattle.apply.specs.Roots.{frontBytes}
-use Rattle.apply.specs.NextVolume.{endsOf, Ready, nextKeys, SectionDone, VolumeDone}
+use Rattle.apply.specs.NextVolume.{endsOf, queueEnd, Ready, nextKeys, SectionDone, VolumeDone}
 use Rattle.apply.specs.declared.lists.Reached.{Reached}
 use Rattle.apply.proofs.VolumeLaws.{Parted, parted}
-use Rattle.apply.proofs.PlacedLaws.{startOf}
+use Rattle.apply.proofs.PlacedLaws.{startOf, firstOf}
 use Rattle.apply.proofs.NextLaws.{nextOf, nextBytes, nextWithin, next-bytes, next-within}
 
 -- one section
 pub section-done :
     {t : ℕ} {out vol keys list : List ℕ} {a : Reached} {out' : List ℕ} {s : Spot} {w : ℕ} → w ≡ max (a .w) (s .w)
-    → Done t out (a .p) (applyQueue (entries t (fields list)) (entriesAt t vol keys)) out' s
-    → SectionDone t out vol keys list a out' (record { p = s .p; w = w })
-unfolding nextKeys
+    → Done t out (a .p) (nextKeys t vol keys list) out' s → SectionDone t out vol keys list a out' (record { p = s .p; w = w })
 section-done {t} {a = a} {s = s} e d =
     record { wrote = d .wrote; light = ap (λ (n : ℕ). leb n 4096) e ∙ light-on t _ (a .w) (s .w) (d .tally) }
 
 -- the loop on its way
-pub record Sectioning (out₀ : List ℕ) (q : ℕ) (vol list : List ℕ) (e : Ends) (out : List ℕ) (at : Reached) (from i : ℕ) : Type 0 where
+pub record Sectioning (out₀ : List ℕ) (q : ℕ) (vol list : List ℕ) (e : Ends) (p : Parts) (out : List ℕ) (at : Reached) (from first i : ℕ) : Type 0 where
   pub part : Part out₀ q (each (nextBytes vol list) sections) out (at .p) (each (nextBytes vol list) (drop i sections))
   pub light : (leb (at .w) 4096 && allOf (nextWithin vol list) (drop i sections)) ≡ allOf (nextWithin vol list) sections
   pub starts : from ≡ startOf e i
+  pub queue : first ≡ firstOf p i
   pub most : i ≤ 7
 
 pub sections-start :
-    (vol list : List ℕ) (e : Ends) (out : List ℕ) (q : ℕ) → length out ≤ top → Sectioning out q vol list e out (record { p = q; w = 0 }) 0 0
-sections-start vol list e out q h = record { part = begin _ _ _ h; light = refl; starts = refl; most = omega arith }
+    (vol list : List ℕ) (e : Ends) (p : Parts) (out : List ℕ) (q : ℕ) → length out ≤ top
+    → Sectioning out q vol list e p out (record { p = q; w = 0 }) 0 0 0
+sections-start vol list e p out q h =
+    record { part = begin _ _ _ h; light = refl; starts = refl; queue = none (p .fits); most = omega arith }
+  where
+    none : (b : Bool) → _≡_ {A = ℕ} 0 (cond b 0 0)
+    none true = refl
+    none false = refl
 
 module _
-    {out₀ : List ℕ} {q : ℕ} {vol list : List ℕ} {e : Ends} {out : List ℕ} {at : Reached} {from i : ℕ}
-    (c : Sectioning out₀ q vol list e out at from i) (l : i < 7) where
+    {out₀ : List ℕ} {q : ℕ} {vol list : List ℕ} {e : Ends} {p : Parts} {out : List ℕ} {at : Reached} {from first i : ℕ}
+    (c : Sectioning out₀ q vol list e p out at from first i) (l : i < 7) where
   abbrev t : ℕ
   t = getD sections i 0
 
@@ -72,10 +78,10 @@ module _
   split = drop-next 0 sections i l
 
   pub sections-on :
-      {keys out1 : List ℕ} {s : Reached} {to : ℕ} → entriesAt t vol keys ≡ entries t (fields vol) → to ≡ getD (endsOf e) i 0
-      → SectionDone t out vol keys list at out1 s → Sectioning out₀ q vol list e out1 s to (i + 1)
-  unfolding nextBytes nextWithin nextKeys nextOf allOf
-  sections-on {keys} z u d =
+      {keys out1 : List ℕ} {s : Reached} {to last : ℕ} → entriesAt t vol keys ≡ entries t (fields vol) → to ≡ getD (endsOf e) i 0
+      → last ≡ queueEnd p i → SectionDone t out vol keys list at out1 s → Sectioning out₀ q vol list e p out1 s to last (i + 1)
+  unfolding nextBytes nextWithin nextKeys nextOf allOf queueEnd
+  sections-on {keys} z u v d =
       let k : nextKeys t vol keys list ≡ nextOf vol list t = ap (applyQueue (entries t (fields list))) z in
       record {
         part =
@@ -86,12 +92,13 @@ module _
             ∙ ap (λ (us : List ℕ). leb (at .w) 4096 && allOf (nextWithin vol list) us) (sym split)
             ∙ c .light;
         starts = u ∙ ap (λ (j : ℕ). startOf e j) (sym (add-one i));
+        queue = v ∙ ap (λ (j : ℕ). firstOf p j) (sym (add-one i));
         most = omega arith;
       }
 
 pub sections-end :
-    {out₀ out₁ : List ℕ} {q : ℕ} {vol index list out : List ℕ} {h : Head} {e : Ends} {at : Reached} {from i : ℕ} → Parted vol → Ready vol index h e list
-    → Wrote out₀ 0 42 (frontBytes (headIn h) list) out₁ q → Sectioning out₁ q vol list e out at from i → 7 ≤ i → VolumeDone out₀ vol list out at
+    {out₀ out₁ : List ℕ} {q : ℕ} {vol index list out : List ℕ} {h : Head} {e : Ends} {d : Parts} {at : Reached} {from first i : ℕ} → Parted vol → Ready vol index h e list
+    → Wrote out₀ 0 42 (frontBytes (headIn h) list) out₁ q → Sectioning out₁ q vol list e d out at from first i → 7 ≤ i → VolumeDone out₀ vol list out at
 unfolding allOf
 sections-end {vol = vol} {list = list} {at = at} {i = i} p r f c h =
     let n : i ≡ 7 = omega (arith, c .most) in

@@ -1,9 +1,9 @@
 -- What is asked before the next volume is written, and what is promised of each of its sections and of the whole.
 use mathlib.Core.Path.{_≡_}
-use mathlib.Core.Bool.{true, _&&_}
+use mathlib.Core.Bool.{true, _&&_, cond}
 use Prim.Native.Nat.{ℕ}
 use mathlib.Core.List.{List, [], _∷_}
-use lib.ListN.{length}
+use lib.ListN.{length, getD}
 use lib.Dec.{leb}
 use Rattle.wire.specs.Bytes.{All}
 use Rattle.wire.specs.Fields.{fields}
@@ -18,14 +18,19 @@ use Rattle.reader.specs.Readings.{ListRead}
 use Rattle.reader.specs.declared.head.Head.{Head}
 use Rattle.reader.specs.declared.table.Ends.{Ends}
 use Rattle.merge.specs.Entries.{entries, sectionBytes}
-use Rattle.merge.specs.Places.{Stands, entriesAt}
-use Rattle.merge.specs.Queues.{ascending}
+use Rattle.merge.specs.Places.{Kept, Stands, entriesAt}
+use Rattle.merge.specs.Queues.{gather, ascending}
 use Rattle.merge.specs.Weights.{sectionWithin}
+use Rattle.merge.specs.declared.queue.Parts.{Parts}
 use Rattle.apply.specs.declared.lists.Reached.{Reached}
 
 -- where the places of each section end in the table of a volume
 abbrev pub endsOf : Ends → List ℕ
 endsOf e = e .alloc ∷ e .lru ∷ e .freespace ∷ e .«need_discard» ∷ e .backpointers ∷ e .gens ∷ e .reserved ∷ []
+
+-- where the queued keys of section number i end in their table, if it holds them
+unfoldable pub queueEnd : Parts → ℕ → ℕ
+queueEnd q i = cond (q .fits) (getD (q .ends) i 0) 0
 
 -- refusals 2 and 3 of the volume and 2 of the change list were tested, and the volume was read
 pub record Ready (vol index : List ℕ) (h : Head) (e : Ends) (list : List ℕ) : Type 0 where
@@ -39,7 +44,12 @@ pub record SectionReady (t : ℕ) (vol keys : List ℕ) : Type 0 where
   pub stands : All (Stands t vol) keys
   pub up : ascending (entriesAt t vol keys) ≡ true
 
--- what a change list makes of them
+-- these places of a change list are of its queued keys of section t, the last at each position, in order
+pub record QueueReady (t : ℕ) (list queue : List ℕ) : Type 0 where
+  pub kept : All (Kept t list) queue
+  pub keys : entriesAt t list queue ≡ gather (entries t (fields list))
+
+-- what a change list makes of the keys of a section
 unfoldable pub nextKeys : ℕ → List ℕ → List ℕ → List ℕ → List Key
 nextKeys t vol keys list = applyQueue (entries t (fields list)) (entriesAt t vol keys)
 

@@ -4,8 +4,8 @@ use Rattle.apply.proofs.ResultLaws.{section-done}
 use Rattle.apply.proofs.lists.put_next.Statement.{statement}
 use Rattle.apply.proofs.lists.put_next.Tie as tie
 
-put-section-in-chunks-requires : tie.Need-put-section-in-chunks-requires
-put-section-in-chunks-requires c κs = search needs
+put-keys-requires : tie.Need-put-keys-requires
+put-keys-requires c κs = search needs
 
 heavier-requires : tie.Need-heavier-requires
 heavier-requires c κs = search needs
@@ -14,7 +14,7 @@ same-length : tie.Need-same-length
 same-length c = search needs
 
 returns : tie.Need-returns
-returns c = section-done (c .heavier .ensures) (c .before .before .before .put-section-in-chunks .ensures)
+returns c = section-done (c .heavier .ensures) (c .before .before .before .put-keys .ensures)
 
 pub put-next-spec : {M : Type 1} → statement M
-put-next-spec = tie.close (tie.spec put-section-in-chunks-requires heavier-requires same-length returns)
+put-next-spec = tie.close (tie.spec put-keys-requires heavier-requires same-length returns)

@@ -1,73 +1,120 @@
+-- `put_volume` meets its contract. The loop's invariant: the sections left to be written, and where they start in the tables.
+use Prim.Native.Nat.{ℕ, _-_, _<_}
+use mathlib.Core.Path.{_≡_, sym, _∙_}
+use native.Mathlib.Omega.{arith}
+use denote.Ref.{now}
+use lib.ListN.{getD}
+use Rattle.wire.proofs.OutputLaws.{part-length, wrote-length}
+use Rattle.merge.specs.Entries.{sections}
+use Rattle.merge.proofs.PlaceLaws.{at-all}
+use Rattle.apply.specs.NextVolume.{endsOf, queueEnd}
+use Rattle.apply.proofs.VolumeLaws.{parted}
+use Rattle.apply.proofs.PlacedLaws.{Placed, placed-at, Queued, queued-at, section-ready}
+use Rattle.apply.proofs.ResultLaws.{Sectioning, sections-start, sections-on, sections-end, front-ready}
 use Rattle.apply.proofs.lists.put_volume.Statement.{statement}
 use Rattle.apply.proofs.lists.put_volume.Tie as tie
-use Rattle.apply.proofs.lists.put_volume.Reads as reads
-use Rattle.apply.proofs.lists.put_volume.Lts as lts
-use Rattle.apply.proofs.front.put_front.Reads as put-front-reads
-use Rattle.apply.proofs.lists.end_at.Reads as end-at-reads
-use Rattle.apply.proofs.lists.put_next.Reads as put-next-reads
-use Rattle.apply.proofs.lists.section_at.Reads as section-at-reads
 
 abbrev Inv-loop : tie.InvT-loop
-Inv-loop out₀ vol index e list p at₀ from₀ i₀ out at from i = ?
+Inv-loop out₀ vol index e list table q p at₀ from₀ first₀ i₀ out at from first i = Sectioning out₀ p vol list e q out at from first i
 
 abbrev μ-loop : tie.MeasureT-loop
-μ-loop out₀ vol index e list p at₀ from₀ i₀ out at from i = ?
+μ-loop out₀ vol index e list table q p at₀ from₀ first₀ i₀ out at from first i = 7 - i
 
--- src/lists.rt:82:9
 put-front-requires : tie.Need-put-front-requires Inv-loop μ-loop
-put-front-requires c κs = ?
+put-front-requires c κs = front-ready (c .before .before .before .before .before .before .pre .0)
 
--- src/lists.rt:86:5
 loop-holds : tie.Need-loop-holds Inv-loop μ-loop
-loop-holds c = ?
+loop-holds c = sections-start _ _ _ _ _ _ (omega arith)
 
--- src/lists.rt:87:13
 end-at-requires : tie.Need-end-at-requires Inv-loop μ-loop
-end-at-requires c κs = ?
+end-at-requires c κs = c .loop-test .taken
 
--- src/lists.rt:88:37
+queue-end-requires : tie.Need-queue-end-requires Inv-loop μ-loop
+queue-end-requires c κs = c .before .loop-test .taken
+
+-- the section's places, and those of its queued keys
+keys :
+    (c : tie.After-queue-end Inv-loop μ-loop)
+    → Placed (now (c .before .before .before .before .before .before .before .before .before .before .before .before .before .args .vol))
+    (now (c .before .before .before .before .before .before .before .before .before .before .before .before .before .args .index))
+    (getD sections (c .before .before .before .loop .i) 0)
+    (c .before .before .before .loop .from)
+    (c .before .end-at .result)
+keys c =
+    let l = c .before .before .before in
+    let s = l .before .before .before .before .before .before .before .before .before .before in
+    rw (l .loop .inv .starts, c .before .end-at .ensures) (placed-at (parted (s .pre .0 .laid)) (s .pre .0 .read) (l .loop .i) (c .before .before .loop-test .taken))
+
+queue :
+    (c : tie.After-queue-end Inv-loop μ-loop)
+    → Queued (now (c .before .before .before .before .before .before .before .before .before .before .before .before .before .args .list))
+    (now (c .before .before .before .before .before .before .before .before .before .before .before .before .before .args .table))
+    (c .before .before .before .before .before .before .before .before .before .before .before .before .before .args .q)
+    (getD sections (c .before .before .before .loop .i) 0)
+    (c .before .before .before .loop .first)
+    (c .queue-end .result)
+queue c =
+    let l = c .before .before .before in
+    let s = l .before .before .before .before .before .before .before .before .before .before in
+    rw (l .loop .inv .queue, c .queue-end .ensures) (queued-at _ _ _ (s .pre .1) (l .loop .i) (c .before .before .loop-test .taken))
+
 mul-put-next : tie.Need-mul-put-next Inv-loop μ-loop
-mul-put-next c = ?
+mul-put-next c = let k = keys (c .before) in omega (arith, k .on, k .within)
 
--- src/lists.rt:88:37
 sub-put-next : tie.Need-sub-put-next Inv-loop μ-loop
-sub-put-next c = ?
+sub-put-next c = keys (c .before) .on
 
--- src/lists.rt:88:37
 part-put-next-start : tie.Need-part-put-next-start Inv-loop μ-loop
-part-put-next-start c = ?
+part-put-next-start c = keys (c .before) .on
 
--- src/lists.rt:88:37
 part-put-next-end : tie.Need-part-put-next-end Inv-loop μ-loop
-part-put-next-end c = ?
+part-put-next-end c = keys (c .before) .within
 
--- src/lists.rt:88:61
+mul-put-next-2 : tie.Need-mul-put-next-2 Inv-loop μ-loop
+mul-put-next-2 c = let k = queue (c .before .before) in omega (arith, k .on, k .within)
+
+sub-put-next-2 : tie.Need-sub-put-next-2 Inv-loop μ-loop
+sub-put-next-2 c = queue (c .before .before) .on
+
+part-put-next-start-2 : tie.Need-part-put-next-start-2 Inv-loop μ-loop
+part-put-next-start-2 c = queue (c .before .before) .on
+
+part-put-next-end-2 : tie.Need-part-put-next-end-2 Inv-loop μ-loop
+part-put-next-end-2 c = queue (c .before .before) .within
+
 section-at-requires : tie.Need-section-at-requires Inv-loop μ-loop
-section-at-requires c κs = ?
+section-at-requires c κs = c .before .before .before .before .before .loop-test .taken
 
--- src/lists.rt:88:9
 put-next-requires : tie.Need-put-next-requires Inv-loop μ-loop
-put-next-requires c κs = ?
+put-next-requires c κs =
+    let q = c .before .before .before .before in
+    let l = q .before .before .before in
+    let s = l .before .before .before .before .before .before .before .before .before .before in
+    let p = parted (s .pre .0 .laid) in
+    rw (c .section-at .ensures)
+    (section-ready (at-all (l .loop .i) (p .each) (q .before .before .loop-test .taken)) (keys q), queue q .ready)
 
--- src/lists.rt:90:9
 add-i : tie.Need-add-i Inv-loop μ-loop
-add-i c = ?
+add-i c = omega (arith, c .before .before .before .before .before .before .before .before .before .loop-test .taken)
 
--- src/lists.rt:86:5
 loop-less : tie.Need-loop-less Inv-loop μ-loop
-loop-less c = ?
+loop-less c = omega (arith, c .before .before .before .before .before .before .before .before .before .loop-test .taken)
 
--- src/lists.rt:86:5
 loop-again : tie.Need-loop-again Inv-loop μ-loop
-loop-again c = ?
+loop-again c =
+    let n = c .before .before in
+    let q = n .before .before .before .before .before in
+    let l = q .before .before .before in
+    sections-on (l .loop .inv) (q .before .before .loop-test .taken) (keys q .keys) (q .before .end-at .ensures) (q .queue-end .ensures)
+    (rw (n .before .section-at .ensures) at (n .put-next .ensures))
 
--- src/lists.rt:78:1
 same-length : tie.Need-same-length Inv-loop μ-loop
-same-length c = ?
+same-length c = part-length (c .before .loop .inv .part) ∙ wrote-length (c .before .before .before .before .put-front .ensures)
 
--- src/lists.rt:78:1
 returns : tie.Need-returns Inv-loop μ-loop
-returns c = ?
+returns c =
+    let s = c .before .before .before .before .before .before .before .before .before .before .before in
+    sections-end (parted (s .pre .0 .laid)) (s .pre .0) (c .before .before .before .before .put-front .ensures) (c .before .loop .inv) (c .loop-test .left)
 
 pub put-volume-spec : {M : Type 1} → statement M
 put-volume-spec =
@@ -78,10 +125,15 @@ put-volume-spec =
     put-front-requires
     loop-holds
     end-at-requires
+    queue-end-requires
     mul-put-next
     sub-put-next
     part-put-next-start
     part-put-next-end
+    mul-put-next-2
+    sub-put-next-2
+    part-put-next-start-2
+    part-put-next-end-2
     section-at-requires
     put-next-requires
     add-i
