@@ -1,6 +1,6 @@
 -- Small volumes and lists that the worked cases are about.
-use mathlib.Core.List.{List, [], _++_, map}
-use Prim.Native.Nat.{ℕ}
+use mathlib.Core.List.{List, [], _∷_, _++_, map}
+use Prim.Native.Nat.{ℕ, _^_}
 use Rattle.wire.specs.Numbers.{leBytes}
 use Rattle.wire.specs.Fields.{Field}
 use Rattle.wire.specs.Encode.{encode}
@@ -13,7 +13,9 @@ use Rattle.format.specs.Packing.{store}
 use Rattle.format.specs.AllocV4.{dataType, needDiscardType, newAlloc}
 use Rattle.calls.specs.CallList.{Head, Volume, Piece, Freed, volumeBytes}
 use Rattle.calls.specs.Trees.{newKey, withValue}
-use Rattle.calls.specs.ChangeList.{Batch}
+use Rattle.calls.specs.Pieces.{Slot}
+use Rattle.calls.specs.ChangeList.{Spot, Batch, changesOf}
+use Rattle.calls.specs.Answers.{Answer, place}
 
 abbrev pub bucket : ℕ → Bucket
 bucket n = record { 0 = n }
@@ -92,3 +94,43 @@ placing v ps = volumeBytes v ++ encode (map pieceField ps)
 
 abbrev pub releasing : Volume → List Freed → List ℕ
 releasing v rs = volumeBytes v ++ encode (map freedField rs)
+
+-- where next fit puts a piece, and where a field 72 says that it lies
+abbrev pub slot : ℕ → ℕ → Slot
+slot index offset = record { index = index; offset = offset }
+
+abbrev pub spot : ℕ → ℕ → ℕ → Spot
+spot first stored b = record { first = sector first; stored = stored; bucket = bucket b; generation = 0 }
+
+-- so many sectors given back from a sector on
+abbrev pub freeing : ℕ → ℕ → Freed
+freeing first sectors = record { first = sector first; sectors = sectors }
+
+-- what each batch of an answer says
+abbrev pub each : {A : Type 0} → (Batch → A) → Answer → List A
+each part a = map part (changesOf (a .written))
+
+-- a volume with one run of so many free buckets
+abbrev pub freeVolume : ℕ → Volume
+freeVolume n = volumeFor (headFor 1 1) [] (run n n ∷ []) [] []
+
+-- bucket 5 holds 96 sectors of 128
+abbrev pub heldVolume : Volume
+heldVolume = volumeFor (headFor 2 1) (held 5 255 96 ∷ []) [] [] []
+
+-- buckets that wait for discard, of one generation
+abbrev pub waiting : ℕ → ℕ → List ℕ → Volume
+waiting batch generation bs =
+    volumeFor (headFor 3 batch) (map (λ b. emptiedAt b generation) bs) [] (map waits bs) []
+
+-- a list whose base passes its limit
+abbrev pub beyond : List ℕ
+beyond = volumeBytes (volumeFor (headAt (2 ^ 40) 1 1) [] [] [] [])
+
+-- an alloc key of inode 1 with a clock
+abbrev pub elsewhere : ℕ → Key
+elsewhere clock = newKey 27 0 (record { inode = 1; offset = 0; snapshot = 0 }) (newAlloc 1 0 0 clock)
+
+-- the placement of P case 1: forty free buckets of 128 sectors, stored 96, 96 and 64
+abbrev pub threePieces : Answer
+threePieces = place (placing (freeVolume 40) (plain 96 ∷ plain 96 ∷ plain 64 ∷ [])) 2000
