@@ -11,7 +11,7 @@ use Rattle.wire.specs.Held.{padded, valueIn}
 use Rattle.wire.specs.Output.{put, Wrote}
 use Rattle.wire.specs.declared.keys.Value.{Value}
 use Rattle.wire.proofs.OutputLaws.{put-eq}
-use Rattle.headers.specs.Sized.{whereSized}
+use Rattle.format_c.specs.Sized.{whereSized}
 
 -- as many bytes as there are, put at the front, are what is left
 put-all : (bs xs : List ℕ) → length bs ≡ length xs → put xs 0 bs ≡ bs

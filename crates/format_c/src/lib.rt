@@ -1,5 +1,5 @@
-// What C compares with the Linux headers: the words and values of `format`, over numbers and byte slices. No caller owes anything: a remainder brings
-// each argument into its range.
+// `format` behind a C boundary, for what C compares with the Linux headers: numbers and byte slices come in, and a kind is made of a number here alone. No caller
+// owes anything: a remainder brings each argument into its range.
 ghost use mathlib.Core.Path.{_≡_};
 ghost use Prim.Native.Nat.{_+_, _%_, _^_};
 ghost use Rattle.wire.specs.Output.{Wrote};
@@ -8,7 +8,7 @@ ghost use Rattle.format.specs.AllocV4.{newAlloc, emptied, discarded};
 ghost use Rattle.format.specs.Backpointer.{backpointer};
 ghost use Rattle.format.specs.Gens.{withGen};
 ghost use Rattle.format.specs.Lru.{fragmentation};
-ghost use Rattle.headers.specs.Sized.{whereSized};
+ghost use Rattle.format_c.specs.Sized.{whereSized};
 use format::alloc;
 use format::backpointer;
 use format::entries;
@@ -22,7 +22,7 @@ use wire::kinds::DeviceSector;
 
 // struct bch_extent_ptr, of a sector below 2^44.
 #[no_mangle]
-pub extern "C" fn headers_pointer(sector: u64, generation: u8) -> u64
+pub extern "C" fn format_pointer(sector: u64, generation: u8) -> u64
     ensures { λ r. ⌜ r ≡ pointer (record { 0 = sector % 2 ^ 44 }) generation ⌝ }
 {
     entries::pointer(DeviceSector(sector % 0x1000_0000_0000), generation)
@@ -30,7 +30,7 @@ pub extern "C" fn headers_pointer(sector: u64, generation: u8) -> u64
 
 // struct bch_extent_crc32, of sizes from 1 to 128 and types below 16.
 #[no_mangle]
-pub extern "C" fn headers_crc32(stored: u64, file: u64, ctype: u64, kind: u64, checksum: u64) -> u64
+pub extern "C" fn format_crc32(stored: u64, file: u64, ctype: u64, kind: u64, checksum: u64) -> u64
     ensures { λ r. ⌜ r ≡ crc32 (stored % 128 + 1) (file % 128 + 1) (ctype % 16) (kind % 16) checksum ⌝ }
 {
     entries::crc32(
@@ -44,7 +44,7 @@ pub extern "C" fn headers_crc32(stored: u64, file: u64, ctype: u64, kind: u64, c
 
 // The first word of struct bch_extent_crc64, with the same ranges.
 #[no_mangle]
-pub extern "C" fn headers_crc64(stored: u64, file: u64, ctype: u64, kind: u64) -> u64
+pub extern "C" fn format_crc64(stored: u64, file: u64, ctype: u64, kind: u64) -> u64
     ensures { λ r. ⌜ r ≡ crc64 (stored % 128 + 1) (file % 128 + 1) (ctype % 16) (kind % 16) ⌝ }
 {
     entries::crc64(stored % 128 + 1, file % 128 + 1, ctype % 16, kind % 16)
@@ -52,7 +52,7 @@ pub extern "C" fn headers_crc64(stored: u64, file: u64, ctype: u64, kind: u64) -
 
 // struct bch_alloc_v4 of a bucket that data is placed in.
 #[no_mangle]
-pub extern "C" fn headers_new_alloc(
+pub extern "C" fn format_new_alloc(
     out: &mut [u8],
     journal: u64,
     generation: u8,
@@ -67,7 +67,7 @@ pub extern "C" fn headers_new_alloc(
 
 // struct bch_alloc_v4 after emptying, at a journal number. A value that ends before byte 56, or has more than 256 bytes, is left alone.
 #[no_mangle]
-pub extern "C" fn headers_emptied(value: &mut [u8], journal: u64)
+pub extern "C" fn format_emptied(value: &mut [u8], journal: u64)
     ensures { λ _. ⌜ now (value .exit) ≡ whereSized 56 256 (emptied journal) (now (value .entry)) ⌝ }
 {
     let n = value.len();
@@ -83,7 +83,7 @@ pub extern "C" fn headers_emptied(value: &mut [u8], journal: u64)
 
 // struct bch_alloc_v4 after discard, likewise.
 #[no_mangle]
-pub extern "C" fn headers_discarded(value: &mut [u8])
+pub extern "C" fn format_discarded(value: &mut [u8])
     ensures { λ _. ⌜ now (value .exit) ≡ whereSized 56 256 discarded (now (value .entry)) ⌝ }
 {
     let n = value.len();
@@ -99,7 +99,7 @@ pub extern "C" fn headers_discarded(value: &mut [u8])
 
 // struct bch_backpointer of an extent.
 #[no_mangle]
-pub extern "C" fn headers_backpointer(
+pub extern "C" fn format_backpointer(
     out: &mut [u8],
     generation: u8,
     stored: u32,
@@ -120,7 +120,7 @@ pub extern "C" fn headers_backpointer(
 
 // struct bch_bucket_gens with a bucket's generation. A value of another length than 256 bytes is left alone.
 #[no_mangle]
-pub extern "C" fn headers_with_gen(value: &mut [u8], bucket: u64, generation: u8)
+pub extern "C" fn format_with_gen(value: &mut [u8], bucket: u64, generation: u8)
     ensures { λ _. ⌜ now (value .exit) ≡ whereSized 256 256 (withGen (record { 0 = bucket }) generation) (now (value .entry)) ⌝ }
 {
     let n = value.len();
@@ -136,7 +136,7 @@ pub extern "C" fn headers_with_gen(value: &mut [u8], bucket: u64, generation: u8
 
 // The index of fragmentation, where a bucket has 1 to 65,535 sectors.
 #[no_mangle]
-pub extern "C" fn headers_fragmentation(dirty: u32, sectors: u64) -> u64
+pub extern "C" fn format_fragmentation(dirty: u32, sectors: u64) -> u64
     ensures { λ r. ⌜ r ≡ fragmentation dirty (sectors % 65535 + 1) ⌝ }
 {
     lru::fragmentation(dirty, sectors % 65535 + 1)

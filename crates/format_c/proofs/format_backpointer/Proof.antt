@@ -1,7 +1,7 @@
--- `headers_backpointer` meets its contract: the four words are the struct. Assumes nothing.
+-- `format_backpointer` meets its contract: the four words are the struct. Assumes nothing.
 use borrow.Author.Needs.{needs}
-use Rattle.headers.proofs.headers_backpointer.Statement.{statement}
-use Rattle.headers.proofs.headers_backpointer.Tie as tie
+use Rattle.format_c.proofs.format_backpointer.Statement.{statement}
+use Rattle.format_c.proofs.format_backpointer.Tie as tie
 
 backpointer-requires : tie.Need-backpointer-requires
 backpointer-requires c κs = search needs
@@ -15,6 +15,6 @@ same-length c = search needs
 returns : tie.Need-returns
 returns c = rw (c .before .before .before .before .backpointer .ensures) at (c .before .before .put-words .ensures)
 
-pub headers-backpointer-spec : {M : Type 1} → statement M
-headers-backpointer-spec =
+pub format-backpointer-spec : {M : Type 1} → statement M
+format-backpointer-spec =
     tie.close (tie.spec backpointer-requires put-words-requires same-length returns)

@@ -1,8 +1,8 @@
--- `headers_new_alloc` meets its contract: the eight words are the struct. Assumes nothing.
+-- `format_new_alloc` meets its contract: the eight words are the struct. Assumes nothing.
 use borrow.Author.Needs.{needs}
 use Rattle.format.proofs.WordLaws.{all-eight}
-use Rattle.headers.proofs.headers_new_alloc.Statement.{statement}
-use Rattle.headers.proofs.headers_new_alloc.Tie as tie
+use Rattle.format_c.proofs.format_new_alloc.Statement.{statement}
+use Rattle.format_c.proofs.format_new_alloc.Tie as tie
 
 new-alloc-requires : tie.Need-new-alloc-requires
 new-alloc-requires c κs = search needs
@@ -18,6 +18,6 @@ returns c =
     let a = c .before .before .before .before .before .before .args in
     rw (all-eight _ (a .journal) (a .generation) (a .dirty) (a .clock) (c .before .before .before .before .new-alloc .ensures)) at (c .before .before .put-words .ensures)
 
-pub headers-new-alloc-spec : {M : Type 1} → statement M
-headers-new-alloc-spec =
+pub format-new-alloc-spec : {M : Type 1} → statement M
+format-new-alloc-spec =
     tie.close (tie.spec new-alloc-requires put-words-requires same-length returns)

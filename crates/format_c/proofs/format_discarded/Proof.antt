@@ -1,13 +1,13 @@
--- `headers_discarded` meets its contract: a value of the right length is read, changed and put back. Assumes nothing.
+-- `format_discarded` meets its contract: a value of the right length is read, changed and put back. Assumes nothing.
 use borrow.Author.Needs.{needs}
 use native.Mathlib.Omega.{arith}
 use denote.Ref.{now}
 use mathlib.Core.Path.{_≡_}
 use lib.ListN.{length}
 use Rattle.format.specs.AllocV4.{discarded}
-use Rattle.headers.proofs.SizedLaws.{too-short, too-long, whole-length, put-back}
-use Rattle.headers.proofs.headers_discarded.Statement.{statement}
-use Rattle.headers.proofs.headers_discarded.Tie as tie
+use Rattle.format_c.proofs.SizedLaws.{too-short, too-long, whole-length, put-back}
+use Rattle.format_c.proofs.format_discarded.Statement.{statement}
+use Rattle.format_c.proofs.format_discarded.Tie as tie
 
 returns : tie.Need-returns
 returns c = let a = c .before .before .args in too-short 56 256 discarded (now (a .value)) (c .if1 .taken)
@@ -38,8 +38,8 @@ returns-3 c =
     let a = at-read .before .before .before .before .before .args in
     put-back 56 256 discarded (now (a .value)) (at-read .read-value .result) (at-discarded .discarded .result) _ _ (omega arith) (omega arith) (at-read .read-value .ensures) (at-discarded .discarded .ensures .0) (at-discarded .discarded .ensures .1) (c .before .before .put-value .ensures)
 
-pub headers-discarded-spec : {M : Type 1} → statement M
-headers-discarded-spec =
+pub format-discarded-spec : {M : Type 1} → statement M
+format-discarded-spec =
     tie.close
     (tie.spec
     returns

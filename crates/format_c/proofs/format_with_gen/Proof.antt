@@ -1,13 +1,13 @@
--- `headers_with_gen` meets its contract: a value of the right length is read, changed and put back. Assumes nothing.
+-- `format_with_gen` meets its contract: a value of the right length is read, changed and put back. Assumes nothing.
 use borrow.Author.Needs.{needs}
 use native.Mathlib.Omega.{arith}
 use denote.Ref.{now}
 use mathlib.Core.Path.{_≡_}
 use lib.ListN.{length}
 use Rattle.format.specs.Gens.{withGen}
-use Rattle.headers.proofs.SizedLaws.{too-short, too-long, whole-length, put-back}
-use Rattle.headers.proofs.headers_with_gen.Statement.{statement}
-use Rattle.headers.proofs.headers_with_gen.Tie as tie
+use Rattle.format_c.proofs.SizedLaws.{too-short, too-long, whole-length, put-back}
+use Rattle.format_c.proofs.format_with_gen.Statement.{statement}
+use Rattle.format_c.proofs.format_with_gen.Tie as tie
 
 returns : tie.Need-returns
 returns c = let a = c .before .before .args in too-short 256 256 (withGen (record { 0 = a .bucket }) (a .generation)) (now (a .value)) (c .if1 .taken)
@@ -38,8 +38,8 @@ returns-3 c =
     let a = at-read .before .before .before .before .before .args in
     put-back 256 256 (withGen (record { 0 = a .bucket }) (a .generation)) (now (a .value)) (at-read .read-value .result) (at-stored .with-gen .result) _ _ (omega arith) (omega arith) (at-read .read-value .ensures) (at-stored .with-gen .ensures .0) (at-stored .with-gen .ensures .1) (c .before .before .put-value .ensures)
 
-pub headers-with-gen-spec : {M : Type 1} → statement M
-headers-with-gen-spec =
+pub format-with-gen-spec : {M : Type 1} → statement M
+format-with-gen-spec =
     tie.close
     (tie.spec
     returns
