@@ -2,7 +2,7 @@
 use Prim.Native.Nat.{ℕ, _≤_}
 use mathlib.Core.Path.{_≡_, sym, ap, _∙_}
 use mathlib.Core.Bool.{true, _&&_}
-use mathlib.Core.List.{List, [], _∷_, _++_}
+use mathlib.Core.List.{List, [], _∷_}
 use native.Mathlib.Omega.{arith}
 use lib.Dec.{leb}
 use lib.ListN.{length}
@@ -13,7 +13,6 @@ use Rattle.calls.specs.ChangeList.{Batch, changeBytes, changeLaidOut, ch
 use Rattle.calls.specs.Place.{placeBatch, placedOf, walkOf}
 use Rattle.calls.specs.Release.{releaseBatch}
 use Rattle.calls.specs.Discard.{discardBatches}
-use Rattle.calls.specs.Refusals.{verdict}
 use Rattle.calls.specs.Answers.{Answer, answer, readCall, readVolume, nextVolume, place, release, discard, apply}
 use Rattle.calls.proofs.AnswerLaws.{accepted, place-is, release-is, discard-is, apply-is, placement, released, discarded, applied}
 use Rattle.calls.proofs.ApplyLaws.{apply-fits}
@@ -21,7 +20,7 @@ use Rattle.calls.proofs.BoolLaws.{parts}
 use Rattle.calls.proofs.ChangeTrip.{BatchFits, BatchOk, changes-back, bytes-change, change-laid-out, change-fits}
 use Rattle.calls.proofs.DiscardFits.{discard-fits}
 use Rattle.calls.proofs.PlaceFits.{place-fits}
-use Rattle.calls.proofs.RefusalLaws.{verdict-ok, test-ok}
+use Rattle.calls.proofs.RefusalLaws.{verdict-ok, verdict-last, test-ok}
 use Rattle.calls.proofs.ReleaseFits.{release-fits}
 use Rattle.calls.proofs.VolumeTrip.{volume-fits, read-back, volume-laid-out}
 
@@ -32,15 +31,10 @@ pub record Written (a : Answer) (bs : List Batch) (room : ℕ) : Type 0 where
   pub fits : length (a .written) ≤ room
   pub back : changesOf (a .written) ≡ bs
 
--- the test of 21, which comes last
-last-test : (ns : List ℕ) (n : ℕ) → verdict (ns ++ (n ∷ [])) ≡ 0 → n ≡ 0
-last-test [] n h = verdict-ok n [] h .0
-last-test (m ∷ ns) n h = last-test ns n (verdict-ok m (ns ++ (n ∷ [])) h .1)
-
 room-enough : (tests bytes : List ℕ) (room : ℕ) → answer tests bytes room .number ≡ 0 → length (answer tests bytes room .written) ≤ room
 unfolding answer
 room-enough tests bytes room h =
-    let e = test-ok 21 (leb (length bytes) room) (omega arith) (last-test tests _ h) in
+    let e = test-ok 21 (leb (length bytes) room) (omega arith) (verdict-last tests _ h) in
     omega (arith, ap length (accepted tests bytes room h .written), leb-true (length bytes) room e)
 
 number-of : {a b : Answer} → a ≡ b → a .number ≡ 0 → b .number ≡ 0

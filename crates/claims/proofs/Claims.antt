@@ -87,8 +87,8 @@ use Rattle.lines.proofs.program.bucket_lines.Statement as linesS
 
 -- ---- the four calls
 -- Of each call: the compiled function meets its contract, in every model of memory (`statement`, which the toolchain makes of the contract in
--- crates/zerglaz/src/lib.rt); its contract asks nothing of the arguments; and what the contract says after the call. There `a` are the arguments in their
--- order at entry, `e` the same at exit, `r` is the result, and `now` is what a reference refers to.
+-- crates/zerglaz/src/lib.rt); its contract asks nothing of the arguments (`Asked`, what a caller must show); and what it says after the call (`Learnt`, what a caller
+-- learns). There `a` are the arguments at entry, `e` the same at exit, `now` is what a reference refers to, and `r` is the number that the call answers.
 pub zerglaz-place : {M : Type 1} → placeS.statement M
 zerglaz-place = placeM.met
 
@@ -96,9 +96,12 @@ module _ (κs : Lfts 3) (a : Dens κs placeK.ps) (r : ℕ) (e : AtExit (endedOf 
   pub place-asks : placeR.Asked κs a ≡ Unit {0}
   place-asks = refl
 
-  -- place (list, out, written)
-  pub place-says : placeR.Learnt κs a r e
-      ≡ (made r (now (e .1 .1 .0)) (now (e .1 .0)) ≡ outcome (place (now (a .0)) (length (now (a .1 .0)))) (now (a .1 .0)))
+  pub place-says :
+      let list : List ℕ = now (a .0) in
+      let out : List ℕ = now (a .1 .0) in
+      let out-after : List ℕ = now (e .1 .0) in
+      let written-after : ℕ = now (e .1 .1 .0) in
+      placeR.Learnt κs a r e ≡ (made r written-after out-after ≡ outcome (place list (length out)) out)
   place-says = refl
 
 pub zerglaz-release : {M : Type 1} → releaseS.statement M
@@ -108,11 +111,15 @@ module _ (κs : Lfts 4) (a : Dens κs releaseK.ps) (r : ℕ) (e : AtExit (endedO
   pub release-asks : releaseR.Asked κs a ≡ Unit {0}
   release-asks = refl
 
-  -- release (list, scratch, out, written)
-  pub release-says : releaseR.Learnt κs a r e
-      ≡ ((made r (now (e .1 .1 .1 .0)) (now (e .1 .1 .0))
-      ≡ outcome (release (now (a .0)) (length (now (a .1 .0))) (length (now (a .1 .1 .0)))) (now (a .1 .1 .0)))
-      × (now (e .1 .0) ≡ scratchAfter (now (a .1 .0))))
+  pub release-says :
+      let list : List ℕ = now (a .0) in
+      let scratch : List ℕ = now (a .1 .0) in
+      let scratch-after : List ℕ = now (e .1 .0) in
+      let out : List ℕ = now (a .1 .1 .0) in
+      let out-after : List ℕ = now (e .1 .1 .0) in
+      let written-after : ℕ = now (e .1 .1 .1 .0) in
+      releaseR.Learnt κs a r e
+      ≡ ((made r written-after out-after ≡ outcome (release list (length scratch) (length out)) out) × (scratch-after ≡ scratchAfter scratch))
   release-says = refl
 
 pub zerglaz-discard : {M : Type 1} → discardS.statement M
@@ -122,9 +129,12 @@ module _ (κs : Lfts 3) (a : Dens κs discardK.ps) (r : ℕ) (e : AtExit (endedO
   pub discard-asks : discardR.Asked κs a ≡ Unit {0}
   discard-asks = refl
 
-  -- discard (list, out, written)
-  pub discard-says : discardR.Learnt κs a r e
-      ≡ (made r (now (e .1 .1 .0)) (now (e .1 .0)) ≡ outcome (discard (now (a .0)) (length (now (a .1 .0)))) (now (a .1 .0)))
+  pub discard-says :
+      let list : List ℕ = now (a .0) in
+      let out : List ℕ = now (a .1 .0) in
+      let out-after : List ℕ = now (e .1 .0) in
+      let written-after : ℕ = now (e .1 .1 .0) in
+      discardR.Learnt κs a r e ≡ (made r written-after out-after ≡ outcome (discard list (length out)) out)
   discard-says = refl
 
 pub zerglaz-apply : {M : Type 1} → applyS.statement M
@@ -134,10 +144,13 @@ module _ (κs : Lfts 4) (a : Dens κs applyK.ps) (r : ℕ) (e : AtExit (endedOf 
   pub apply-asks : applyR.Asked κs a ≡ Unit {0}
   apply-asks = refl
 
-  -- apply (volume, change, out, written)
-  pub apply-says : applyR.Learnt κs a r e
-      ≡ (made r (now (e .1 .1 .1 .0)) (now (e .1 .1 .0))
-      ≡ outcome (apply (now (a .0)) (now (a .1 .0)) (length (now (a .1 .1 .0)))) (now (a .1 .1 .0)))
+  pub apply-says :
+      let volume : List ℕ = now (a .0) in
+      let change : List ℕ = now (a .1 .0) in
+      let out : List ℕ = now (a .1 .1 .0) in
+      let out-after : List ℕ = now (e .1 .1 .0) in
+      let written-after : ℕ = now (e .1 .1 .1 .0) in
+      applyR.Learnt κs a r e ≡ (made r written-after out-after ≡ outcome (apply volume change (length out)) out)
   apply-says = refl
 
 -- ---- the worked cases of FORMAT.md
@@ -500,8 +513,11 @@ module _ (κs : Lfts 2) (a : Dens κs linesK.ps) (r : ℕ) (e : AtExit (endedOf 
   pub bucket-lines-asks : linesR.Asked κs a ≡ Unit {0}
   bucket-lines-asks = refl
 
-  -- bucket_lines (list, text)
-  pub bucket-lines-says : linesR.Learnt κs a r e ≡ Shown (bucketLines (now (a .0))) (now (a .1 .0)) (now (e .1 .0)) r
+  pub bucket-lines-says :
+      let list : List ℕ = now (a .0) in
+      let text : List ℕ = now (a .1 .0) in
+      let text-after : List ℕ = now (e .1 .0) in
+      linesR.Learnt κs a r e ≡ Shown (bucketLines list) text text-after r
   bucket-lines-says = refl
 
 -- the printed case of FORMAT.md
