@@ -36,13 +36,11 @@ oracle:              ## RUST=dir: builds the Rust's own functions out of dir, an
 	rt staticlib zerglaz
 	cd oracle/rust && RUST="$(abspath $(RUST))" cargo run --release --offline --features archive --bin archive -- $(CALLS)
 
-# The readers beside a plain sum of the same bytes, and the four calls beside a copy of them. With RUST=dir also the calls beside the Rust's own
-# functions, which are built from dir; that chart goes to the file CHART.
+# The four calls, also on lists that are only read, beside a copy of the same bytes. With RUST=dir also the calls beside the Rust's own functions, which are
+# built from dir; that chart goes to the file CHART.
 .PHONY: bench
 CHART ?= target/benchmarks.svg
-bench:               ## Times the readers and the calls; with RUST=dir also beside the Rust's own functions.
-	rt staticlib reading
-	cd tests/reading && cargo run --release --offline --bin bench
+bench:               ## Times the calls; with RUST=dir also beside the Rust's own functions.
 	rt staticlib zerglaz
 	cd rust && cargo bench --offline --bench calls
 ifneq ($(RUST),)

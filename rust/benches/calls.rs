@@ -1,12 +1,15 @@
 //! How long the calls take through the archive on lists at the limits, beside a copy of the bytes that
-//! they read: medians in nanoseconds and their ratio. Apply with changes of 1, 64 and 1,024 keys, and with
-//! what each call of 1,024 wrote. Then the crate's two readers.
+//! they read: medians in nanoseconds and their ratio. Place too on lists that are refused once all of
+//! them is read. Apply with changes of 1, 64 and 1,024 keys, and with what each call of 1,024 wrote. Then
+//! the crate's two readers.
 
 use lists::call_list::{DISCARD, PLACE, RELEASE};
-use lists::{limits, timed};
+use lists::limits;
+use lists::timed::{self, Volume};
 use std::hint::black_box;
 use std::time::Instant;
-use zerglaz::{CallList, CallListRef, DeviceSector, Position, Tree, SUMS};
+use zerglaz::limits::MAX_REQUESTS;
+use zerglaz::{CallList, CallListRef, DeviceSector, Position, Refusal, Tree, SUMS};
 
 /// How often each piece of work is timed.
 const REPETITIONS: usize = 31;
@@ -72,6 +75,24 @@ fn calls(call: u8, name: &str) {
     }
 }
 
+/// Lists with one request too many, which are refused 3 once all of them is read: so all that is timed
+/// is reading.
+fn refused() {
+    for (name, volume) in [
+        ("bare volume", Volume::Bare),
+        ("every tree full", Volume::Full),
+    ] {
+        let mut list = timed::list(PLACE, volume, MAX_REQUESTS);
+        list.places.push(list.places[0].clone());
+        let list = list.bytes();
+        row(&format!("place, refused 3: {name}"), &list, || {
+            let answer = zerglaz::place(black_box(&list), &mut []);
+            assert_eq!(answer, Err(Refusal::LimitPassed));
+            0
+        });
+    }
+}
+
 /// A volume whose trees are full, and changes of a few, some and many keys.
 fn applies() {
     let volume = timed::volume();
@@ -92,7 +113,7 @@ fn followed() {
     let mut change = vec![0; 1 << 21];
     let mut scratch = vec![0; SUMS];
     for (call, name) in [(PLACE, "place"), (RELEASE, "release"), (DISCARD, "discard")] {
-        let list = timed::list(call, timed::Volume::Bare, 1_024);
+        let list = timed::list(call, Volume::Bare, 1_024);
         let (volume, list) = (list.volume().bytes(), list.bytes());
         let written = match call {
             PLACE => zerglaz::place(&list, &mut change),
@@ -131,6 +152,7 @@ fn main() {
     calls(PLACE, "place");
     calls(RELEASE, "release");
     calls(DISCARD, "discard");
+    refused();
     applies();
     followed();
     readings();

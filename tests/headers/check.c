@@ -258,7 +258,7 @@ static void pointer_values(void)
 	for (unsigned i = 0; i < VALUES; i++) {
 		__u64 sector = value();
 		__u8 gen = value();
-		union words ours = { .word = { headers_pointer(sector, gen), 0 } };
+		union words ours = { .word = { format_pointer(sector, gen), 0 } };
 		union words theirs = { .word = { 0, 0 } };
 
 		theirs.ptr.type = 1 << BCH_EXTENT_ENTRY_ptr;
@@ -308,7 +308,7 @@ static void crc32_values(void)
 {
 	for (unsigned i = 0; i < VALUES; i++) {
 		struct crc c = crc_value();
-		union words ours = { .word = { headers_crc32(c.stored, c.file, c.ctype, c.kind, c.checksum), 0 } };
+		union words ours = { .word = { format_crc32(c.stored, c.file, c.ctype, c.kind, c.checksum), 0 } };
 		union words theirs = { .word = { 0, 0 } };
 
 		theirs.crc.crc32.type = 1 << BCH_EXTENT_ENTRY_crc32;
@@ -328,7 +328,7 @@ static void crc64_values(void)
 {
 	for (unsigned i = 0; i < VALUES; i++) {
 		struct crc c = crc_value();
-		union words ours = { .word = { headers_crc64(c.stored, c.file, c.ctype, c.kind), c.checksum } };
+		union words ours = { .word = { format_crc64(c.stored, c.file, c.ctype, c.kind), c.checksum } };
 		union words theirs = { .word = { 0, 0 } };
 
 		theirs.crc.crc64.type = 1 << BCH_EXTENT_ENTRY_crc64;
@@ -401,7 +401,7 @@ static void new_alloc_values(void)
 		union alloc ours, theirs = { .a = new_alloc(journal, gen, dirty, clock) };
 
 		values(ours.bytes, sizeof(ours));
-		same("new alloc, bytes", headers_new_alloc(ours.bytes, sizeof(ours), journal, gen, dirty, clock), sizeof(theirs));
+		same("new alloc, bytes", format_new_alloc(ours.bytes, sizeof(ours), journal, gen, dirty, clock), sizeof(theirs));
 		same_bytes("new alloc", &ours, &theirs, sizeof(theirs));
 	}
 }
@@ -415,7 +415,7 @@ static void emptied_values(void)
 
 		values(ours.bytes, sizeof(ours));
 		theirs.a = emptied(ours.a, journal);
-		headers_emptied(ours.bytes, sizeof(ours), journal);
+		format_emptied(ours.bytes, sizeof(ours), journal);
 		same_bytes("emptied", &ours, &theirs, sizeof(theirs));
 		same("emptied, age", 0, alloc_gc_gen(ours.a));
 	}
@@ -429,7 +429,7 @@ static void discarded_values(void)
 
 		values(ours.bytes, sizeof(ours));
 		theirs.a = discarded(ours.a);
-		headers_discarded(ours.bytes, sizeof(ours));
+		format_discarded(ours.bytes, sizeof(ours));
 		same_bytes("discarded", &ours, &theirs, sizeof(theirs));
 	}
 }
@@ -456,7 +456,7 @@ static void lengths(void)
 
 		values(ours, LONGEST);
 		memcpy(theirs, ours, LONGEST);
-		headers_emptied(ours, len, journal);
+		format_emptied(ours, len, journal);
 		emptied_long(theirs, len, journal);
 		same_bytes("emptied, of some length", ours, theirs, LONGEST);
 	}
@@ -471,12 +471,12 @@ static void bucket_life(void)
 		__u8 gen = value();
 		union alloc u;
 
-		headers_new_alloc(u.bytes, sizeof(u), journal, gen, dirty, clock);
+		format_new_alloc(u.bytes, sizeof(u), journal, gen, dirty, clock);
 		same("type of a new value", u.a.data_type, alloc_data_type(u.a, BCH_DATA_user));
 		same("words of a new value", sizeof(u) / sizeof(__u64), alloc_v4_u64s(&u.a));
-		headers_emptied(u.bytes, sizeof(u), value());
+		format_emptied(u.bytes, sizeof(u), value());
 		same("type of an emptied value", u.a.data_type, alloc_data_type(u.a, BCH_DATA_user));
-		headers_discarded(u.bytes, sizeof(u));
+		format_discarded(u.bytes, sizeof(u));
 		same("type of a discarded value", u.a.data_type, alloc_data_type(u.a, BCH_DATA_user));
 	}
 }
@@ -501,7 +501,7 @@ static void backpointer_values(void)
 		theirs.b.bucket_len = stored;
 		theirs.b.pos = SPOS(inode, offset, snapshot);
 		values(ours.bytes, sizeof(ours));
-		same("backpointer, bytes", headers_backpointer(ours.bytes, sizeof(ours), gen, stored, inode, offset, snapshot), sizeof(theirs));
+		same("backpointer, bytes", format_backpointer(ours.bytes, sizeof(ours), gen, stored, inode, offset, snapshot), sizeof(theirs));
 		same_bytes("backpointer, 0 to 2", ours.bytes, theirs.bytes, 3);
 		same_bytes("backpointer, 8 to 31", ours.bytes + 8, theirs.bytes + 8, 24);
 	}
@@ -524,7 +524,7 @@ static void with_gen_values(void)
 		values(ours.bytes, sizeof(ours));
 		theirs = ours;
 		theirs.g.gens[bucket & KEY_TYPE_BUCKET_GENS_MASK] = gen;
-		headers_with_gen(ours.bytes, sizeof(ours), bucket, gen);
+		format_with_gen(ours.bytes, sizeof(ours), bucket, gen);
 		same_bytes("bucket_gens", &ours, &theirs, sizeof(theirs));
 	}
 }
@@ -538,7 +538,7 @@ static void fragmentation_values(void)
 		struct bch_dev dev = { .mi.bucket_size = sectors };
 		struct bch_alloc_v4 a = new_alloc(1, 0, dirty, 1);
 
-		same("fragmentation", headers_fragmentation(dirty, sectors - 1), alloc_lru_idx_fragmentation(a, &dev));
+		same("fragmentation", format_fragmentation(dirty, sectors - 1), alloc_lru_idx_fragmentation(a, &dev));
 	}
 }
 

@@ -15,8 +15,8 @@ module _ {A : Type 0} {P : A → Type 0} {x : A} {xs : List A} where
   pub first : All P (x ∷ xs) → P x
   first (more h r) = h
 
-  pub rest : All P (x ∷ xs) → All P xs
-  rest (more h r) = r
+  pub all-tail : All P (x ∷ xs) → All P xs
+  all-tail (more h r) = r
 
 -- of an element
 pub all-at : {A : Type 0} {P : A → Type 0} {l : List A} {a : A} → All P l → List·Memᴰ a l → P a
@@ -92,6 +92,3 @@ module _ {A B : Type 0} (w : A → B) (r : B → A) where
   pub map-back : {s : List A} → All (λ a. r (w a) ≡ a) s → map r (map w s) ≡ s
   map-back none = refl
   map-back (more {s} h q) = λ i. h i ∷ map-back q i
-
-pub all-tail : {A : Type 0} {P : A → Type 0} {x : A} {xs : List A} → All P (x ∷ xs) → All P xs
-all-tail (more h r) = r

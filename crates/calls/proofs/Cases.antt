@@ -1,42 +1,23 @@
 -- FORMAT.md, "Worked cases", which are document 01's P cases, proved of the definitions together as one table. Assumes nothing.
 use mathlib.Core.Path.{_≡_, refl}
 use mathlib.Core.Bool.{false}
-use mathlib.Core.List.{List, [], _∷_, map}
-use Prim.Native.Nat.{ℕ, _+_, _^_}
+use mathlib.Core.List.{[], _∷_, map}
+use Prim.Native.Nat.{_+_, _^_}
 use Rattle.wire.specs.Positions.{lruAt}
 use Rattle.format.specs.Packing.{get}
 use Rattle.format.specs.AllocV4.{gen, oldestGen, flags, dataType, newAlloc, emptied}
 use Rattle.format.specs.Entries.{crc32, csumTypeOf}
 use Rattle.format.specs.Lru.{fragmentation}
 use Rattle.format.proofs.Cases.{p5-inode, p6-value, p9}
-use Rattle.calls.specs.CallList.{Volume, Freed, volumeBytes}
+use Rattle.calls.specs.CallList.{volumeBytes}
 use Rattle.calls.specs.Freespace.{isIn, walk}
-use Rattle.calls.specs.Pieces.{Slot, nextFit, bucketsNeeded}
+use Rattle.calls.specs.Pieces.{nextFit, bucketsNeeded}
 use Rattle.calls.specs.Lru.{lruWanted}
 use Rattle.calls.specs.ChangeList.{changesOf}
 use Rattle.calls.specs.Discard.{discardBatches}
 use Rattle.calls.specs.Computing.{computing}
 use Rattle.calls.specs.Answers.{place, release, discard}
-use Rattle.calls.proofs.Examples.{bucket, sector, headFor, volumeFor, run, held, waits, emptiedAt, runEnds, plain, placing, releasing}
-
-abbrev slot : ℕ → ℕ → Slot
-slot index offset = record { index = index; offset = offset }
-
--- a volume with one run of so many free buckets
-abbrev freeVolume : ℕ → Volume
-freeVolume n = volumeFor (headFor 1 1) [] (run n n ∷ []) [] []
-
--- bucket 5 holds 96 sectors of 128
-abbrev heldVolume : Volume
-heldVolume = volumeFor (headFor 2 1) (held 5 255 96 ∷ []) [] [] []
-
-abbrev freeing : ℕ → Freed
-freeing n = record { first = sector 640; sectors = n }
-
--- the buckets 3, 4 and 6, or one alone, wait for discard with a generation
-abbrev waiting : ℕ → ℕ → List ℕ → Volume
-waiting batch generation bs =
-    volumeFor (headFor 3 batch) (map (λ b. emptiedAt b generation) bs) [] (map waits bs) []
+use Rattle.calls.specs.Examples.{bucket, headFor, volumeFor, run, held, runEnds, plain, placing, releasing, slot, freeing, freeVolume, heldVolume, waiting}
 
 pub record Cases : Type 0 where
   -- 1. bucket 128, stored 96, 96, 64: three buckets, offset 0 each, no LRU root
@@ -61,9 +42,9 @@ pub record Cases : Type 0 where
   pub case6-flags : get flags (emptied 7 (newAlloc 1 255 96 1)) ≡ 0x21
   -- 7. held 96: freeing 96 empties, 97 gives 18
   pub case7 :
-      map (λ b. map (λ k. get dataType (k .value)) (b .trees .alloc)) (changesOf (release (releasing heldVolume (freeing 96 ∷ [])) 65536 1000 .written))
+      map (λ b. map (λ k. get dataType (k .value)) (b .trees .alloc)) (changesOf (release (releasing heldVolume (freeing 640 96 ∷ [])) 65536 1000 .written))
       ≡ (9 ∷ []) ∷ []
-  pub case7-more : release (releasing heldVolume (freeing 97 ∷ [])) 65536 1000 .number ≡ 18
+  pub case7-more : release (releasing heldVolume (freeing 640 97 ∷ [])) 65536 1000 .number ≡ 18
   -- 8. byte 12 at 15 is discarded, 16 waits
   pub case8 : map runEnds (changesOf (discard (volumeBytes (waiting 1 15 (3 ∷ []))) 1000 .written)) ≡ ((4, 1) ∷ []) ∷ []
   pub case8-waits : discard (volumeBytes (waiting 1 16 (3 ∷ []))) 1000 ≡ record { number = 0; written = [] }

@@ -17,6 +17,7 @@ use Rattle.calls.proofs.Phases.{Good}
 use Rattle.calls.proofs.PlaceFits.{gens-small, sectors-small}
 use Rattle.calls.proofs.PlaceLaws.{place-keeps, place-gens}
 use Rattle.calls.proofs.ReleaseLaws.{releasing-good, release-gens}
+use Rattle.calls.proofs.SixTrees.{trees-order}
 use Rattle.calls.proofs.TreeLaws.{Typed, typed-applyQueue}
 use Rattle.calls.proofs.View.{bucket, view, GensHeld}
 
@@ -45,7 +46,7 @@ keeps-demand offered =
       place = λ s live r ok h.
           let c = readCall s in
           record {
-            good = place-keeps c ok (r .trees .freespace .0) live offered (h .good) (sectors-small (r .bytes)) (gens-small (r .bytes));
+            good = place-keeps c ok (trees-order (r .trees) .freespace .0) live offered (h .good) (sectors-small (r .bytes)) (gens-small (r .bytes));
             typed = typed-applyQueue _ (c .volume .trees .alloc) (h .typed);
             gens = place-gens c (gens-small (r .bytes)) (h .gens);
           };
@@ -59,7 +60,7 @@ keeps-demand offered =
           };
       discard = λ s live r h.
           let v = readVolume s in
-          let o = r .trees in
+          let o = trees-order (r .trees) in
           record {
             good = rw (sectors-same (discardBatches v) v)
                 (discard-all (v .head .bucketSectors) offered live v

@@ -7,7 +7,7 @@ use Prim.Native.Nat.{ℕ}
 use lib.Dec.{eqb}
 use borrow.Author.Tests.{eqb-true}
 use Rattle.wire.specs.Bytes.{All, none as nothing, more, Bytes}
-use Rattle.calls.specs.CallList.{Volume, volumeBytes}
+use Rattle.calls.specs.CallList.{Volume, treesOk, volumeBytes}
 use Rattle.calls.specs.ChangeList.{Batch, changeBytes}
 use Rattle.calls.specs.Refusals.{verdict}
 use Rattle.calls.specs.Place.{placeTests, placeBatch, placedOf, walkOf}
@@ -25,14 +25,12 @@ use Rattle.calls.proofs.PlaceFits.{place-fits}
 use Rattle.calls.proofs.PlaceLaws.{newPieces, placedVolume, placed-spots}
 use Rattle.calls.proofs.ReleaseFits.{release-fits}
 use Rattle.calls.proofs.ReleaseLaws.{released}
-use Rattle.calls.proofs.SixTrees.{EachTree, trees-order}
-use Rattle.calls.proofs.SortedLaws.{InOrder}
 use Rattle.calls.proofs.VolumeTrip.{Laid, call-laid, laid-fits, without-read, read-back}
 
--- what a call finds: bytes whose trees are in order
+-- what a call finds: bytes whose trees are laid out right
 pub record Read (s : List ℕ) : Type 0 where
   pub bytes : Bytes s
-  pub trees : EachTree InOrder (readVolume s .trees)
+  pub trees : treesOk (readVolume s .trees) ≡ true
 
 -- kept where field 1 differs but for the sectors of a bucket, and by each applied call
 pub record Keeps (P : Volume → List Live → Type 0) : Type 0 where
@@ -60,7 +58,7 @@ unfolding applyBatches
 one-batch b v = refl
 
 read-laid : {s : List ℕ} → Bytes s → Laid s → Read s
-read-laid r l = record { bytes = r; trees = trees-order (l .ok .trees) }
+read-laid r l = record { bytes = r; trees = l .ok .trees }
 
 -- the pieces of an accepted placement's answer are those that it placed
 pieces-read : (s : List ℕ) (a : Answer) → Bytes s → Placement s a → placedPieces (a .written) (readCall s .pieces) ≡ newPieces (readCall s)
@@ -114,7 +112,7 @@ module _ {P : Volume → List Live → Type 0} (keeps : Keeps P) where
       rw t (keeps .discard s live (read-laid r l) h)
 
   -- the state's facts, of a step's list
-  found : (st : State) (s : Step) → Has st → Allowed st s → P (readVolume (s .list)) (st .live)
+  pub found : (st : State) (s : Step) → Has st → Allowed st s → P (readVolume (s .list)) (st .live)
   found st s k a =
       keeps .same (readVolume (st .volume)) (readVolume (s .list)) (st .live) (same-trees (s .list) (st .volume) (a .same))
       (same-reserved (s .list) (st .volume) (a .same)) (a .sectors) k

@@ -24,12 +24,12 @@ use Rattle.calls.proofs.DiscardLaws.{discard-keeps, after-all}
 use Rattle.calls.proofs.GensLaws.{type-30, key-is}
 use Rattle.calls.proofs.HistoryKeeps.{Keeps, history-keeps}
 use Rattle.calls.proofs.PlaceLaws.{place-gens-same}
+use Rattle.calls.proofs.SixTrees.{trees-order}
 use Rattle.calls.proofs.TreeLaws.{lookup-all}
 
 -- a generation record with a byte for each of its buckets
-pub record Record256 (k : Key) : Type 0 where
-  pub type : k .type ≡ 30
-  pub size : length (k .value) ≡ 256
+abbrev pub Record256 : Key → Type 0
+Record256 k = (k .type ≡ 30) × (length (k .value) ≡ 256)
 
 no-gens-length : length noGens ≡ 256
 unfolding noGens
@@ -43,12 +43,12 @@ module _ (gens : List Key) (all : All Record256 gens) where
     where
       go : (o : Option Key) → genRecord gens b ≡ o → length (fromOption (newKey 30 0 (gensAt b) noGens) (λ k. k) o .value) ≡ 256
       go none e = no-gens-length
-      go (some k) e = lookup-all (gensAt b) k all (type-30 (lookup (gensAt b) gens) k e .0) .size
+      go (some k) e = lookup-all (gensAt b) k all (type-30 (lookup (gensAt b) gens) k e .0) .1
 
   queued-record : (b : Bucket) (generation : ℕ) → Record256 (genQueued gens b generation)
   unfolding genQueued
   queued-record b generation =
-      record { type = key-is gens b .0; size = gens-length b generation (genKey gens b .value) ∙ key-length b }
+      (key-is gens b .0, gens-length b generation (genKey gens b .value) ∙ key-length b)
 
 queued-records : (generation : Bucket → ℕ) (records : List Key) (bs : List Bucket) → All Record256 records → All Record256 (gensQueued generation records bs)
 unfolding gensQueued
@@ -69,8 +69,8 @@ keeps-records =
       place = λ s live r ok h. rw (place-gens-same (readCall s)) h;
       release = λ s live left r ok named h. all-applyQueue (queued-records _ (readVolume s .trees .gens) _ h) h;
       discard = λ s live r h.
-          after-all (readVolume s) Records
-          (discard-keeps (readVolume s) (r .trees .alloc .0) (r .trees .alloc .1) Records (λ w ks a c g. g) h);
+          let o = trees-order (r .trees) .alloc in
+          after-all (readVolume s) Records (discard-keeps (readVolume s) (o .0) (o .1) Records (λ w ks a c g. g) h);
     }
 
 -- ---- the whole

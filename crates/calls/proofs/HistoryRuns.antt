@@ -34,6 +34,7 @@ use Rattle.calls.proofs.HistoryKeeps.{Keeps, history-keeps}
 use Rattle.calls.proofs.JoinLaws.{joined}
 use Rattle.calls.proofs.PlaceFits.{gens-small, sectors-small}
 use Rattle.calls.proofs.PlaceLaws.{runKeys, place-placing}
+use Rattle.calls.proofs.SixTrees.{trees-order}
 use Rattle.calls.proofs.SortedLaws.{Sorted}
 use Rattle.calls.proofs.View.{bucket, covers, coverOf, view}
 
@@ -159,7 +160,7 @@ keeps-runs offered =
       same = λ v w live t r b h. record { kept = d .same v w live t r b (h .kept); once = rw t (h .once); begun = rw t (h .begun) };
       place = λ s live r ok h.
           let c = readCall s in
-          let p = place-placing c ok (r .trees .freespace .0) live offered (h .kept .good) (sectors-small (r .bytes)) (gens-small (r .bytes)) in
+          let p = place-placing c ok (trees-order (r .trees) .freespace .0) live offered (h .kept .good) (sectors-small (r .bytes)) (gens-small (r .bytes)) in
           record {
             kept = d .place s live r ok (h .kept);
             once = λ b. omega (arith, p .cover-le b, h .once b);
@@ -171,7 +172,7 @@ keeps-runs offered =
           record { kept = d .release s live left r ok named (h .kept); once = h .once; begun = h .begun };
       discard = λ s live r h.
           let v = readVolume s in
-          let o = r .trees in
+          let o = trees-order (r .trees) in
           let B = v .head .bucketSectors in
           let begin : After B offered live v =
           record {

@@ -20,7 +20,7 @@ use Rattle.calls.specs.Trees.{onEq, lookup, step, applyQueue}
 use Rattle.calls.specs.Freespace.{isIn}
 use Rattle.calls.specs.Discard.{Run, joinRun, joinedRuns, runKey}
 use Rattle.calls.specs.History.{one}
-use Rattle.calls.proofs.AllLaws.{first, rest, all-of, all-at}
+use Rattle.calls.proofs.AllLaws.{first, all-tail, all-of, all-at}
 use Rattle.calls.proofs.BoolLaws.{some-in, ind-le}
 use Rattle.calls.proofs.BucketLaws.{count}
 use Rattle.calls.proofs.CoverLaws.{inR-step, inR-one, inR-empty}
@@ -58,7 +58,7 @@ join b (r ∷ rs) n h = go (sameBucket (nextBucket b) (r .first)) refl
     go true e =
         let q = eqb-true (b .0 + 1) (r .first .0) e in
         record {
-          whole = more {a = record { first = b; end = r .end; size = suc (r .size) }} (omega arith, omega (arith, first (h .whole) .1)) (rest (h .whole));
+          whole = more {a = record { first = b; end = r .end; size = suc (r .size) }} (omega arith, omega (arith, first (h .whole) .1)) (all-tail (h .whole));
           sum = λ c.
               let s = inR-step (b .0) (r .end .0) c (omega (arith, first (h .whole) .1)) in
               let z : inR (b .0 + 1) (r .end .0) c ≡ inRun c r = rw q in

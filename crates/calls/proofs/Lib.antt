@@ -1,6 +1,7 @@
 pub mod AllLaws
 pub mod AllocReads
 pub mod AnswerLaws
+pub mod AnswersReadBack
 pub mod OutcomeLaws
 pub mod ApplyLaws
 pub mod Blocks
@@ -13,10 +14,10 @@ pub mod ClaimLaws
 pub mod Computed
 pub mod CoverLaws
 pub mod Demand3
+pub mod DiscardBatches
 pub mod DiscardFits
 pub mod DiscardLaws
 pub mod DiscardPhases
-pub mod Examples
 pub mod FieldBytes
 pub mod FitLaws
 pub mod GensLaws

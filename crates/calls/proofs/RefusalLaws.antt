@@ -36,6 +36,11 @@ verdict-front (n ∷ ns) ms h = go (eqb n 0) h (verdict-front ns ms)
     go true e ih = ih e
     go false e ih = e
 
+-- and the last one
+pub verdict-last : (ns : List ℕ) (n : ℕ) → verdict (ns ++ (n ∷ [])) ≡ 0 → n ≡ 0
+verdict-last [] n h = verdict-ok n [] h .0
+verdict-last (m ∷ ns) n h = verdict-last ns n (verdict-ok m (ns ++ (n ∷ [])) h .1)
+
 -- the lowest of a list of buckets, where none has a number
 pub verdict-map : (f : Bucket → ℕ) (bs : List Bucket) → verdict (map f bs) ≡ 0 → (b : Bucket) → isIn bs b ≡ true → f b ≡ 0
 unfolding isIn anyOf

@@ -1,40 +1,13 @@
 -- Worked cases beside the P cases, computed of whole answers: each has a list on which an answer that is wrong in one place, as the edits in must-fail
 -- make it, differs. Assumes nothing.
 use mathlib.Core.Path.{_≡_, refl}
-use mathlib.Core.List.{List, [], _∷_, _++_, map}
-use Prim.Native.Nat.{ℕ, _^_}
-use Rattle.wire.specs.Keys.{Key}
+use mathlib.Core.List.{[], _∷_, _++_, map}
 use Rattle.format.specs.Packing.{get}
-use Rattle.format.specs.AllocV4.{ioTimeWrite, newAlloc}
-use Rattle.calls.specs.CallList.{Freed, volumeBytes}
-use Rattle.calls.specs.Trees.{newKey}
-use Rattle.calls.specs.ChangeList.{Spot, Batch, changesOf}
+use Rattle.format.specs.AllocV4.{ioTimeWrite}
+use Rattle.calls.specs.CallList.{volumeBytes}
 use Rattle.calls.specs.Computing.{computing}
-use Rattle.calls.specs.Answers.{Answer, place, release, discard}
-use Rattle.calls.proofs.Examples.{bucket, sector, headAt, headFor, volumeFor, run, held, waitsSince, emptiedAt, runEnds, plain, placing, releasing}
-
--- the placement of P case 1: forty free buckets of 128 sectors, stored 96, 96 and 64
-abbrev threePieces : Answer
-threePieces =
-    place (placing (volumeFor (headFor 1 1) [] (run 40 40 ∷ []) [] []) (plain 96 ∷ plain 96 ∷ plain 64 ∷ [])) 2000
-
--- what each batch of an answer says
-abbrev each : {A : Type 0} → (Batch → A) → Answer → List A
-each part a = map part (changesOf (a .written))
-
-abbrev spot : ℕ → ℕ → ℕ → Spot
-spot first stored b = record { first = sector first; stored = stored; bucket = bucket b; generation = 0 }
-
--- an alloc key of inode 1 with a clock
-abbrev elsewhere : ℕ → Key
-elsewhere clock = newKey 27 0 (record { inode = 1; offset = 0; snapshot = 0 }) (newAlloc 1 0 0 clock)
-
--- a head whose base passes its limit
-abbrev beyond : List ℕ
-beyond = volumeBytes (volumeFor (headAt (2 ^ 40) 1 1) [] [] [] [])
-
-abbrev freeing : ℕ → ℕ → Freed
-freeing first sectors = record { first = sector first; sectors = sectors }
+use Rattle.calls.specs.Answers.{place, release, discard}
+use Rattle.calls.specs.Examples.{bucket, headFor, volumeFor, run, held, waitsSince, emptiedAt, runEnds, plain, placing, releasing, spot, freeing, each, beyond, elsewhere, threePieces}
 
 pub record WorkedAnswers : Type 0 where
   -- P case 1 of the whole answer: fields 71, 72 and 70

@@ -1,107 +1,25 @@
--- A history on a small volume, computed: two placements, a release of a part, one that empties, a refused call, a refused apply, a discard, and a
--- placement that reuses the bucket; the claim's tests, computed on each volume that it reaches; and that the theorem applies to it. Assumes nothing.
+-- The example history, computed: it is a history, with the pieces that it leaves; the claim's tests, computed on each volume that it reaches; and that
+-- the theorem applies to it. Assumes nothing.
 use mathlib.Core.Path.{_≡_, refl}
 use mathlib.Core.Bool.{Bool, true, false, not, _&&_, _||_, cond, false≢true}
-use mathlib.Core.List.{List, [], _∷_, _++_, map, zipWith}
+use mathlib.Core.List.{List, [], _∷_, zipWith}
 use mathlib.Core.Option.{Option, none, some}
 use Prim.Native.Nat.{ℕ, zero, suc, _+_}
 use lib.Dec.{leb, ltb, eqb}
 use borrow.Author.Tests.{ltb-true, eqb-true}
 use Rattle.wire.specs.Fields.{Field}
-use Rattle.wire.specs.Encode.{encode}
 use Rattle.wire.specs.Bytes.{Bytes}
 use Rattle.wire.specs.Kinds.{sameBucket, bucketOf, offsetIn, sectorWithin}
 use Rattle.calls.specs.Lists.{allOf, total, isNone, fromOption}
-use Rattle.calls.specs.CallList.{Head, volumeBytes}
 use Rattle.calls.specs.Generations.{genOf}
 use Rattle.calls.specs.Computing.{computing}
 use Rattle.calls.specs.Answers.{readCall, readVolume, place, release, discard, apply}
-use Rattle.calls.specs.History.{Clean, Live, State, placing, releasing, discarding, Step, answerTo, withoutRequests, appliedTo, placedPieces, takeOut, takeAll, advance, after, carried, Allowed, History, start, one, sectorsOf, allocOf, generationOf, dirtyOf, isFree, isInUse, isWaiting, Claim, GensAgree}
+use Rattle.calls.specs.History.{Clean, Live, State, Step, answerTo, withoutRequests, appliedTo, placedPieces, takeOut, takeAll, advance, after, carried, Allowed, History, start, one, sectorsOf, allocOf, generationOf, dirtyOf, isFree, isInUse, isWaiting, Claim, GensAgree}
+use Rattle.calls.specs.Examples.{bucket, sector}
+use Rattle.calls.specs.ExampleHistory.{clean, ran, steps, reached, piece}
 use Rattle.calls.proofs.AllLaws.{all-imp, test-all}
 use Rattle.calls.proofs.BoolLaws.{parts}
 use Rattle.calls.proofs.Demand3.{demand3}
-use Rattle.calls.proofs.Examples.{bucket, sector, volumeFor, run, plain, pieceField, freedField}
-
--- buckets of 8 sectors
-abbrev head : ℕ → ℕ → Head
-head call journal =
-    record {
-      call = call;
-      bucketSectors = 8;
-      blockSectors = 1;
-      option = 0;
-      roots = 0;
-      reserve = 0;
-      batch = 1;
-      journal = journal;
-      inode = 1;
-      base = record { 0 = 0 };
-    }
-
--- forty free buckets, bucket 3 reserved
-abbrev clean : List ℕ
-clean = volumeBytes (volumeFor (head 1 1) [] (run 40 40 ∷ []) [] (bucket 3 ∷ []))
-
--- the volume reached, with another field 1 and requests
-abbrev listOn : State → Head → List Field → List ℕ
-listOn st h requests =
-    volumeBytes (record { head = h; trees = readVolume (st .volume) .trees; reserved = readVolume (st .volume) .reserved })
-    ++ encode requests
-
-abbrev places : ℕ → ℕ → List ℕ → State → Step
-places journal applyRoom sizes st =
-    record {
-      call = placing;
-      list = listOn st (head 1 journal) (map (λ n. pieceField (plain n)) sizes);
-      scratch = 0;
-      room = 2000;
-      applyRoom = applyRoom;
-    }
-
-abbrev releases : ℕ → ℕ → ℕ → State → Step
-releases journal first sectors st =
-    record {
-      call = releasing;
-      list = listOn st (head 2 journal) (freedField (record { first = sector first; sectors = sectors }) ∷ []);
-      scratch = 65536;
-      room = 2000;
-      applyRoom = 2000;
-    }
-
-abbrev discards : ℕ → State → Step
-discards journal st =
-    record { call = discarding; list = listOn st (head 3 journal) []; scratch = 0; room = 2000; applyRoom = 2000 }
-
--- the steps as they run, each on the state that it finds
-abbrev ran : State → List (State → Step) → List Step
-ran st [] = []
-ran st (f ∷ fs) = f st ∷ ran (advance st (f st)) fs
-
-abbrev steps : List (State → Step)
-steps =
-    -- 6, 4 and 2 sectors: bucket 0, and twice bucket 1
-    places 1 2000 (6 ∷ 4 ∷ 2 ∷ [])
-    -- 3 sectors: bucket 2
-    ∷ places 2 2000 (3 ∷ [])
-    -- bucket 1 keeps 4 sectors
-    ∷ releases 3 12 2
-    -- bucket 0 is emptied
-    ∷ releases 4 0 6
-    -- refused: bucket 9 has no alloc key
-    ∷ releases 5 72 1
-    -- accepted, and its apply refused: the next volume outgrows 10 bytes
-    ∷ places 6 10 (5 ∷ [])
-    -- bucket 0 is free again
-    ∷ discards 7
-    -- 5 sectors in bucket 0, of the next generation, and 5 in bucket 4
-    ∷ places 8 2000 (5 ∷ 5 ∷ [])
-    ∷ []
-
-abbrev reached : State
-reached = after (start clean) (ran (start clean) steps)
-
-abbrev piece : ℕ → ℕ → ℕ → Live
-piece first generation length = record { first = sector first; generation = generation; length = length }
 
 -- numbers below n
 abbrev below : ℕ → List ℕ
@@ -213,7 +131,7 @@ history (f ∷ fs) st h =
     let b = parts (allowedTest st (f st)) (workedTest (advance st (f st)) fs) (a .1) in
     (allowed st (f st) (b .0), history fs (advance st (f st)) (b .1))
 
-clean-volume : Clean clean
+pub clean-volume : Clean clean
 unfolding computing
 clean-volume =
     record {

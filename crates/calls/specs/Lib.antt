@@ -19,3 +19,5 @@ pub mod Apply
 pub mod Computing
 pub mod Answers
 pub mod History
+pub mod Examples
+pub mod ExampleHistory

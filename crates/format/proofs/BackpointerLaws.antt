@@ -6,10 +6,10 @@ use mathlib.Core.List.{List, [], _∷_, _++_}
 use lib.ListN.{length}
 use Rattle.wire.specs.Numbers.{leBytes, each, wordsBytes}
 use Rattle.wire.specs.declared.bpos.Bpos.{Bpos}
-use Rattle.format.specs.Packing.{structBytes}
+use Rattle.format.specs.Packing.{structBytes, readStruct}
 use Rattle.format.specs.Backpointer.{backpointer}
 use Rattle.wire.proofs.NumberLaws.{le-join}
-use Rattle.format.proofs.StructLaws.{readStruct, read-whole, struct-length}
+use Rattle.format.proofs.StructLaws.{read-whole, struct-length}
 
 module _ (generation stored : ℕ) (extent : Bpos) (g : generation < 256) (l : stored < 2 ^ 32) where
   first : (s : List ℕ) → leBytes 1 0 ++ (leBytes 1 0 ++ (leBytes 1 4 ++ (leBytes 1 generation ++ (leBytes 4 0 ++ s)))) ≡ leBytes 8 (4 * 2 ^ 16 + generation * 2 ^ 24) ++ s

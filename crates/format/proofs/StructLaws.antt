@@ -12,7 +12,7 @@ use Rattle.wire.specs.Numbers.{le, leBytes}
 use Rattle.wire.specs.Output.{put}
 use Rattle.wire.proofs.NumberLaws.{le-leBytes, le-length, le-split, le-byte}
 use Rattle.wire.proofs.OutputLaws.{put-eq, put-length}
-use Rattle.format.specs.Packing.{structBytes, Member, get, store}
+use Rattle.format.specs.Packing.{structBytes, readStruct, Member, get, store}
 use Rattle.format.specs.AllocV4.{allocV4}
 
 -- a byte that is not one of a member's
@@ -151,11 +151,6 @@ members-after [] ws v c h = refl
 members-after (m ∷ ms) ws v c h =
     let b = and-eq-true-iff (clear m ws) (allClear ms ws) .0 c in
     rw (get-stores ws m v (b .0) h, members-after ms ws v (b .1) h)
-
--- The numbers of these sizes that stand one after the other at the front of v.
-abbrev pub readStruct : List ℕ → List ℕ → List ℕ
-readStruct [] v = []
-readStruct (n ∷ ns) v = le n v ∷ readStruct ns (drop n v)
 
 -- each value fits its bytes
 abbrev pub FitBytes : List (ℕ × ℕ) → Type 0

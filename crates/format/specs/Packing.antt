@@ -20,6 +20,11 @@ unfoldable pub structBytes : List (ℕ × ℕ) → List ℕ
 structBytes [] = []
 structBytes ((n, x) ∷ ms) = leBytes n x ++ structBytes ms
 
+-- the numbers of these sizes that stand one after the other at the front of v
+abbrev pub readStruct : List ℕ → List ℕ → List ℕ
+readStruct [] v = []
+readStruct (n ∷ ns) v = le n v ∷ readStruct ns (drop n v)
+
 -- a member of a packed struct: its first byte, and how many bytes it has
 pub record Member : Type 0 where
   pub at : ℕ

@@ -5,8 +5,9 @@ use mathlib.Core.List.{List, [], _∷_, _++_, append-assoc}
 use native.Mathlib.Nat.{pow-suc, pow-le-pow-right}
 use native.Mathlib.Omega.{arith}
 use lib.ListN.{take, drop}
-use lib.Seq.{take-nil, drop-drop}
+use lib.Seq.{drop-drop}
 use Rattle.wire.specs.Numbers.{le, each}
+use Rattle.wire.proofs.KeyLaws.{drop-take}
 use Rattle.wire.proofs.NumberLaws.{le-at}
 use Rattle.lines.specs.Digits.{signed, hexadecimal}
 use Rattle.lines.specs.Lines.{line, blanked, words, numbers}
@@ -43,13 +44,6 @@ words-next n s h = let e : (n + 7) / 8 ≡ suc ((n - 8 + 7) / 8) = omega arith i
 pub words-none : (n : ℕ) (s : List ℕ) → n ≡ 0 → blanked (words ((n + 7) / 8) s) ≡ []
 unfolding blanked words each
 words-none n s e = ap (λ (k : ℕ). blanked (words ((k + 7) / 8) s)) e
-
--- what is left of the first n bytes
-drop-take : (k n : ℕ) (s : List ℕ) → drop k (take n s) ≡ take (n - k) (drop k s)
-drop-take zero n s = let e : n - 0 ≡ n = omega arith in rw e
-drop-take (suc k) zero s = let e : 0 - suc k ≡ 0 = omega arith in rw e
-drop-take (suc k) (suc n) [] = rw take-nil
-drop-take (suc k) (suc n) (b ∷ s) = let e : suc n - suc k ≡ n - k = omega arith in rw e (drop-take k n s)
 
 pub words-turn : (s : List ℕ) (from len i r : ℕ) → i < len → r ≡ le 8 (take (len - i) (drop (from + i) s))
     → blanked (words ((len - i + 7) / 8) (drop i (take len (drop from s))))

@@ -16,7 +16,7 @@ use Rattle.wire.specs.Held.{padded, valueIn}
 use Rattle.wire.specs.declared.keys.Value.{Value}
 use Rattle.wire.proofs.NumberLaws.{body-le, body-length}
 
-drop-take : (k m : ℕ) (s : List ℕ) → drop k (take m s) ≡ take (m - k) (drop k s)
+pub drop-take : (k m : ℕ) (s : List ℕ) → drop k (take m s) ≡ take (m - k) (drop k s)
 drop-take zero m s = let e : m - 0 ≡ m = omega arith in rw e
 drop-take (suc k) zero s = let e : 0 - suc k ≡ 0 = omega arith in rw e
 drop-take (suc k) (suc m) [] = rw take-nil

@@ -12,7 +12,7 @@ use Rattle.wire.specs.Fields.{Field, fields, fieldAt}
 use Rattle.wire.proofs.FieldLaws.{FieldAt, field-at, stop-at}
 use Rattle.wire.proofs.OutputLaws.{Part, begin, turn, part-length, each-next, each-none}
 use Rattle.wire.proofs.EmitLaws.{done}
-use Rattle.calls.proofs.AllLaws.{first, rest}
+use Rattle.calls.proofs.AllLaws.{first, all-tail}
 use Rattle.reader.specs.Bodies.{changeFieldOk}
 use Rattle.lines.specs.Lines.{line, fieldWords, changeLines}
 use Rattle.lines.proofs.LineLaws.{fields-ok}
@@ -79,7 +79,7 @@ loop-again : tie.Need-loop-again Inv-loop μ-loop
 loop-again c =
     let k = c .before .before .before .before in
     let f = took k in
-    (f .within, rest (left k), turn _ (k .before .before .before .before .loop .inv .2) (each-next (λ (f : Field). line (fieldWords f)) (f .here)) (c .before .before .put-line .ensures))
+    (f .within, all-tail (left k), turn _ (k .before .before .before .before .loop .inv .2) (each-next (λ (f : Field). line (fieldWords f)) (f .here)) (c .before .before .put-line .ensures))
 
 pub put-lines-spec : {M : Type 1} → statement M
 put-lines-spec =

@@ -40,7 +40,7 @@ put-lines-requires c κs =
     let a = b .before in
     let s = now (a .args .list) in
     ap changeLaidOut (a .pre .bytes)
-    ∙ answer-written s (bytes-from s (λ i. let h = b .shared-slice-known .given i in omega arith)) (sym (a .pre .numbered) ∙ omega (arith, c .before .before .before .if1 .left)) .laid-out
+    ∙ answer-written s (bytes-from s (λ i. let h = b .shared-slice-known .given i in omega arith)) (sym (a .pre .numbered) ∙ omega (arith, c .before .before .before .if1 .left)) .1 .laid-out
 
 returns-2 : tie.Need-returns-2
 returns-2 c =
