@@ -11,6 +11,7 @@ use borrow.Author.Tests.{eq-eqb, ne-eqb, le-leb, lt-leb}
 use Rattle.wire.specs.Output.{Wrote, Emitted}
 use Rattle.wire.proofs.OutputLaws.{wrote-length}
 use Rattle.wire.proofs.DryRun.{wet}
+use Rattle.reader.specs.Heads.{callByte}
 use Rattle.calls.specs.Answers.{Answer, Outcome, made, outcome, outputAfter, place, release, discard}
 use Rattle.lines.specs.Lines.{changeLines, refusedLine}
 use Rattle.lines.specs.Program.{answerTo, AnswerIn, answerLines, bucketLines, Shown}
@@ -31,18 +32,18 @@ answer-in {a = a} {written = written} {after = after} before e h =
 
 -- the call that a list's call byte names
 module _ (s : List ℕ) where
-  pub calls-place : getD s 3 0 ≡ 1 → {room : ℕ} → room ≡ 65536 → place s room ≡ answerTo s
+  pub calls-place : callByte s ≡ 1 → {room : ℕ} → room ≡ 65536 → place s room ≡ answerTo s
   unfolding answerTo
-  calls-place h e = ap (place s) e ∙ sym (rw (eq-eqb (getD s 3 0) 1 h) refl)
+  calls-place h e = ap (place s) e ∙ sym (rw (eq-eqb (callByte s) 1 h) refl)
 
-  pub calls-release : (getD s 3 0 ≡ 1 → ⊥) → getD s 3 0 ≡ 2 → {scratch room : ℕ} → scratch ≡ 65536 → room ≡ 65536 → release s scratch room ≡ answerTo s
+  pub calls-release : (callByte s ≡ 1 → ⊥) → callByte s ≡ 2 → {scratch room : ℕ} → scratch ≡ 65536 → room ≡ 65536 → release s scratch room ≡ answerTo s
   unfolding answerTo
   calls-release n h {room = room} e f =
-      ap (λ (k : ℕ). release s k room) e ∙ ap (release s 65536) f ∙ sym (rw (ne-eqb (getD s 3 0) 1 n, eq-eqb (getD s 3 0) 2 h) refl)
+      ap (λ (k : ℕ). release s k room) e ∙ ap (release s 65536) f ∙ sym (rw (ne-eqb (callByte s) 1 n, eq-eqb (callByte s) 2 h) refl)
 
-  pub calls-discard : (getD s 3 0 ≡ 1 → ⊥) → (getD s 3 0 ≡ 2 → ⊥) → {room : ℕ} → room ≡ 65536 → discard s room ≡ answerTo s
+  pub calls-discard : (callByte s ≡ 1 → ⊥) → (callByte s ≡ 2 → ⊥) → {room : ℕ} → room ≡ 65536 → discard s room ≡ answerTo s
   unfolding answerTo
-  calls-discard n m e = ap (discard s) e ∙ sym (rw (ne-eqb (getD s 3 0) 1 n, ne-eqb (getD s 3 0) 2 m) refl)
+  calls-discard n m e = ap (discard s) e ∙ sym (rw (ne-eqb (callByte s) 1 n, ne-eqb (callByte s) 2 m) refl)
 
 -- the lines of an answer
 module _ (a : Answer) where

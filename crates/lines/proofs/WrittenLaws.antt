@@ -5,10 +5,11 @@ use mathlib.Core.Bool.{Bool, true, false, cond}
 use mathlib.Core.List.{List}
 use native.Mathlib.Omega.{arith}
 use lib.Dec.{leb, eqb}
-use lib.ListN.{length, getD}
+use lib.ListN.{length}
 use borrow.Author.Tests.{eqb-true}
 use Rattle.wire.specs.Bytes.{Bytes}
 use Rattle.calls.specs.ChangeList.{Batch}
+use Rattle.reader.specs.Heads.{callByte}
 use Rattle.calls.specs.Answers.{place, release, discard}
 use Rattle.calls.proofs.AnswersReadBack.{Written, place-written, release-written, discard-written}
 use Rattle.lines.specs.Lines.{changeLines, refusedLine}
@@ -18,7 +19,7 @@ use Rattle.lines.proofs.LengthLaws.{lines-most, refused-most}
 -- the answer to the call that a list names
 pub answer-written : (s : List ℕ) → Bytes s → answerTo s .number ≡ 0 → (bs : List Batch) × Written (answerTo s) bs 65536
 unfolding answerTo
-answer-written s r h = go (eqb (getD s 3 0) 1) (eqb (getD s 3 0) 2) h
+answer-written s r h = go (eqb (callByte s) 1) (eqb (callByte s) 2) h
   where
     go : (p q : Bool) → cond p (place s 65536) (cond q (release s 65536 65536) (discard s 65536)) .number ≡ 0
         → (bs : List Batch) × Written (cond p (place s 65536) (cond q (release s 65536 65536) (discard s 65536))) bs 65536

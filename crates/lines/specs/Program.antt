@@ -4,15 +4,16 @@ use Prim.Native.Nat.{ℕ, _≤_}
 use mathlib.Core.Path.{_≡_}
 use mathlib.Core.List.{List, _++_}
 use mathlib.Core.Bool.{cond}
-use lib.ListN.{length, take, drop, getD}
+use lib.ListN.{length, take, drop}
 use lib.Dec.{leb, eqb}
+use Rattle.reader.specs.Heads.{callByte}
 use Rattle.calls.specs.Answers.{Answer, place, release, discard}
 use Rattle.lines.specs.Lines.{changeLines, refusedLine}
 
 -- the call that a list's call byte names; a list that names none is refused by each
 unfoldable pub answerTo : List ℕ → Answer
 answerTo s =
-    cond (eqb (getD s 3 0) 1) (place s 65536) (cond (eqb (getD s 3 0) 2) (release s 65536 65536) (discard s 65536))
+    cond (eqb (callByte s) 1) (place s 65536) (cond (eqb (callByte s) 2) (release s 65536 65536) (discard s 65536))
 
 -- an answer in a buffer: its number, its length and its bytes at the start
 pub record AnswerIn (a : Answer) (number : ℕ) (buffer : List ℕ) (written : ℕ) : Type 0 where

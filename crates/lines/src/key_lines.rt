@@ -6,9 +6,8 @@ ghost use Rattle.wire.specs.Output.{Emitted};
 ghost use Rattle.lines.specs.Lines.{line, keyWords};
 use crate::blanks;
 use crate::digits;
-use wire::bpos;
 use wire::emit;
-use wire::le;
+use wire::keys;
 
 // The line of a key of a tree, whose body of len bytes starts at a place of a list. The layout of a change list shows the bounds.
 pub fn put_key_line(
@@ -22,9 +21,9 @@ pub fn put_key_line(
     requires { ⌜ (start + len ≤ length (now s)) × (37 ≤ len) ⌝ }
     ensures { λ r. ⌜ Emitted (now (out .entry)) at (line (keyWords tree (keyOf (take len (drop start (now (s .entry))))))) (now (out .exit)) r ⌝ }
 {
-    let kind = le::le8(s, start);
-    let size = le::le32(s, start + 1);
-    let pos = bpos::read_pos(s, start + 17);
+    let kind = keys::type_at(s, start);
+    let size = keys::size_at(s, start);
+    let pos = keys::pos_at(s, start);
     let p = digits::put_decimal(out, at, tree as u64);
     let p = blanks::put_next_decimal(out, p, kind as u64);
     let p = blanks::put_next_decimal(out, p, pos.inode);

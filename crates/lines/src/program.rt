@@ -1,28 +1,17 @@
 // The work of the program: what is printed for what is read.
-ghost use mathlib.Core.Path.{_≡_};
-ghost use lib.ListN.{getD};
 ghost use Rattle.lines.specs.Program.{answerTo, AnswerIn, answerLines, bucketLines, Shown};
 use crate::change_lines;
 use crate::other_lines;
 use discard::discard as discard_call;
 use place::place as place_call;
+use reader::head;
 use release::release as release_call;
-
-// The call byte of a list, 0 where there is none.
-fn call_byte(list: &[u8]) -> u8
-    ensures { λ r. ⌜ r ≡ getD (now (list .entry)) 3 0 ⌝ }
-{
-    if list.len() < 4 {
-        return 0;
-    }
-    list[3]
-}
 
 // The answer of the call that a list names, in 65,536 bytes.
 fn answer_to(list: &[u8], change: &mut [u8; 65536], written: &mut usize) -> u32
     ensures { λ r. ⌜ AnswerIn (answerTo (now (list .entry))) r (now (change .exit)) (now (written .exit)) ⌝ }
 {
-    let call = call_byte(list);
+    let call = head::call_byte(list);
     if call == 1 {
         return place_call::place(list, change, written);
     }

@@ -169,11 +169,9 @@ module _ {t : ℕ} {s : List ℕ} {o : ℕ} (k : Kept t s o) where
   unfolding entryFrom entryOf tagAt
   bucket-stays z e = rw (eq-eqb t 64 z, ne-eqb (getD s (o - 3) 0) 75 e)
 
-  pub key-type : (t ≡ 64 → ⊥) → getD s o 0 ≡ entryFrom t s o .type
+  pub key-type : (t ≡ 64 → ⊥) → le 1 (drop o s) ≡ entryFrom t s o .type
   unfolding entryFrom entryOf
-  key-type z =
-      rw (ne-eqb t 64 z)
-      (sym (rw add-zero at (body-le s o (sizeAt s o) 1 0 (omega (arith, key-size z .0))) ∙ le-byte s o))
+  key-type z = rw (ne-eqb t 64 z) (sym (rw add-zero at (body-le s o (sizeAt s o) 1 0 (omega (arith, key-size z .0)))))
 
   -- a key as it is written: its section's tag, and the body that was read
   pub entry-field : Bytes s → fieldFor t (entryFrom t s o) ≡ fieldAt s t o (sizeAt s o)

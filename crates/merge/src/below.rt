@@ -13,6 +13,7 @@ use crate::limits;
 use wire::bpos;
 use wire::bpos::Bpos;
 use wire::emit;
+use wire::fields;
 
 // A place in the output, an index into the table of the volume's keys, and what the keys written so far weigh.
 pub struct Spot {
@@ -46,7 +47,7 @@ fn pass_below(vol: &[u8], keys: &[u32], i: usize, start: usize, weight: usize, s
             return Stretch { next, end, w };
         }
         w = limits::add(w, section, entries::type_at(vol, o, section), x);
-        end = o + entries::len_at(vol, o, section);
+        end = o + fields::len_at(vol, o);
         next += 1;
     }
     Stretch { next, end, w }

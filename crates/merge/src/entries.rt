@@ -3,13 +3,12 @@ ghost use mathlib.Core.Path.{_≡_};
 ghost use Prim.Native.Nat.{_+_, _≤_};
 ghost use lib.ListN.{length};
 ghost use Rattle.merge.specs.Entries.{isBucket, isEntry};
-ghost use Rattle.merge.specs.Places.{Kept, entryFrom, sizeAt, EntryStepped};
-use wire::bpos;
+ghost use Rattle.merge.specs.Places.{Kept, entryFrom, EntryStepped};
 use wire::bpos::Bpos;
 use wire::fields;
 use wire::fields::NextField;
+use wire::keys;
 use wire::kinds;
-use wire::le;
 use wire::positions;
 
 // What stands next of a section.
@@ -49,10 +48,7 @@ fn is_entry(section: u8, tag: u8, len: usize) -> bool
     if tag != section {
         return false;
     }
-    if len < 37 {
-        return false;
-    }
-    len <= 293
+    keys::key_sized(len)
 }
 
 // The position of the key whose body starts at o. `next_entry` and the table of a volume show that one does, here and below.
@@ -63,7 +59,7 @@ pub fn pos_at(s: &[u8], o: usize, section: u8) -> Bpos
     if section == BUCKETS {
         return positions::alloc_at(kinds::read_bucket(s, o));
     }
-    bpos::read_pos(s, o + 17)
+    keys::pos_at(s, o)
 }
 
 // Its type; a bucket that is unreserved has type 0.
@@ -72,20 +68,12 @@ pub fn type_at(s: &[u8], o: usize, section: u8) -> u8
     ensures { λ r. ⌜ r ≡ entryFrom section (now (s .entry)) o .type ⌝ }
 {
     if section == BUCKETS {
-        if s[o - 3] == 75 {
+        if fields::tag_at(s, o) == 75 {
             return 0;
         }
         return 1;
     }
-    s[o]
-}
-
-// How many bytes its body has.
-pub fn len_at(s: &[u8], o: usize, section: u8) -> usize
-    requires { ⌜ Kept section (now s) o ⌝ }
-    ensures { λ r. ⌜ r ≡ sizeAt (now (s .entry)) o ⌝ }
-{
-    le::le16(s, o - 2) as usize
+    keys::type_at(s, o)
 }
 
 // The next key of a section from a place on. The place after a key, or 0, shows the bound.

@@ -16,6 +16,7 @@ use crate::bound::Bound;
 use crate::entries;
 use crate::limits;
 use wire::emit;
+use wire::fields;
 
 // A queued key, unless it is a deletion. `refill` shows that one starts at o.
 fn put_shown(out: &mut [u8], p: usize, list: &[u8], o: usize, section: u8) -> usize
@@ -25,7 +26,7 @@ fn put_shown(out: &mut [u8], p: usize, list: &[u8], o: usize, section: u8) -> us
     if entries::type_at(list, o, section) == 0 {
         return p;
     }
-    let len = entries::len_at(list, o, section);
+    let len = fields::len_at(list, o);
     let q = emit::put_head(out, p, section, len);
     emit::put_bytes(out, q, list, o, len)
 }

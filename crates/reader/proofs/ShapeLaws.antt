@@ -1,18 +1,19 @@
 -- Which fields may stand in a list, by their tags.
 use Prim.Native.Nat.{ℕ, _+_, _≤_, _<_}
-use mathlib.Core.Path.{_≡_, refl, sym}
+use mathlib.Core.Path.{_≡_, refl, sym, ap}
 use mathlib.Core.Logic.{_⊎_, inl, inr, ⊎-elim}
 use mathlib.Core.List.{List, [], _∷_}
 use mathlib.Core.Bool.{Bool, true, false, _&&_, _||_, cond, or-false, and-true}
 use lib.ListN.{length, take, drop}
 use lib.Dec.{leb, eqb}
 use borrow.Author.Tests.{eq-eqb, eqb-true, eqb-false, leb-true, ne-eqb, le-leb}
-use lib.Seq.{drop-drop}
 use native.Mathlib.Omega.{arith}
 use Rattle.wire.specs.Numbers.{le}
-use Rattle.wire.specs.Keys.{keySized}
+use Rattle.wire.specs.Keys.{posOf, keyOf, keySized}
+use Rattle.wire.specs.declared.bpos.Bpos.{Bpos}
 use Rattle.wire.specs.Fields.{Field, fieldAt}
-use Rattle.wire.proofs.NumberLaws.{body-length, body-le, le-take}
+use Rattle.wire.proofs.KeyLaws.{pos-at}
+use Rattle.wire.proofs.NumberLaws.{body-length, le-take}
 use Rattle.calls.specs.CallList.{Shape, shaped, volumeShapes, exactly, requestShapes}
 use Rattle.calls.specs.Lists.{allOf}
 use Rattle.calls.specs.ChangeList.{changeShapes, rootListed, fieldOk}
@@ -78,11 +79,13 @@ module _ (s : List ℕ) (start len : ℕ) (fits : start + len ≤ length s) wher
   unfolding keyOk keySized
   key-missized h = simp (body-length s start len fits, h)
 
-  pub key-sized : (leb 37 len && leb len 293) ≡ true → 37 ≤ len → keyOk (take len (drop start s)) ≡ eqb (le 4 (drop (start + 33) s)) 0
+  pub key-sized :
+      (leb 37 len && leb len 293) ≡ true → 37 ≤ len → keyOk (take len (drop start s)) ≡ eqb (posOf (drop (start + 17) s) .snapshot) 0
   unfolding keyOk keySized
   key-sized h l =
-      let e : le 4 (drop 16 (drop 17 (take len (drop start s)))) ≡ le 4 (drop (start + 33) s) = rw drop-drop (body-le s start len 4 33 (omega arith)) in
-      simp (body-length s start len fits, h, e)
+      let e : eqb (keyOf (take len (drop start s)) .pos .snapshot) 0 ≡ eqb (posOf (drop (start + 17) s) .snapshot) 0 =
+      ap (λ (p : Bpos). eqb (p .snapshot) 0) (pos-at s start len l) in
+      simp (body-length s start len fits, h) e
 
   pub root-missized : (len ≡ 1 → ⊥) → rootOk (take len (drop start s)) ≡ false
   unfolding rootOk

@@ -10,6 +10,7 @@ ghost use Rattle.reader.specs.Bodies.{rootOk, changeFieldOk, tagAfter};
 use crate::keys;
 use wire::fields;
 use wire::fields::NextField;
+use wire::keys as wire_keys;
 use wire::le;
 
 // Whether a body of len bytes names a root: 10, 12 or 14. A field's length shows the bound.
@@ -46,7 +47,7 @@ fn field_ok(s: &[u8], tag: u8, start: usize, len: usize) -> bool
     ensures { λ r. ⌜ r ≡ changeFieldOk (fieldAt (now (s .entry)) tag start len) ⌝ }
 {
     match tag {
-        0 => keys::key_sized(len),
+        0 => wire_keys::key_sized(len),
         4 | 10 | 11 | 12 | 13 | 14 => keys::key_ok(s, start, len),
         70 => root_ok(s, start, len),
         71 | 75 => len == 4,

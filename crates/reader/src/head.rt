@@ -6,7 +6,7 @@ ghost use Rattle.wire.specs.Encode.{encodeField};
 ghost use Rattle.wire.specs.Output.{Wrote};
 ghost use Rattle.calls.specs.CallList.{headOf, headBody, headOk};
 ghost use Rattle.reader.specs.CallFields.{headWithin};
-ghost use Rattle.reader.specs.Heads.{headIn, headSizes};
+ghost use Rattle.reader.specs.Heads.{callByte, headIn, headSizes};
 use wire::emit;
 use wire::kinds;
 use wire::kinds::FileSector;
@@ -23,6 +23,16 @@ pub struct Head {
     pub journal: u64,
     pub inode: u64,
     pub base: FileSector,
+}
+
+// The call byte of a list, 0 where there is none.
+pub fn call_byte(s: &[u8]) -> u8
+    ensures { λ r. ⌜ r ≡ callByte (now (s .entry)) ⌝ }
+{
+    if s.len() < 4 {
+        return 0;
+    }
+    s[3]
 }
 
 // The head whose body starts at a place of a list. The length of field 1 shows the bound.

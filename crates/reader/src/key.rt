@@ -4,12 +4,11 @@ ghost use lib.ListN.{length};
 ghost use Rattle.wire.specs.Held.{held};
 ghost use Rattle.wire.specs.Positions.{bucketIn};
 ghost use Rattle.reader.specs.KeyHere.{bodyLen, valueAt, keyHere, Whole};
-use wire::bpos;
 use wire::bpos::Bpos;
+use wire::fields;
 use wire::keys;
 use wire::keys::Bkey;
 use wire::kinds::Bucket;
-use wire::le;
 use wire::positions;
 
 // How many bytes its body has.
@@ -17,7 +16,7 @@ fn body_len(s: &[u8], at: usize) -> usize
     requires { ⌜ Whole (now s) at ⌝ }
     ensures { λ r. ⌜ r ≡ bodyLen (now (s .entry)) at ⌝ }
 {
-    le::le16(s, at - 2) as usize
+    fields::len_at(s, at)
 }
 
 // The whole key.
@@ -33,7 +32,7 @@ pub fn type_at(s: &[u8], at: usize) -> u8
     requires { ⌜ Whole (now s) at ⌝ }
     ensures { λ r. ⌜ r ≡ keyHere (now (s .entry)) at .type ⌝ }
 {
-    le::le8(s, at)
+    keys::type_at(s, at)
 }
 
 // Its size.
@@ -41,7 +40,7 @@ pub fn size_at(s: &[u8], at: usize) -> u32
     requires { ⌜ Whole (now s) at ⌝ }
     ensures { λ r. ⌜ r ≡ keyHere (now (s .entry)) at .size ⌝ }
 {
-    le::le32(s, at + 1)
+    keys::size_at(s, at)
 }
 
 // Its position.
@@ -49,7 +48,7 @@ pub fn pos_at(s: &[u8], at: usize) -> Bpos
     requires { ⌜ Whole (now s) at ⌝ }
     ensures { λ r. ⌜ r ≡ keyHere (now (s .entry)) at .pos ⌝ }
 {
-    bpos::read_pos(s, at + 17)
+    keys::pos_at(s, at)
 }
 
 // The bucket that its position names.

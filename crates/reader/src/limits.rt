@@ -4,9 +4,8 @@ ghost use Prim.Native.Nat.{_+_, _≤_};
 ghost use lib.ListN.{length, drop};
 ghost use Rattle.wire.specs.Keys.{keyOf};
 ghost use Rattle.reader.specs.CallFields.{allocWithin, runWithin, waitingWithin, fieldWithin, fieldFrom, leastOf};
-use wire::bpos;
+use wire::keys;
 use wire::kinds;
-use wire::le;
 use wire::positions;
 
 // Whether an alloc key at inode 0 is of a bucket in range. A key's length shows the bound here and below.
@@ -14,7 +13,7 @@ fn alloc_within(s: &[u8], start: usize) -> bool
     requires { ⌜ start + 37 ≤ length (now s) ⌝ }
     ensures { λ r. ⌜ r ≡ allocWithin (keyOf (drop start (now (s .entry)))) ⌝ }
 {
-    let pos = bpos::read_pos(s, start + 17);
+    let pos = keys::pos_at(s, start);
     if pos.inode != 0 {
         return true;
     }
@@ -26,11 +25,11 @@ fn run_within(s: &[u8], start: usize) -> bool
     requires { ⌜ start + 37 ≤ length (now s) ⌝ }
     ensures { λ r. ⌜ r ≡ runWithin (keyOf (drop start (now (s .entry)))) ⌝ }
 {
-    let kind = le::le8(s, start);
+    let kind = keys::type_at(s, start);
     if kind != 25 {
         return true;
     }
-    let pos = bpos::read_pos(s, start + 17);
+    let pos = keys::pos_at(s, start);
     if pos.inode != 0 {
         return true;
     }
@@ -42,11 +41,11 @@ fn waiting_within(s: &[u8], start: usize) -> bool
     requires { ⌜ start + 37 ≤ length (now s) ⌝ }
     ensures { λ r. ⌜ r ≡ waitingWithin (keyOf (drop start (now (s .entry)))) ⌝ }
 {
-    let kind = le::le8(s, start);
+    let kind = keys::type_at(s, start);
     if kind != 25 {
         return true;
     }
-    wire::kinds::bucket_in_range(positions::bucket_in(bpos::read_pos(s, start + 17)))
+    wire::kinds::bucket_in_range(positions::bucket_in(keys::pos_at(s, start)))
 }
 
 // Whether a field after field 1 keeps the limits. The length that its tag asks shows the bound.

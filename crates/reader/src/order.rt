@@ -9,6 +9,7 @@ ghost use Rattle.reader.specs.CallFields.{callFieldOk, fieldFrom, leastO
 ghost use Rattle.reader.specs.CallFields as specs;
 use crate::keys;
 use wire::bpos;
+use wire::keys as wire_keys;
 use wire::kinds;
 
 // Whether a field after field 1 may stand in a call's list. A field's length shows the bound.
@@ -41,8 +42,8 @@ fn ascends(s: &[u8], tag: u8, before: usize, start: usize) -> bool
     ensures { λ r. ⌜ r ≡ specs.ascends tag (drop before (now (s .entry))) (drop start (now (s .entry))) ⌝ }
 {
     if tag <= 14 {
-        let a = bpos::read_pos(s, before + 17);
-        let b = bpos::read_pos(s, start + 17);
+        let a = wire_keys::pos_at(s, before);
+        let b = wire_keys::pos_at(s, start);
         return bpos::pos_less(a, b);
     }
     if tag == 64 {

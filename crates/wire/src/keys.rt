@@ -1,8 +1,11 @@
 // Keys with their values, held by value (bkey.rs).
 ghost use mathlib.Core.Path.{_≡_};
 ghost use Prim.Native.Nat.{_+_, _≤_};
+ghost use mathlib.Core.Bool.{_&&_};
+ghost use lib.Dec.{leb};
 ghost use lib.ListN.{length, take, drop};
-ghost use Rattle.wire.specs.Keys.{keyOf};
+ghost use Rattle.wire.specs.Numbers.{le};
+ghost use Rattle.wire.specs.Keys.{keyOf, posOf};
 ghost use Rattle.wire.specs.Held.{padded, held};
 use crate::bpos;
 use crate::bpos::Bpos;
@@ -58,4 +61,38 @@ pub fn read_key(s: &[u8], start: usize, len: usize) -> Bkey
         pos: bpos::read_pos(s, start + 17),
         value: read_value(s, start + 37, len - 37),
     }
+}
+
+// Whether a key's body may be so long: what stands before the value, and a value of at most 256 bytes.
+pub fn key_sized(len: usize) -> bool
+    ensures { λ r. ⌜ r ≡ (leb 37 len && leb len 293) ⌝ }
+{
+    if len < 37 {
+        return false;
+    }
+    len <= 293
+}
+
+// The type of the key whose body starts at a place. The length of a key's field shows the bounds, here and below.
+pub fn type_at(s: &[u8], start: usize) -> u8
+    requires { ⌜ start + 37 ≤ length (now s) ⌝ }
+    ensures { λ r. ⌜ r ≡ le 1 (drop start (now (s .entry))) ⌝ }
+{
+    le::le8(s, start)
+}
+
+// Its size.
+pub fn size_at(s: &[u8], start: usize) -> u32
+    requires { ⌜ start + 37 ≤ length (now s) ⌝ }
+    ensures { λ r. ⌜ r ≡ le 4 (drop (start + 1) (now (s .entry))) ⌝ }
+{
+    le::le32(s, start + 1)
+}
+
+// Its position.
+pub fn pos_at(s: &[u8], start: usize) -> Bpos
+    requires { ⌜ start + 37 ≤ length (now s) ⌝ }
+    ensures { λ r. ⌜ r ≡ posOf (drop (start + 17) (now (s .entry))) ⌝ }
+{
+    bpos::read_pos(s, start + 17)
 }

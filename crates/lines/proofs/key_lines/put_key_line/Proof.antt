@@ -7,20 +7,14 @@ use Rattle.lines.proofs.LineLaws.{key-line}
 use Rattle.lines.proofs.key_lines.put_key_line.Statement.{statement}
 use Rattle.lines.proofs.key_lines.put_key_line.Tie as tie
 
-le8-requires : tie.Need-le8-requires
-le8-requires c κs = search needs
+type-at-requires : tie.Need-type-at-requires
+type-at-requires c κs = search needs
 
-add-le32 : tie.Need-add-le32
-add-le32 c = search needs
+size-at-requires : tie.Need-size-at-requires
+size-at-requires c κs = search needs
 
-le32-requires : tie.Need-le32-requires
-le32-requires c κs = search needs
-
-add-read-pos : tie.Need-add-read-pos
-add-read-pos c = search needs
-
-read-pos-requires : tie.Need-read-pos-requires
-read-pos-requires c κs = search needs
+pos-at-requires : tie.Need-pos-at-requires
+pos-at-requires c κs = search needs
 
 put-decimal-requires : tie.Need-put-decimal-requires
 put-decimal-requires c κs = search needs
@@ -69,8 +63,8 @@ returns c =
     let r = c1 .before .before in
     let a = r .before .before .before .before .before in
     emitted
-    (key-line _ (a .args .tree) (a .args .start) (a .args .len) _ _ _ (a .pre .0) (a .pre .1) (r .before .before .le8 .ensures) (r .before .le32 .ensures)
-    (r .read-pos .ensures))
+    (key-line _ (a .args .tree) (a .args .start) (a .args .len) _ _ _ (a .pre .0) (a .pre .1) (r .before .before .type-at .ensures) (r .before .size-at .ensures)
+    (r .pos-at .ensures))
     (then (c1 .put-decimal .ensures)
     (then (c2 .put-next-decimal .ensures)
     (then (c3 .put-next-decimal2 .ensures)
@@ -81,11 +75,11 @@ pub put-key-line-spec : {M : Type 1} → statement M
 put-key-line-spec =
     tie.close
     (tie.spec
-    le8-requires
-    add-le32
-    le32-requires
-    add-read-pos
-    read-pos-requires
+    type-at-requires
+   
+    size-at-requires
+   
+    pos-at-requires
     put-decimal-requires
     cast-put-next-decimal
     put-next-decimal-requires

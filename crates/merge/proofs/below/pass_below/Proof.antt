@@ -5,7 +5,7 @@ use borrow.Author.Tests.{not-true, not-false}
 use denote.Ref.{now}
 use lib.ListN.{length, getD}
 use Rattle.wire.proofs.NumberLaws.{bytes-from}
-use Rattle.merge.specs.Places.{Stands}
+use Rattle.merge.specs.Places.{sizeAt, Stands}
 use Rattle.merge.proofs.PlaceLaws.{at-all}
 use Rattle.merge.proofs.MergeLaws.{Stretching, stretching-start, stretched-out, stretched-apart, stretched-stop, stretching-on}
 use Rattle.merge.proofs.below.pass_below.Statement.{statement}
@@ -70,9 +70,12 @@ add-requires : tie.Need-add-requires Inv-loop μ-loop
 add-requires c κs = tt
 
 len-at-requires : tie.Need-len-at-requires Inv-loop μ-loop
-len-at-requires c κs = here (c .before .before .before .before .before) .kept
+len-at-requires c κs =
+    let k = here (c .before .before .before .before .before) .kept in
+    (k .after, omega (arith, k .within))
 
 add-end : tie.Need-add-end Inv-loop μ-loop
+unfolding sizeAt
 add-end c = omega (arith, c .len-at .ensures, here (c .before .before .before .before .before .before) .kept .within)
 
 add-next : tie.Need-add-next Inv-loop μ-loop
@@ -82,6 +85,7 @@ loop-less : tie.Need-loop-less Inv-loop μ-loop
 loop-less c = omega arith
 
 loop-again : tie.Need-loop-again Inv-loop μ-loop
+unfolding sizeAt
 loop-again c =
     let e = c .before .before .before .before .before .before in
     let l = e .before .before .before in

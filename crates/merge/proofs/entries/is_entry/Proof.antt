@@ -1,7 +1,6 @@
 -- `is_entry` meets its contract.
 use borrow.Author.Needs.{needs}
-use borrow.Author.Tests.{eq-eqb, ne-eqb, lt-leb, le-leb}
-use mathlib.Core.Bool.{and-false}
+use borrow.Author.Tests.{eq-eqb, ne-eqb}
 use Rattle.merge.specs.Entries.{isEntry}
 use Rattle.merge.proofs.entries.is_entry.Statement.{statement}
 use Rattle.merge.proofs.entries.is_entry.Tie as tie
@@ -19,21 +18,14 @@ returns-2 c =
     let a = c .before .before .args in
     simp (ne-eqb (a .section) 64 (c .before .if1 .left), ne-eqb (a .tag) (a .section) (c .if2 .taken))
 
+key-sized-requires : tie.Need-key-sized-requires
+key-sized-requires c κs = search needs
+
 returns-3 : tie.Need-returns-3
 unfolding isEntry
 returns-3 c =
     let a = c .before .before .before .args in
-    simp (ne-eqb (a .section) 64 (c .before .before .if1 .left), lt-leb 37 (a .len) (c .if3 .taken), and-false)
-
-returns-4 : tie.Need-returns-4
-unfolding isEntry
-returns-4 c =
-    let a = c .before .before .before .args in
-    simp (
-      ne-eqb (a .section) 64 (c .before .before .if1 .left),
-      eq-eqb (a .tag) (a .section) (c .before .if2 .left),
-      le-leb 37 (a .len) (c .if3 .left),
-    )
+    simp (ne-eqb (a .section) 64 (c .before .before .if1 .left), eq-eqb (a .tag) (a .section) (c .before .if2 .left)) (c .key-sized .ensures)
 
 pub is-entry-spec : {M : Type 1} → statement M
-is-entry-spec = tie.close (tie.spec is-bucket-requires returns returns-2 returns-3 returns-4)
+is-entry-spec = tie.close (tie.spec is-bucket-requires returns returns-2 key-sized-requires returns-3)

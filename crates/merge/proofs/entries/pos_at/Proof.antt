@@ -18,15 +18,12 @@ returns c =
     let s = c .before .before .before .before in
     c .alloc-at .ensures ∙ ap allocAt (c .before .read-bucket .ensures) ∙ bucket-pos (s .pre) (c .before .before .if1 .taken)
 
-add-read-pos : tie.Need-add-read-pos
-add-read-pos c = search needs
-
-read-pos-requires : tie.Need-read-pos-requires
-read-pos-requires c κs = omega (arith, key-size (c .before .before .pre) (c .if1 .left) .1)
+pos-at-requires : tie.Need-pos-at-requires
+pos-at-requires c κs = omega (arith, key-size (c .before .before .pre) (c .if1 .left) .1)
 
 returns-2 : tie.Need-returns-2
-returns-2 c = c .read-pos .ensures ∙ key-pos (c .before .before .before .pre) (c .before .if1 .left)
+returns-2 c = c .pos-at .ensures ∙ key-pos (c .before .before .before .pre) (c .before .if1 .left)
 
 pub pos-at-spec : {M : Type 1} → statement M
 pos-at-spec =
-    tie.close (tie.spec read-bucket-requires alloc-at-requires returns add-read-pos read-pos-requires returns-2)
+    tie.close (tie.spec read-bucket-requires alloc-at-requires returns pos-at-requires returns-2)

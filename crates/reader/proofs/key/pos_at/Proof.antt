@@ -6,14 +6,11 @@ use borrow.Author.Needs.{needs}
 use Rattle.reader.proofs.key.pos_at.Statement.{statement}
 use Rattle.reader.proofs.key.pos_at.Tie as tie
 
-add-read-pos : tie.Need-add-read-pos
-add-read-pos c = search needs
-
-read-pos-requires : tie.Need-read-pos-requires
-read-pos-requires c κs = search needs
+pos-at-requires : tie.Need-pos-at-requires
+pos-at-requires c κs = search needs
 
 returns : tie.Need-returns
-returns c = c .read-pos .ensures ∙ sym (ap (λ (k : Key). k .pos) (here-at _ _ (c .before .before .pre)))
+returns c = c .pos-at .ensures ∙ sym (ap (λ (k : Key). k .pos) (here-at _ _ (c .before .before .pre)))
 
 pub pos-at-spec : {M : Type 1} → statement M
-pos-at-spec = tie.close (tie.spec add-read-pos read-pos-requires returns)
+pos-at-spec = tie.close (tie.spec pos-at-requires returns)

@@ -6,11 +6,11 @@ use borrow.Author.Needs.{needs}
 use Rattle.reader.proofs.key.type_at.Statement.{statement}
 use Rattle.reader.proofs.key.type_at.Tie as tie
 
-le8-requires : tie.Need-le8-requires
-le8-requires c κs = search needs
+type-at-requires : tie.Need-type-at-requires
+type-at-requires c κs = search needs
 
 returns : tie.Need-returns
-returns c = c .le8 .ensures ∙ sym (ap (λ (k : Key). k .type) (here-at _ _ (c .before .before .pre)))
+returns c = c .type-at .ensures ∙ sym (ap (λ (k : Key). k .type) (here-at _ _ (c .before .before .pre)))
 
 pub type-at-spec : {M : Type 1} → statement M
-type-at-spec = tie.close (tie.spec le8-requires returns)
+type-at-spec = tie.close (tie.spec type-at-requires returns)

@@ -20,17 +20,14 @@ returns c =
 long : (c : tie.Else1) → (leb 37 (c .before .before .before .args .len) && leb (c .before .before .before .args .len) 293) ≡ true
 long c = sym (c .before .key-sized .ensures) ∙ not-false _ (c .if1 .left)
 
-add-le32 : tie.Need-add-le32
-add-le32 c = search needs
-
-le32-requires : tie.Need-le32-requires
-le32-requires c κs = omega (arith, sized-least (c .before .before .before .args .len) (long c))
+pos-at-requires : tie.Need-pos-at-requires
+pos-at-requires c κs = omega (arith, sized-least (c .before .before .before .args .len) (long c))
 
 returns-2 : tie.Need-returns-2
 returns-2 c =
-    let l = long (c .before) in
-    let e = key-sized _ _ _ (c .before .before .before .before .pre) l (sized-least _ l) in
-    rw (c .le32 .ensures) (sym e)
+    let l = long (c .before .before) in
+    let e = key-sized _ _ _ (c .before .before .before .before .before .pre) l (sized-least _ l) in
+    rw (c .before .pos-at .ensures) (sym e)
 
 pub key-ok-spec : {M : Type 1} → statement M
-key-ok-spec = tie.close (tie.spec key-sized-requires returns add-le32 le32-requires returns-2)
+key-ok-spec = tie.close (tie.spec key-sized-requires returns pos-at-requires returns-2)

@@ -7,16 +7,13 @@ use Rattle.reader.proofs.OrderingLaws.{alloc-other, alloc-here}
 use Rattle.reader.proofs.limits.alloc_within.Statement.{statement}
 use Rattle.reader.proofs.limits.alloc_within.Tie as tie
 
-add-read-pos : tie.Need-add-read-pos
-add-read-pos c = search needs
-
-read-pos-requires : tie.Need-read-pos-requires
-read-pos-requires c κs = search needs
+pos-at-requires : tie.Need-pos-at-requires
+pos-at-requires c κs = search needs
 
 returns : tie.Need-returns
 returns c =
     let a = c .before .before .before .before .args in
-    alloc-other (now (a .s)) (a .start) _ (c .before .before .read-pos .ensures) (c .if1 .taken)
+    alloc-other (now (a .s)) (a .start) _ (c .before .before .pos-at .ensures) (c .if1 .taken)
 
 bucket-in-requires : tie.Need-bucket-in-requires
 bucket-in-requires c κs = search needs
@@ -28,7 +25,7 @@ returns-2 : tie.Need-returns-2
 returns-2 c =
     let a = c .before .before .before .before .before .before .args in
     c .bucket-in-range .ensures ∙ ap bucketInRange (c .before .bucket-in .ensures)
-    ∙ alloc-here (now (a .s)) (a .start) _ (c .before .before .before .before .read-pos .ensures) (c .before .before .if1 .left)
+    ∙ alloc-here (now (a .s)) (a .start) _ (c .before .before .before .before .pos-at .ensures) (c .before .before .if1 .left)
 
 pub alloc-within-spec : {M : Type 1} → statement M
-alloc-within-spec = tie.close (tie.spec add-read-pos read-pos-requires returns bucket-in-requires bucket-in-range-requires returns-2)
+alloc-within-spec = tie.close (tie.spec pos-at-requires returns bucket-in-requires bucket-in-range-requires returns-2)

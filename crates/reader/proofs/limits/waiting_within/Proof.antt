@@ -7,19 +7,16 @@ use Rattle.reader.proofs.OrderingLaws.{waiting-other, waiting-here}
 use Rattle.reader.proofs.limits.waiting_within.Statement.{statement}
 use Rattle.reader.proofs.limits.waiting_within.Tie as tie
 
-le8-requires : tie.Need-le8-requires
-le8-requires c κs = search needs
+type-at-requires : tie.Need-type-at-requires
+type-at-requires c κs = search needs
 
 returns : tie.Need-returns
 returns c =
     let a = c .before .before .before .args in
-    waiting-other (now (a .s)) (a .start) _ (c .before .le8 .ensures) (c .if1 .taken)
+    waiting-other (now (a .s)) (a .start) _ (c .before .type-at .ensures) (c .if1 .taken)
 
-add-read-pos : tie.Need-add-read-pos
-add-read-pos c = search needs
-
-read-pos-requires : tie.Need-read-pos-requires
-read-pos-requires c κs = search needs
+pos-at-requires : tie.Need-pos-at-requires
+pos-at-requires c κs = search needs
 
 bucket-in-requires : tie.Need-bucket-in-requires
 bucket-in-requires c κs = search needs
@@ -31,7 +28,7 @@ returns-2 : tie.Need-returns-2
 returns-2 c =
     let a = c .before .before .before .before .before .before .args in
     c .bucket-in-range .ensures ∙ ap bucketInRange (c .before .bucket-in .ensures)
-    ∙ waiting-here (now (a .s)) (a .start) _ (c .before .before .read-pos .ensures) _ (c .before .before .before .before .le8 .ensures) (c .before .before .before .if1 .left)
+    ∙ waiting-here (now (a .s)) (a .start) _ (c .before .before .pos-at .ensures) _ (c .before .before .before .before .type-at .ensures) (c .before .before .before .if1 .left)
 
 pub waiting-within-spec : {M : Type 1} → statement M
-waiting-within-spec = tie.close (tie.spec le8-requires returns add-read-pos read-pos-requires bucket-in-requires bucket-in-range-requires returns-2)
+waiting-within-spec = tie.close (tie.spec type-at-requires returns pos-at-requires bucket-in-requires bucket-in-range-requires returns-2)

@@ -7,17 +7,11 @@ use Rattle.reader.proofs.OrderingLaws.{least-key, least-reserved, ascen
 use Rattle.reader.proofs.order.ascends.Statement.{statement}
 use Rattle.reader.proofs.order.ascends.Tie as tie
 
-add-read-pos : tie.Need-add-read-pos
-add-read-pos c = search needs
+pos-at-requires : tie.Need-pos-at-requires
+pos-at-requires c κs = omega (arith, least-key (c .before .before .args .tag) (c .if1 .taken))
 
-read-pos-requires : tie.Need-read-pos-requires
-read-pos-requires c κs = omega (arith, least-key (c .before .before .args .tag) (c .if1 .taken))
-
-add-read-pos-2 : tie.Need-add-read-pos-2
-add-read-pos-2 c = search needs
-
-read-pos-requires-2 : tie.Need-read-pos-requires-2
-read-pos-requires-2 c κs = omega (arith, least-key (c .before .before .before .args .tag) (c .before .if1 .taken))
+pos-at-requires-2 : tie.Need-pos-at-requires-2
+pos-at-requires-2 c κs = omega (arith, least-key (c .before .before .before .args .tag) (c .before .if1 .taken))
 
 pos-less-requires : tie.Need-pos-less-requires
 pos-less-requires c κs = search needs
@@ -27,7 +21,7 @@ returns c =
     let a = c .before .before .before .before .before .args in
     c .pos-less .ensures
     ∙ ascends-keys (now (a .s)) (a .tag) (a .before) (a .start) _ _ (c .before .before .before .if1 .taken)
-    (c .before .before .read-pos .ensures) (c .before .read-pos2 .ensures)
+    (c .before .before .pos-at .ensures) (c .before .pos-at2 .ensures)
 
 read-bucket-requires : tie.Need-read-bucket-requires
 read-bucket-requires c κs = omega (arith, least-reserved (c .before .before .before .args .tag) (c .if2 .taken))
@@ -52,10 +46,10 @@ returns-3 c =
 
 pub ascends-spec : {M : Type 1} → statement M
 ascends-spec = tie.close (tie.spec
-    add-read-pos
-    read-pos-requires
-    add-read-pos-2
-    read-pos-requires-2
+   
+    pos-at-requires
+   
+    pos-at-requires-2
     pos-less-requires
     returns
     read-bucket-requires

@@ -1,7 +1,7 @@
 -- `key_sized` meets its contract.
 use borrow.Author.Tests.{le-leb, lt-leb}
-use Rattle.reader.proofs.keys.key_sized.Statement.{statement}
-use Rattle.reader.proofs.keys.key_sized.Tie as tie
+use Rattle.wire.proofs.keys.key_sized.Statement.{statement}
+use Rattle.wire.proofs.keys.key_sized.Tie as tie
 
 returns : tie.Need-returns
 returns c = simp (lt-leb _ _ (c .if1 .taken))
