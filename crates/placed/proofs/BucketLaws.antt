@@ -1,27 +1,22 @@
 -- Laws of the loops over the buckets taken, and of their dirty counts. Assumes nothing.
 use mathlib.Core.Path.{_≡_, refl, sym, ap, _∙_}
 use mathlib.Core.Bool.{Bool, true, false, cond}
-use mathlib.Core.List.{List, [], _∷_, _++_, map, flatMap, map-append}
-use Prim.Native.Nat.{ℕ, _+_, _*_, _≤_, _<_, _^_}
+use mathlib.Core.List.{List, [], _∷_}
+use Prim.Native.Nat.{ℕ, _+_, _*_, _≤_, _<_}
 use native.Mathlib.Omega.{arith}
-use native.Mathlib.Nat.{div-lt-iff-lt-mul}
 use lib.ListN.{length, drop, getD, set, length-set, List·getD-map, drop-of-length-le}
 use lib.Seq.{getD-set-same, getD-set-other}
 use lib.Dec.{eqb}
-use borrow.Author.Tests.{eq-eqb, eqb-true, lt-ltb, le-ltb}
-use Rattle.wire.specs.Fields.{Field}
+use borrow.Author.Tests.{eq-eqb, eqb-true}
 use Rattle.wire.specs.Kinds.{noBucket, sameBucket}
-use Rattle.wire.specs.Positions.{allocAt, lruAt}
-use Rattle.wire.specs.Encode.{encode}
+use Rattle.wire.specs.Positions.{allocAt}
 use Rattle.wire.specs.declared.kinds.Bucket.{Bucket}
 use Rattle.wire.proofs.OutputLaws.{drop-next}
 use Rattle.format.specs.AllocV4.{newAlloc}
-use Rattle.format.specs.Lru.{fragmentation}
 use Rattle.calls.specs.Lists.{total}
 use Rattle.calls.specs.CallList.{Volume}
 use Rattle.calls.specs.Trees.{newKey}
 use Rattle.calls.specs.Extents as calls
-use Rattle.calls.specs.Lru.{lruKeys}
 use Rattle.calls.specs.Place.{dirtyIn, newAllocKey, placedOf}
 use Rattle.calls.specs.Answers.{readCall}
 use Rattle.reader.specs.declared.head.Head.{Head}
@@ -29,8 +24,6 @@ use Rattle.placed.specs.Pieces.{bucketIs, bucketsIn}
 use Rattle.placed.specs.Plan.{Plan, Reached, Stepped, Dirty, AllocsOf, placedFrom}
 use Rattle.placed.specs.declared.placed.Cursor.{Cursor}
 use Rattle.placed.specs.declared.placed.Step.{Step}
-use Rattle.wire.proofs.EncodeLaws.{encode-append}
-use Rattle.tally.proofs.FieldLists.{fields-none}
 use Rattle.placed.proofs.StepLaws.{buckets-length, map-at}
 use Rattle.placed.proofs.WalkLaws.{first, from-first, reached-first, no-more}
 
@@ -50,28 +43,6 @@ pub alloc-key : {v : Volume} {ps : List calls.Placed} {ns gs ds : List ℕ} {jou
     → newKey 27 0 (allocAt (bucketIs (getD ns i 0))) (newAlloc journal (getD gs i 0) (getD ds i 0) clock) ≡ newAllocKey v ps (bucketIs (getD ns i 0))
 unfolding newAllocKey
 alloc-key {ns = ns} i a d h = rw (a .number, a .time, d .at i h, a .gens, map-at _ ns i h)
-
--- fields of lists, one after the other
-
-pub flat-next : {A B : Type 0} (f : B → Field) (g : A → List B) {l : List A} {x : A} {rest : List A} → l ≡ x ∷ rest
-    → encode (map f (flatMap g l)) ≡ encode (map f (g x)) ++ encode (map f (flatMap g rest))
-unfolding flatMap
-flat-next f g {x = x} {rest = rest} e =
-    ap (λ l. encode (map f (flatMap g l))) e ∙ ap encode (map-append f (g x) (flatMap g rest)) ∙ encode-append (map f (g x)) (map f (flatMap g rest))
-
-pub flat-none : {A B : Type 0} (f : B → Field) (g : A → List B) {l : List A} → l ≡ [] → encode (map f (flatMap g l)) ≡ []
-unfolding flatMap
-flat-none f g e = fields-none f (ap (flatMap g) e)
-
--- an LRU key, and none
-
-pub lru-one : {sectors dirty : ℕ} (b : Bucket) → dirty < sectors → lruKeys sectors b dirty ≡ newKey 25 0 (lruAt (fragmentation dirty sectors) b) [] ∷ []
-unfolding lruKeys
-lru-one {sectors} {dirty} b h = simp (lt-ltb dirty sectors h)
-
-pub lru-full : {sectors dirty : ℕ} (b : Bucket) → sectors ≤ dirty → lruKeys sectors b dirty ≡ []
-unfolding lruKeys
-lru-full {sectors} {dirty} b h = simp (le-ltb dirty sectors h)
 
 -- the loop that counts the dirty sectors
 
@@ -145,8 +116,3 @@ module _ {s offsets numbers generations : List ℕ} {h : Head} (plan : Plan s of
       → Dirty (placedOf (readCall s)) numbers counts
   counting-end {counts} {o} {i} q l =
       record { at = λ j m. omega (arith, rw (no-more plan i o l, dirty-none) at (q .left j m)) }
-
--- the index of a bucket that is not full
-pub index-low : (dirty sectors : ℕ) → dirty < sectors → fragmentation dirty sectors < 2 ^ 31
-unfolding fragmentation
-index-low dirty sectors h = div-lt-iff-lt-mul {k = sectors} {x = dirty * 2 ^ 31} {y = 2 ^ 31} (omega arith) .1 (omega arith)

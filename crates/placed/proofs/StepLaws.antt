@@ -30,7 +30,7 @@ use Rattle.placed.specs.Plan.{Plan, Reached, Stepped, placedFrom}
 use Rattle.reader.specs.declared.piece.Piece.{Piece}
 use Rattle.layout.specs.declared.next_fit.Slot.{Slot}
 use Rattle.placed.specs.declared.placed.Cursor.{Cursor}
-use Rattle.tally.proofs.PieceLaws.{piece-next, all-at}
+use Rattle.accounting.proofs.PieceLaws.{piece-next, all-at}
 use Rattle.layout.proofs.NextFitLaws.{fit-next, fit-high, fit-offset, fit-used}
 use Rattle.placed.proofs.LayoutLaws.{needs-first, enough-next}
 

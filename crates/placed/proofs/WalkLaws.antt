@@ -21,7 +21,7 @@ use Rattle.placed.specs.declared.placed.Cursor.{Cursor}
 use Rattle.placed.specs.declared.placed.Step.{Step}
 use Rattle.placed.proofs.StepLaws.{bucket-sectors}
 use Rattle.wire.proofs.EmitLaws.{done}
-use Rattle.tally.proofs.FieldLists.{fields-next, fields-none}
+use Rattle.change_fields.proofs.FieldLists.{fields-next, fields-none}
 
 abbrev pub first : Head → Cursor
 first h = record { index = 0; used = 0; end = h .base }

@@ -2,13 +2,14 @@
 ghost use Prim.Native.Nat.{_≤_};
 ghost use mathlib.Core.List.{List, map};
 ghost use lib.ListN.{length};
-ghost use Rattle.wire.specs.Encode.{encode, encodeField, keyField};
+ghost use Rattle.wire.specs.Encode.{encodeField, keyField};
 ghost use Rattle.wire.specs.Positions.{allocAt};
 ghost use Rattle.format.specs.AllocV4.{newAlloc};
 ghost use Rattle.calls.specs.CallList.{Volume};
 ghost use Rattle.calls.specs.Trees.{newKey};
 ghost use Rattle.calls.specs.Extents as calls;
 ghost use Rattle.calls.specs.Place.{newAllocKey};
+ghost use Rattle.change_fields.specs.FieldBytes.{keysBytes};
 ghost use Rattle.placed.specs.Pieces.{bucketsIn};
 ghost use Rattle.wire.specs.Output.{Emitted};
 ghost use Rattle.placed.specs.Plan.{Dirty, DirtyKnown, AllocsOf, AllocsKnown};
@@ -53,7 +54,7 @@ pub fn put_allocs(
 ) -> usize
     requires { ⌜ (length (now taken) ≤ length (now gens)) × (length (now taken) ≤ length (now dirty)) ⌝ }
     requires { ⌜ AllocsKnown (now taken) (now gens) journal clock × DirtyKnown (now taken) (now dirty) ⌝ }
-    ensures { λ r. ⌜ ((v : Volume) (ps : List calls.Placed) → AllocsOf v (now (taken .entry)) (now (gens .entry)) journal clock → Dirty ps (now (taken .entry)) (now (dirty .entry)) → Emitted (now (out .entry)) at (encode (map (keyField 4) (map (newAllocKey v ps) (bucketsIn (now (taken .entry)))))) (now (out .exit)) r) ⌝ }
+    ensures { λ r. ⌜ ((v : Volume) (ps : List calls.Placed) → AllocsOf v (now (taken .entry)) (now (gens .entry)) journal clock → Dirty ps (now (taken .entry)) (now (dirty .entry)) → Emitted (now (out .entry)) at (keysBytes 4 (map (newAllocKey v ps) (bucketsIn (now (taken .entry))))) (now (out .exit)) r) ⌝ }
 {
     let mut p = at;
     let mut i: usize = 0;

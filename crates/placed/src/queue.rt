@@ -1,41 +1,26 @@
 // Tree 11: what becomes of the runs that the walk took buckets from.
-ghost use mathlib.Core.List.{map};
-ghost use Rattle.wire.specs.Encode.{encode, encodeField, keyField};
+ghost use Rattle.wire.specs.Encode.{encodeField, keyField};
 ghost use Rattle.wire.specs.Output.{Emitted};
-ghost use Rattle.calls.specs.Trees.{deletion};
 ghost use Rattle.calls.specs.Freespace.{shortened};
 ghost use Rattle.calls.specs.Place.{walkOf};
 ghost use Rattle.calls.specs.Answers.{readCall};
 ghost use Rattle.reader.specs.KeyHere.{Whole, keyHere};
+ghost use Rattle.change_fields.specs.FieldBytes.{keysBytes};
 ghost use Rattle.choose.specs.Walks.{keyQueue};
 ghost use Rattle.placed.specs.Queue.{Walk};
+use change_fields::keys;
 use choose::runs;
 use reader::key;
 use wire::emit_key;
-use wire::keys::KeyHead;
 
-// The deletion of the run whose body starts at a place. The reader shows that a key stands there, here and below.
-pub fn put_deletion(out: &mut [u8], at: usize, s: &[u8], from: usize) -> usize
-    requires { ⌜ Whole (now s) from ⌝ }
-    ensures { λ r. ⌜ Emitted (now (out .entry)) at (encodeField (keyField 11 (deletion (keyHere (now (s .entry)) from .pos)))) (now (out .exit)) r ⌝ }
-{
-    let head = KeyHead {
-        key_type: 0,
-        size: 0,
-        version_hi: 0,
-        version_lo: 0,
-        pos: key::pos_at(s, from),
-    };
-    emit_key::put_bare_key(out, at, 11, head)
-}
-
-// The run whose body starts at a place, with so many buckets left: deleted where that is none, else shortened, its versions and value kept.
+// The run whose body starts at a place, with so many buckets left: deleted where that is none, else shortened, its versions and value kept. The reader shows
+// that a key stands there, here and below.
 pub fn put_shortened(out: &mut [u8], at: usize, s: &[u8], from: usize, left: u32) -> usize
     requires { ⌜ Whole (now s) from ⌝ }
     ensures { λ r. ⌜ Emitted (now (out .entry)) at (encodeField (keyField 11 (shortened (keyHere (now (s .entry)) from) left))) (now (out .exit)) r ⌝ }
 {
     if left == 0 {
-        return put_deletion(out, at, s, from);
+        return keys::put_deletion(out, at, 11, key::pos_at(s, from));
     }
     let mut k = key::key_at(s, from);
     k.size = left;
@@ -45,7 +30,7 @@ pub fn put_shortened(out: &mut [u8], at: usize, s: &[u8], from: usize, left: u32
 // A key that the walk passed, with so many buckets left; one that is no run is left out.
 pub fn put_passed(out: &mut [u8], at: usize, s: &[u8], from: usize, left: u32) -> usize
     requires { ⌜ Whole (now s) from ⌝ }
-    ensures { λ r. ⌜ Emitted (now (out .entry)) at (encode (map (keyField 11) (keyQueue (keyHere (now (s .entry)) from) left))) (now (out .exit)) r ⌝ }
+    ensures { λ r. ⌜ Emitted (now (out .entry)) at (keysBytes 11 (keyQueue (keyHere (now (s .entry)) from) left)) (now (out .exit)) r ⌝ }
 {
     if !runs::is_run(s, from) {
         return at;
@@ -63,7 +48,7 @@ pub fn put_queue(
     left: u32,
 ) -> usize
     requires { ⌜ Walk (now s) (now runs) passed left ⌝ }
-    ensures { λ r. ⌜ Emitted (now (out .entry)) at (encode (map (keyField 11) (walkOf (readCall (now (s .entry))) .queue))) (now (out .exit)) r ⌝ }
+    ensures { λ r. ⌜ Emitted (now (out .entry)) at (keysBytes 11 (walkOf (readCall (now (s .entry))) .queue)) (now (out .exit)) r ⌝ }
 {
     if passed == 0 {
         return at;

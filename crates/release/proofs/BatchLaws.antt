@@ -9,6 +9,7 @@ use lib.ListN.{length, getD, length-map}
 use lib.Dec.{eqb}
 use borrow.Author.Tests.{eq-eqb, ne-eqb}
 use Rattle.wire.specs.Encode.{encode, encodeField}
+use Rattle.wire.specs.Rows.{rowField}
 use Rattle.wire.specs.Kinds.{sameBucket, bucketBelow}
 use Rattle.wire.specs.Positions.{backpointerAt}
 use Rattle.wire.specs.declared.kinds.Bucket.{Bucket}
@@ -33,9 +34,9 @@ use Rattle.freed.specs.Freeds.{freedsIn, Checked}
 use Rattle.freed.specs.Summing.{Sums, sumOf, summedBuckets, Listed}
 use Rattle.freed.proofs.FoundLaws.{freed-up, found-freed}
 use Rattle.shares.specs.Counting.{keptOf, lostOf}
-use Rattle.shares.specs.FieldBytes.{keysBytes, rowsBytes, rootsBytes}
+use Rattle.change_fields.specs.FieldBytes.{keysBytes, rootsBytes}
 use Rattle.shares.specs.Buckets.{bucketsIn}
-use Rattle.shares.specs.Tables.{Passed, PassedIn}
+use Rattle.shares.specs.Tables.{Passed, PassedIn, PassedAt}
 use Rattle.release.specs.Outcomes.{Drafted}
 
 -- ---- the batch
@@ -55,9 +56,9 @@ module _ (v : Volume) (rs : List Freed) where
       ++ keysBytes 13 (map (λ r. deletion (backpointerAt (r .first))) rs)
       ++ keysBytes 14 (gensQueued (emptiedGen (v .trees)) (v .trees .gens) gone)
       ++ rootsBytes (rootsIf (not (eqb (length gone) 0) && rootMissing (v .head .roots) 1) 12 ++ rootsIf (not (eqb (length gone) 0) && rootMissing (v .head .roots) 2) 14)
-      ++ rowsBytes (releaseRows v rs all gone)
+      ++ encode (map rowField (releaseRows v rs all gone))
       ++ encodeField endField
-  unfolding batchFields releaseBatch treeFields keysBytes rootsBytes rowsBytes
+  unfolding batchFields releaseBatch treeFields
   batch-bytes gone e =
       rw (← e, ← empty-is gone)
       (simp (encode-append, append-nil, encode-one))
@@ -88,11 +89,14 @@ module _ {s : List ℕ} {h : Head} {requests buckets amounts places records gone
   pub sectors-are : d .laid .volume .head .bucketSectors ≡ h .bucketSectors
   sectors-are = ap (λ (x : Head). x .bucketSectors) (d .laid .head)
 
-  pub draft-pass : Passed s buckets amounts places
+  abbrev draft-pass : Passed s buckets amounts places
   draft-pass = record { volume = d .laid .volume; requests = rs; tabled = d .laid .tabled; passed = d .passed }
 
   pub draft-in : PassedIn s (h .bucketSectors) buckets amounts places
-  draft-in = record { pass = record { volume = d .laid .volume; requests = rs; tabled = d .laid .tabled; passed = d .passed }; size = sectors-are }
+  draft-in = record { pass = draft-pass; size = sectors-are }
+
+  pub draft-at : PassedAt s (h .journal) buckets amounts places
+  draft-at = record { pass = draft-pass; number = ap (λ (x : Head). x .journal) (d .laid .head) }
 
   pub draft-checked : h .bucketSectors < 65536 → Checked s requests
   draft-checked l = record { size = h .bucketSectors; some-sectors = d .laid .summed .some-sectors; small = l; ok = d .laid .summed .checked }
@@ -118,9 +122,6 @@ module _ {s : List ℕ} {h : Head} {requests buckets amounts places records gone
         those-length (isEmptied (d .laid .volume) rs) (bucketsIn buckets),
         draft-few,
       )
-
-  pub gone-aged : length ages ≡ length gone
-  gone-aged = ap length (d .aged) ∙ length-map (bucketsIn gone) (emptiedGen (d .laid .volume .trees)) ∙ length-map gone bucket
 
   -- as the tree's part of the batch has them
   pub gone-are : bucketsIn gone ≡ those (isEmptied (d .laid .volume) rs) (freedBuckets (d .laid .volume .head .bucketSectors) rs)

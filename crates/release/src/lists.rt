@@ -17,6 +17,8 @@ ghost use Rattle.freed.specs.Freeds.{freedsIn, Requested};
 ghost use Rattle.freed.specs.Summing.{Cleared, Listed};
 ghost use Rattle.shares.specs.Places.{Keyed};
 ghost use Rattle.release.specs.Outcomes.{volumeOf, Summed, Laid, Drafted, bucketTests};
+use accounting::release_rows;
+use change_fields::end;
 use freed::requests;
 use freed::sums;
 use gens::records;
@@ -29,7 +31,6 @@ use shares::lru_keys;
 use shares::queued;
 use shares::refusals;
 use shares::roots;
-use shares::user_rows;
 
 // The one batch of a release. The refusals and the tables show what is required, here and below.
 fn free_and_cut(
@@ -57,8 +58,8 @@ fn free_and_cut(
     let p = bare::put_backpointers(s, requests, out, p);
     let p = queued::put_gens(s, records, gone, ages, out, p);
     let p = roots::put_roots(gone.len(), h.roots, out, p);
-    let p = user_rows::put_rows(gone.len() as u64, total, u.kept, u.lost, out, p);
-    roots::put_end(out, p)
+    let p = release_rows::put_rows(out, p, gone.len() as u64, total, u.kept, u.lost);
+    end::put_end(out, p)
 }
 
 // How long it is: a run into one byte tells it.

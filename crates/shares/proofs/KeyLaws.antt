@@ -3,19 +3,18 @@ use mathlib.Core.Path.{_≡_, sym, ap, _∙_}
 use mathlib.Core.Bool.{Bool, true, false, cond}
 use mathlib.Core.List.{List, [], _∷_, _++_, append-nil}
 use mathlib.Core.Option.{some}
-use Prim.Native.Nat.{ℕ, _-_, _*_, _/_, _^_, _≤_, _<_}
+use Prim.Native.Nat.{ℕ, _-_, _^_, _<_}
 use native.Mathlib.Nat.{div-lt-iff-lt-mul}
 use native.Mathlib.Omega.{arith}
 use lib.ListN.{drop}
-use lib.Dec.{ltb, eqb}
-use borrow.Author.Tests.{lt-ltb, le-ltb, eq-eqb, ne-eqb}
+use lib.Dec.{eqb}
+use borrow.Author.Tests.{eq-eqb, ne-eqb}
 use Rattle.wire.specs.Keys.{Key}
-use Rattle.wire.specs.Encode.{encodeField, keyField}
+use Rattle.wire.specs.Encode.{keyField}
 use Rattle.wire.specs.Positions.{allocAt, needDiscardAt}
 use Rattle.wire.specs.declared.bpos.Bpos.{Bpos}
 use Rattle.wire.specs.declared.kinds.Bucket.{Bucket}
 use Rattle.format.specs.Packing.{get}
-use Rattle.format.specs.Lru.{fragmentation}
 use Rattle.format.specs.AllocV4.{gen, withDirty, emptied, nextGen}
 use Rattle.calls.specs.CallList.{Volume, Freed}
 use Rattle.calls.specs.Lists.{those}
@@ -25,11 +24,11 @@ use Rattle.calls.specs.Trees.{lookup, newKey, withValue}
 use Rattle.calls.proofs.View.{bucket}
 use Rattle.reader.specs.KeyHere.{valueAt, keyHere}
 use Rattle.freed.proofs.FreedLaws.{Within}
-use Rattle.shares.specs.FieldBytes.{keysBytes}
+use Rattle.change_fields.specs.FieldBytes.{keysBytes}
 use Rattle.shares.specs.Shares.{shareOf}
 use Rattle.shares.specs.declared.shares.Share.{Share}
 use Rattle.shares.specs.Tables.{ShareAt}
-use Rattle.shares.proofs.FieldBytesLaws.{keys-append, keys-one, keys-none}
+use Rattle.change_fields.proofs.FieldLists.{fields-append}
 use Rattle.shares.proofs.PlaceLaws.{place-some, member-there}
 use Rattle.shares.proofs.RefusalLaws.{value-is}
 use Rattle.shares.proofs.ShareLaws.{Ready}
@@ -81,22 +80,11 @@ unfolding needDiscardKey
 wait-is journal b pos e = ap (λ (p : Bpos). newKey 25 0 p []) e
 
 -- ---- LRU keys
-pub lru-none : (dirty sectors : ℕ) (ks : List Key) → sectors ≤ dirty → keysBytes 10 (cond (ltb dirty sectors) ks []) ≡ []
-lru-none dirty sectors ks h = rw (le-ltb dirty sectors h) (keys-none 10)
-
-pub lru-some : (dirty sectors : ℕ) (k : Key) → dirty < sectors → keysBytes 10 (cond (ltb dirty sectors) (k ∷ []) []) ≡ encodeField (keyField 10 k)
-lru-some dirty sectors k h = rw (lt-ltb dirty sectors h) (keys-one 10 k)
-
--- the index of a bucket that is not full
-pub index-low : (dirty sectors : ℕ) → 0 < sectors → dirty < sectors → fragmentation dirty sectors < 2 ^ 61
-unfolding fragmentation
-index-low dirty sectors h l = let q : dirty * 2 ^ 31 / sectors < 2 ^ 31 = div-lt-iff-lt-mul h .1 (omega arith) in omega arith
-
 pub share-gone : (ds ks : List Key) (f o : ℕ) → f ≡ o → keysBytes 10 (ds ++ cond (eqb f o) [] ks) ≡ keysBytes 10 ds
 share-gone ds ks f o e = rw (eq-eqb f o e, append-nil ds)
 
 pub share-kept : (ds ks : List Key) (f o : ℕ) → (f ≡ o → ⊥) → keysBytes 10 (ds ++ cond (eqb f o) [] ks) ≡ keysBytes 10 ds ++ keysBytes 10 ks
-share-kept ds ks f o e = rw (ne-eqb f o e) (keys-append 10 ds ks)
+share-kept ds ks f o e = rw (ne-eqb f o e) (fields-append (keyField 10) ds ks)
 
 -- ---- those of which a test holds
 module _ {A : Type 0} (t : A → Bool) where

@@ -5,7 +5,7 @@ use mathlib.Core.List.{List, [], _∷_, _++_, map}
 use mathlib.Core.Option.{some}
 use Prim.Native.Nat.{ℕ, zero, suc, _+_, _/_, _≤_, _<_}
 use native.Mathlib.Omega.{arith}
-use lib.ListN.{length, getD, drop}
+use lib.ListN.{length, getD, drop, length-map}
 use lib.Dec.{eqb}
 use borrow.Author.Tests.{eqb-true, eqb-false, eq-eqb, ne-eqb}
 use Rattle.wire.specs.Keys.{Key}
@@ -31,11 +31,11 @@ use Rattle.calls.proofs.GensLaws.{key-is}
 use Rattle.calls.proofs.View.{bucket}
 use Rattle.reader.specs.KeyHere.{keyHere}
 use Rattle.gens.specs.Records.{recordAt}
-use Rattle.shares.specs.FieldBytes.{keysBytes}
+use Rattle.change_fields.specs.FieldBytes.{keysBytes}
 use Rattle.shares.specs.Buckets.{bucketsIn}
-use Rattle.shares.specs.Queueing.{continued, Next}
+use Rattle.shares.specs.Queueing.{Aged, continued, Next}
 use Rattle.shares.specs.declared.queued.Queued.{Queued}
-use Rattle.shares.proofs.FieldBytesLaws.{keys-append, keys-one, keys-none}
+use Rattle.change_fields.proofs.FieldLists.{fields-next, fields-none}
 use Rattle.shares.proofs.AllocLaws.{order-at}
 use Rattle.shares.proofs.ShareLaws.{buckets-next, buckets-none}
 
@@ -95,10 +95,8 @@ queue-starts gens age gone out at last h e =
 queue-next : (age : Bucket → ℕ) (records : List Key) {l : List Bucket} {b : Bucket} {rest : List Bucket} → l ≡ b ∷ rest
     → keysBytes 14 (gensQueued age records l) ≡ encodeField (keyField 14 (genQueued records b (age b))) ++ keysBytes 14 (gensQueued age (genQueued records b (age b) ∷ records) rest)
 unfolding gensQueued
-queue-next age records {b = b} {rest = rest} e =
-    ap (λ (l : List Bucket). keysBytes 14 (gensQueued age records l)) e
-    ∙ keys-append 14 (genQueued records b (age b) ∷ []) (gensQueued age (genQueued records b (age b) ∷ records) rest)
-    ∙ ap (λ (x : List ℕ). x ++ keysBytes 14 (gensQueued age (genQueued records b (age b) ∷ records) rest)) (keys-one 14 (genQueued records b (age b)))
+queue-next age records e =
+    fields-next (keyField 14) (ap (gensQueued age records) e)
 
 module _ {gens : List Key} {age : Bucket → ℕ} {gone out₀ out : List ℕ} {at p k : ℕ} {last : Queued} (q : Queue gens age gone out₀ out at p k last)
     (o : inOrder bucketBelow (bucketsIn gone) ≡ true) (h : k < length gone) where
@@ -142,6 +140,10 @@ module _ {gens : List Key} {age : Bucket → ℕ} {gone out₀ out : List ℕ} {
           ∙ q .continues j (omega arith) m
           ∙ rw (ne-eqb (last .after) (getD gone j 0 / 256 + 1) u)
 
+-- as many generations as buckets
+pub aged-count : {ages gone : List ℕ} → Aged ages gone → length ages ≡ length gone
+aged-count {gone = gone} a = ap length (a .are) ∙ length-map (bucketsIn gone) (a .age) ∙ length-map gone bucket
+
 -- the generation at an index
 pub age-at : (ages gone : List ℕ) (age : Bucket → ℕ) (k : ℕ) → k < length gone → ages ≡ map age (bucketsIn gone) → getD ages k 0 ≡ age (bucket (getD gone k 0))
 age-at ages gone age k h e = ap (λ (l : List ℕ). getD l k 0) e ∙ go gone k h
@@ -155,4 +157,4 @@ pub queue-ends : {gens : List Key} {age : Bucket → ℕ} {gone out₀ out : Lis
     → length gone ≤ k → Emitted out₀ at (keysBytes 14 (gensQueued age gens (bucketsIn gone))) out p
 unfolding gensQueued
 queue-ends {age = age} {gone} {k = k} q h =
-    done (q .part) (ap (λ (l : List Bucket). keysBytes 14 (gensQueued age (q .records) l)) (buckets-none gone k h) ∙ keys-none 14)
+    done (q .part) (fields-none (keyField 14) (ap (gensQueued age (q .records)) (buckets-none gone k h)))

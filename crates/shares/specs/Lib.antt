@@ -3,6 +3,5 @@ pub mod Buckets
 pub mod Skipping
 pub mod Tables
 pub mod Shares
-pub mod FieldBytes
 pub mod Queueing
 pub mod Counting

@@ -14,8 +14,3 @@ Keyed s places = KeysAt s places (keysHere s places)
 pub data PlaceOf (s : List ℕ) : ℕ → Option Key → Type 0 where
   missing : PlaceOf s 0 none
   found : {at : ℕ} {k : Key} → KeyAt s at k → PlaceOf s at (some k)
-
--- a place has a key, or is 0
-pub record Standing (s : List ℕ) (at : ℕ) : Type 0 where
-  pub key : Option Key
-  pub is : PlaceOf s at key

@@ -2,7 +2,7 @@
 use mathlib.Core.Path.{_≡_}
 use Prim.Native.Nat.{ℕ, _+_}
 use mathlib.Core.Bool.{cond}
-use mathlib.Core.List.{List}
+use mathlib.Core.List.{List, map}
 use lib.Dec.{eqb}
 use Rattle.wire.specs.Keys.{Key}
 use Rattle.wire.specs.Held.{keyIn}
@@ -11,6 +11,7 @@ use Rattle.wire.specs.declared.kinds.Bucket.{Bucket}
 use Rattle.format.specs.Gens.{withGen}
 use Rattle.calls.specs.Generations.{genKey}
 use Rattle.calls.specs.Trees.{withValue}
+use Rattle.shares.specs.Buckets.{bucketsIn}
 use Rattle.shares.specs.declared.queued.Queued.{Queued}
 
 -- the record that a bucket's continues: the last one queued, or the one of the tree
@@ -21,3 +22,8 @@ continued gens last b = cond (eqb (last .after) (gensAt b .offset + 1)) (keyIn (
 pub record Next (gens : List Key) (last : Queued) (b : Bucket) (generation : ℕ) (r : Queued) : Type 0 where
   pub after : r .after ≡ gensAt b .offset + 1
   pub key : keyIn (r .key) ≡ withValue (continued gens last b) (withGen b generation (continued gens last b .value))
+
+-- the generations of these buckets, by some function
+pub record Aged (ages gone : List ℕ) : Type 0 where
+  pub age : Bucket → ℕ
+  pub are : ages ≡ map age (bucketsIn gone)

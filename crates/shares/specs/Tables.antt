@@ -31,12 +31,21 @@ pub record Tabled (s : List ℕ) (v : Volume) (rs : List Freed) (buckets amounts
   pub keys : length places ≡ length buckets
   pub at : (i : ℕ) → i < length buckets → ShareAt s v rs (getD buckets i 0) (getD amounts i 0) (getD places i 0)
 
--- they hold those of some volume and requests
-pub record Known (s buckets amounts places records : List ℕ) : Type 0 where
+-- they hold those of some volume and requests, with so many sectors to a bucket, and its generation records
+pub record Known (s : List ℕ) (sectors : ℕ) (buckets amounts places records : List ℕ) : Type 0 where
   pub volume : Volume
   pub requests : List Freed
   pub tabled : Tabled s volume requests buckets amounts places
   pub recorded : RecordsFound s (volume .trees .gens) records
+  pub size : volume .head .bucketSectors ≡ sectors
+
+-- the same of one freed bucket
+pub record KnownAt (s : List ℕ) (sectors b amount place : ℕ) (records : List ℕ) : Type 0 where
+  pub volume : Volume
+  pub requests : List Freed
+  pub shared : ShareAt s volume requests b amount place
+  pub recorded : RecordsFound s (volume .trees .gens) records
+  pub size : volume .head .bucketSectors ≡ sectors
 
 -- those of some volume and requests that no bucket refuses
 pub record Passed (s buckets amounts places : List ℕ) : Type 0 where
@@ -49,3 +58,8 @@ pub record Passed (s buckets amounts places : List ℕ) : Type 0 where
 pub record PassedIn (s : List ℕ) (sectors : ℕ) (buckets amounts places : List ℕ) : Type 0 where
   pub pass : Passed s buckets amounts places
   pub size : pass .volume .head .bucketSectors ≡ sectors
+
+-- where the journal has this number
+pub record PassedAt (s : List ℕ) (journal : ℕ) (buckets amounts places : List ℕ) : Type 0 where
+  pub pass : Passed s buckets amounts places
+  pub number : pass .volume .head .journal ≡ journal

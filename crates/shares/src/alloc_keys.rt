@@ -12,30 +12,15 @@ ghost use Rattle.calls.specs.CallList.{Volume, Freed};
 ghost use Rattle.calls.specs.Release.{freedBuckets, releasedKey};
 ghost use Rattle.calls.specs.Trees.{withValue};
 ghost use Rattle.reader.specs.KeyHere.{keyHere, Whole};
-ghost use Rattle.shares.specs.FieldBytes.{keysBytes};
-ghost use Rattle.shares.specs.Tables.{Tabled, Passed};
+ghost use Rattle.change_fields.specs.FieldBytes.{keysBytes};
+ghost use Rattle.shares.specs.Tables.{Tabled, PassedAt};
 use crate::shares;
 use crate::shares::Share;
+use change_fields::keys;
 use format::alloc;
 use reader::key;
 use wire::emit_key;
 use wire::keys::Bkey;
-use wire::keys::Value;
-
-// A key with another value.
-pub fn with_value(k: Bkey, value: Value) -> Bkey
-    ensures { λ r. ⌜ (r .value ≡ value) × (keyIn r ≡ withValue (keyIn k) (valueIn value)) ⌝ }
-{
-    let pos = k.pos;
-    Bkey {
-        key_type: k.key_type,
-        size: k.size,
-        version_hi: k.version_hi,
-        version_lo: k.version_lo,
-        pos,
-        value,
-    }
-}
 
 // The alloc key of a bucket that is emptied. Refusal 16 shows the length, here and below.
 fn empty_bucket(k: Bkey, journal: u64) -> Bkey
@@ -43,7 +28,7 @@ fn empty_bucket(k: Bkey, journal: u64) -> Bkey
     ensures { λ r. ⌜ (r .value .len ≤ 256) × (keyIn r ≡ withValue (keyIn k) (emptied journal (valueIn (k .value)))) ⌝ }
 {
     let value = k.value;
-    with_value(k, alloc::emptied(value, journal))
+    keys::with_value(k, alloc::emptied(value, journal))
 }
 
 // The alloc key of a bucket of which a part is freed.
@@ -52,7 +37,7 @@ fn free_part(k: Bkey, left: u32) -> Bkey
     ensures { λ r. ⌜ (r .value .len ≤ 256) × (keyIn r ≡ withValue (keyIn k) (withDirty left (valueIn (k .value)))) ⌝ }
 {
     let value = k.value;
-    with_value(k, alloc::with_dirty(value, left))
+    keys::with_value(k, alloc::with_dirty(value, left))
 }
 
 // The alloc key at a place after a share of its bucket is freed. Refusal 18 shows that it holds what is freed.
@@ -77,7 +62,7 @@ pub fn put_allocs(
     out: &mut [u8],
     at: usize,
 ) -> usize
-    requires { ⌜ Passed (now s) (now buckets) (now amounts) (now places) ⌝ }
+    requires { ⌜ PassedAt (now s) journal (now buckets) (now amounts) (now places) ⌝ }
     ensures { λ r. ⌜ ((v : Volume) (rs : List Freed) → Tabled (now (s .entry)) v rs (now (buckets .entry)) (now (amounts .entry)) (now (places .entry)) → v .head .journal ≡ journal → Emitted (now (out .entry)) at (keysBytes 4 (map (releasedKey v rs) (freedBuckets (v .head .bucketSectors) rs))) (now (out .exit)) r) ⌝ }
 {
     let mut p = at;

@@ -1,38 +1,17 @@
 // Keys without a value.
-ghost use mathlib.Core.List.{[], map};
+ghost use mathlib.Core.List.{map};
 ghost use Prim.Native.Nat.{_<_};
-ghost use Rattle.wire.specs.Output.{Wrote, Emitted};
-ghost use Rattle.wire.specs.Encode.{encodeField, keyField};
+ghost use Rattle.wire.specs.Output.{Emitted};
 ghost use Rattle.wire.specs.Positions.{backpointerAt};
-ghost use Rattle.calls.specs.Trees.{newKey, deletion};
+ghost use Rattle.calls.specs.Trees.{deletion};
 ghost use Rattle.calls.specs.Lru.{needDiscardKey};
 ghost use Rattle.freed.specs.Freeds.{freedsIn, Requested, Checked};
 ghost use Rattle.shares.specs.Buckets.{bucketsIn};
-ghost use Rattle.shares.specs.FieldBytes.{keysBytes};
+ghost use Rattle.change_fields.specs.FieldBytes.{keysBytes};
+use change_fields::keys;
 use freed::requests;
-use wire::bpos::Bpos;
-use wire::emit_key;
-use wire::keys::KeyHead;
 use wire::kinds::Bucket;
 use wire::positions;
-
-// A new key without a value, or a deletion.
-pub fn put_bare_key(out: &mut [u8], at: usize, tree: u8, ty: u8, pos: Bpos) -> usize
-    ensures { λ r. ⌜ Wrote (now (out .entry)) at 40 (encodeField (keyField tree (newKey ty 0 pos []))) (now (out .exit)) r ⌝ }
-{
-    emit_key::put_bare_key(
-        out,
-        at,
-        tree,
-        KeyHead {
-            key_type: ty,
-            size: 0,
-            version_hi: 0,
-            version_lo: 0,
-            pos,
-        },
-    )
-}
 
 // Tree 12: a key for each emptied bucket.
 pub fn put_need_discards(journal: u64, gone: &[u32], out: &mut [u8], at: usize) -> usize
@@ -42,7 +21,7 @@ pub fn put_need_discards(journal: u64, gone: &[u32], out: &mut [u8], at: usize) 
     let mut k: usize = 0;
     while k < gone.len() {
         let pos = positions::need_discard_at(journal, Bucket(gone[k] as u64));
-        p = put_bare_key(out, p, 12, 25, pos);
+        p = keys::put_new_key(out, p, 12, 25, 0, pos);
         k += 1;
     }
     p
@@ -58,7 +37,7 @@ pub fn put_backpointers(s: &[u8], requests: &[u32], out: &mut [u8], at: usize) -
     while i < requests.len() {
         let r = requests::freed_at(s, requests, i);
         let first = r.first;
-        p = put_bare_key(out, p, 13, 0, positions::backpointer_at(first));
+        p = keys::put_deletion(out, p, 13, positions::backpointer_at(first));
         i += 1;
     }
     p

@@ -1,4 +1,4 @@
-// Each freed bucket's share of a release: the tests of it, its keys and rows; and empty_bucket.
+// Each freed bucket's share of a release: the tests of it, its keys, what its rows count; and empty_bucket.
 pub mod alloc_keys;
 pub mod allocs;
 pub mod bare;
@@ -9,4 +9,3 @@ pub mod queued;
 pub mod refusals;
 pub mod roots;
 pub mod shares;
-pub mod user_rows;

@@ -16,10 +16,10 @@ ghost use Rattle.calls.specs.Generations.{genKey};
 ghost use Rattle.calls.specs.Release.{gensQueued};
 ghost use Rattle.calls.specs.Trees.{newKey, withValue};
 ghost use Rattle.gens.specs.Records.{Recorded, RecordsFound};
-ghost use Rattle.shares.specs.FieldBytes.{keysBytes};
+ghost use Rattle.change_fields.specs.FieldBytes.{keysBytes};
 ghost use Rattle.shares.specs.Buckets.{bucketsIn};
-ghost use Rattle.shares.specs.Queueing.{Next};
-use crate::alloc_keys;
+ghost use Rattle.shares.specs.Queueing.{Aged, Next};
+use change_fields::keys;
 use gens::records;
 use reader::key;
 use wire::emit_key;
@@ -68,7 +68,7 @@ fn aged(k: Bkey, b: Bucket, generation: u8) -> Bkey
     if value.len <= positions::gens_byte(b) {
         return k;
     }
-    alloc_keys::with_value(k, format::gens::with_gen(value, b, generation))
+    keys::with_value(k, format::gens::with_gen(value, b, generation))
 }
 
 // The record of the next emptied bucket: the last one continued, or the one before this release.
@@ -100,7 +100,7 @@ pub fn put_gens(
     out: &mut [u8],
     at: usize,
 ) -> usize
-    requires { ⌜ Recorded (now s) (now records) × (length (now ages) ≡ length (now gone)) × ((j : ℕ) → j < length (now gone) → getD (now gone) j 0 < 65536) × (inOrder bucketBelow (bucketsIn (now gone)) ≡ true) ⌝ }
+    requires { ⌜ Recorded (now s) (now records) × Aged (now ages) (now gone) × ((j : ℕ) → j < length (now gone) → getD (now gone) j 0 < 65536) × (inOrder bucketBelow (bucketsIn (now gone)) ≡ true) ⌝ }
     ensures { λ r. ⌜ ((gens : List Key) (age : kinds.Bucket → ℕ) → RecordsFound (now (s .entry)) gens (now (records .entry)) → now (ages .entry) ≡ map age (bucketsIn (now (gone .entry))) → Emitted (now (out .entry)) at (keysBytes 14 (gensQueued age gens (bucketsIn (now (gone .entry))))) (now (out .exit)) r) ⌝ }
 {
     let mut p = at;

@@ -5,9 +5,8 @@ ghost use Prim.Native.Nat.{_<_};
 ghost use Rattle.calls.specs.CallList.{Volume, Freed};
 ghost use Rattle.calls.specs.Refusals.{verdict};
 ghost use Rattle.calls.specs.Release.{freedBuckets, bucketRefusal};
-ghost use Rattle.gens.specs.Records.{Recorded, RecordsFound};
-ghost use Rattle.shares.specs.Places.{Standing};
-ghost use Rattle.shares.specs.Tables.{ShareAt, Tabled, Known};
+ghost use Rattle.gens.specs.Records.{RecordsFound};
+ghost use Rattle.shares.specs.Tables.{ShareAt, KnownAt, Tabled, Known};
 use format::alloc;
 use gens::lookup;
 use reader::key;
@@ -22,7 +21,7 @@ fn bucket_refusal(
     amount: u32,
     place: usize,
 ) -> u32
-    requires { ⌜ Recorded (now s) (now records) × Standing (now s) place × (b .0 < 65536) ⌝ }
+    requires { ⌜ KnownAt (now s) sectors (b .0) amount place (now records) ⌝ }
     ensures { λ r. ⌜ ((v : Volume) (rs : List Freed) → ShareAt (now (s .entry)) v rs (b .0) amount place → RecordsFound (now (s .entry)) (v .trees .gens) (now (records .entry)) → v .head .bucketSectors ≡ sectors → r ≡ bucketRefusal v rs b) ⌝ }
 {
     if place == 0 {
@@ -55,7 +54,7 @@ pub fn refuse(
     places: &[u32],
     records: &[u32],
 ) -> u32
-    requires { ⌜ Known (now s) (now buckets) (now amounts) (now places) (now records) ⌝ }
+    requires { ⌜ Known (now s) sectors (now buckets) (now amounts) (now places) (now records) ⌝ }
     ensures { λ r. ⌜ ((v : Volume) (rs : List Freed) → Tabled (now (s .entry)) v rs (now (buckets .entry)) (now (amounts .entry)) (now (places .entry)) → RecordsFound (now (s .entry)) (v .trees .gens) (now (records .entry)) → v .head .bucketSectors ≡ sectors → r ≡ verdict (map (bucketRefusal v rs) (freedBuckets sectors rs))) ⌝ }
 {
     let mut k: usize = 0;

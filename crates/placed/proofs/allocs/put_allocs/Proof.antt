@@ -12,7 +12,7 @@ use Rattle.calls.specs.Place.{newAllocKey}
 use Rattle.placed.specs.Pieces.{bucketsIn}
 use Rattle.placed.specs.Plan.{Dirty, AllocsOf}
 use Rattle.wire.proofs.EmitLaws.{emitted, done}
-use Rattle.tally.proofs.FieldLists.{fields-next, fields-none}
+use Rattle.change_fields.proofs.FieldLists.{fields-next, fields-none}
 use Rattle.placed.proofs.BucketLaws.{buckets-next, buckets-none, alloc-key}
 use Rattle.placed.proofs.allocs.put_allocs.Statement.{statement}
 use Rattle.placed.proofs.allocs.put_allocs.Tie as tie

@@ -5,7 +5,7 @@ use Rattle.wire.specs.Encode.{keyField}
 use Rattle.wire.proofs.EmitLaws.{emitted, nothing}
 use Rattle.wire.proofs.EncodeLaws.{encode-one}
 use Rattle.reader.specs.KeyHere.{keyHere}
-use Rattle.tally.proofs.FieldLists.{fields-none}
+use Rattle.change_fields.proofs.FieldLists.{fields-none}
 use Rattle.placed.proofs.QueueLaws.{queueBytes, passed-run, passed-other}
 use borrow.Author.Needs.{needs}
 use borrow.Author.Tests.{not-true, not-false}

@@ -10,7 +10,7 @@ use Rattle.calls.specs.Answers.{readVolume}
 use Rattle.reader.proofs.KeyHereLaws.{whole-at, keys-next}
 use Rattle.choose.specs.Walks.{queueOf}
 use Rattle.wire.proofs.EmitLaws.{emitted, nothing, done}
-use Rattle.tally.proofs.FieldLists.{fields-none}
+use Rattle.change_fields.proofs.FieldLists.{fields-none}
 use Rattle.placed.proofs.QueueLaws.{queueBytes, queue-next, queue-end, passed-none}
 use Rattle.placed.proofs.queue.put_queue.Statement.{statement}
 use Rattle.placed.proofs.queue.put_queue.Tie as tie

@@ -12,6 +12,9 @@ use borrow.Author.Needs.{needs}
 use Rattle.placed.proofs.queue.put_shortened.Statement.{statement}
 use Rattle.placed.proofs.queue.put_shortened.Tie as tie
 
+pos-at-requires : tie.Need-pos-at-requires
+pos-at-requires c κs = search needs
+
 put-deletion-requires : tie.Need-put-deletion-requires
 put-deletion-requires c κs = search needs
 
@@ -21,9 +24,10 @@ same-length c = search needs
 returns : tie.Need-returns
 returns c =
     let k = c .before .before in
-    let i = k .before .before in
+    let p = k .before in
+    let i = p .before .before in
     let a = i .before .before .before .args in
-    emitted (rw (deleted (keyHere (a .s .now) (a .from)) (i .if1 .taken))) (k .put-deletion .ensures)
+    emitted (rw (p .pos-at .ensures, deleted (keyHere (a .s .now) (a .from)) (i .if1 .taken))) (k .put-deletion .ensures)
 
 key-at-requires : tie.Need-key-at-requires
 key-at-requires c κs = search needs
@@ -47,4 +51,4 @@ returns-2 c =
 pub put-shortened-spec : {M : Type 1} → statement M
 put-shortened-spec =
     tie.close
-    (tie.spec put-deletion-requires same-length returns key-at-requires put-key-requires same-length-2 returns-2)
+    (tie.spec pos-at-requires put-deletion-requires same-length returns key-at-requires put-key-requires same-length-2 returns-2)

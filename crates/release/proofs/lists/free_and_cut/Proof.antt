@@ -1,12 +1,14 @@
 -- `lists::free_and_cut` meets its contract. Assumes nothing.
 use native.Mathlib.Omega.{arith}
-use mathlib.Core.Path.{refl, sym, ap, _∙_}
+use mathlib.Core.Path.{sym, ap, _∙_}
 use mathlib.Core.List.{map, flatMap}
 use mathlib.Core.Bool.{not, _&&_}
 use mathlib.Core.List.{_++_}
 use Prim.Native.Nat.{ℕ, _<_}
 use lib.ListN.{length, length-map}
 use lib.Dec.{eqb}
+use Rattle.wire.specs.Encode.{encode}
+use Rattle.wire.specs.Rows.{rowField}
 use Rattle.wire.proofs.OutputLaws.{wrote-length}
 use Rattle.wire.proofs.EmitLaws.{emitted, and-then}
 use Rattle.calls.specs.Place.{rootMissing, rootsIf}
@@ -16,10 +18,10 @@ use Rattle.calls.specs.Lists.{total}
 use Rattle.calls.specs.Lru.{needDiscardKey}
 use Rattle.calls.proofs.View.{bucket}
 use Rattle.freed.specs.Freeds.{freedsIn}
-use Rattle.shares.specs.FieldBytes.{keysBytes, rowsBytes, rootsBytes}
+use Rattle.change_fields.specs.FieldBytes.{keysBytes, rootsBytes}
 use Rattle.shares.specs.Buckets.{bucketsIn}
 use Rattle.shares.specs.Counting.{keptOf, lostOf}
-use Rattle.release.proofs.BatchLaws.{batch-bytes, rows-are, sectors-are, draft-pass, draft-in, draft-checked, draft-few, gone-few, gone-aged, gone-are, gone-up, gone-low}
+use Rattle.release.proofs.BatchLaws.{batch-bytes, rows-are, sectors-are, draft-at, draft-in, draft-checked, draft-few, gone-few, gone-are, gone-up, gone-low}
 use borrow.Author.Needs.{needs}
 use Rattle.release.proofs.lists.free_and_cut.Statement.{statement}
 use Rattle.release.proofs.lists.free_and_cut.Tie as tie
@@ -51,13 +53,13 @@ whole c d =
     in
     let rows =
     emitted
-    (ap rowsBytes
+    (ap (λ r. encode (map rowField r))
     (rows-are v rs gone _ _ _ _ many (c .before .before .before .before .before .before .before .before .before .before .before .before .before .before .before .before .before .before .before .before .before .before .before .before .before .before .before .before .before .before .before .before .before .total-freed .ensures .1) (u .kept ∙ ap (total (keptOf v rs)) n) (u .lost ∙ ap (total (lostOf v rs)) n)))
     (c .before .before .before .before .before .before .put-rows .ensures)
     in
     emitted (sym (batch-bytes v rs gone (gone-are d)))
     (and-then (and-then (and-then (and-then (and-then (and-then (and-then (c .before .before .before .before .before .before .before .before .before .before .before .before .before .before .before .before .before .before .before .before .before .before .before .before .before .before .before .before .before .before .put-allocs .ensures v rs t journal) ones) waits) (c .before .before .before .before .before .before .before .before .before .before .before .before .before .before .before .before .before .before .put-backpointers .ensures)) gens) roots) rows)
-    (emitted refl (c .before .before .put-end .ensures)))
+    (c .before .before .put-end .ensures))
 
 cast-sectors : tie.Need-cast-sectors
 cast-sectors c = search needs
@@ -69,10 +71,10 @@ unused-in-requires : tie.Need-unused-in-requires
 unused-in-requires c κs = let a = c .before .before .before .before .before .before .before .before .before .before .before in (draft-in (a .pre), draft-few (a .pre), small (c .before))
 
 put-allocs-requires : tie.Need-put-allocs-requires
-put-allocs-requires c κs = draft-pass (c .before .before .before .before .before .before .before .before .before .before .before .before .before .pre)
+put-allocs-requires c κs = draft-at (c .before .before .before .before .before .before .before .before .before .before .before .before .before .pre)
 
 put-lrus-requires : tie.Need-put-lrus-requires
-put-lrus-requires c κs = (c .before .before .before .before .before .before .before .before .before .before .before .before .before .before .before .before .before .pre .laid .summed .some-sectors, draft-pass (c .before .before .before .before .before .before .before .before .before .before .before .before .before .before .before .before .before .pre))
+put-lrus-requires c κs = (c .before .before .before .before .before .before .before .before .before .before .before .before .before .before .before .before .before .pre .laid .summed .some-sectors, draft-in (c .before .before .before .before .before .before .before .before .before .before .before .before .before .before .before .before .before .pre))
 
 put-need-discards-requires : tie.Need-put-need-discards-requires
 put-need-discards-requires c κs = search needs
@@ -81,7 +83,7 @@ put-backpointers-requires : tie.Need-put-backpointers-requires
 put-backpointers-requires c κs = (c .before .before .before .before .before .before .before .before .before .before .before .before .before .before .before .before .before .before .before .before .before .before .before .before .before .pre .laid .summed .requested, draft-checked (c .before .before .before .before .before .before .before .before .before .before .before .before .before .before .before .before .before .before .before .before .before .before .before .before .before .pre) (small (c .before .before .before .before .before .before .before .before .before .before .before .before .before .before .before)))
 
 put-gens-requires : tie.Need-put-gens-requires
-put-gens-requires c κs = let d = c .before .before .before .before .before .before .before .before .before .before .before .before .before .before .before .before .before .before .before .before .before .before .before .before .before .before .before .before .before .pre in (record { gens = _; are = d .laid .recorded }, gone-aged d, gone-low d, gone-up d)
+put-gens-requires c κs = let d = c .before .before .before .before .before .before .before .before .before .before .before .before .before .before .before .before .before .before .before .before .before .before .before .before .before .before .before .before .before .pre in (record { gens = _; are = d .laid .recorded }, record { age = _; are = d .aged }, gone-low d, gone-up d)
 
 put-roots-requires : tie.Need-put-roots-requires
 put-roots-requires c κs = search needs

@@ -30,7 +30,10 @@ cast-sectors : tie.Need-cast-sectors
 cast-sectors c = search needs
 
 refuse-requires : tie.Need-refuse-requires
-refuse-requires c κs = search needs
+refuse-requires c κs =
+    let a = c .before .before .before .before .before .before .before .before in
+    let d = a .pre .0 in
+    record { volume = d .volume; requests = freedsIn (a .args .s .now) (a .args .requests .now); tabled = d .tabled; recorded = d .recorded; size = size a }
 
 returns : tie.Need-returns
 returns c =

@@ -4,49 +4,48 @@ use mathlib.Core.Path.{_≡_, refl, ap, _∙_}
 use mathlib.Core.List.{List, map}
 use Prim.Native.Nat.{_-_, _≤_}
 use lib.ListN.{length, getD, drop}
-use Rattle.wire.specs.Numbers.{each}
-use Rattle.wire.specs.Encode.{encodeField, keyField}
+use Rattle.wire.specs.Encode.{keyField}
 use Rattle.wire.specs.declared.kinds.Bucket.{Bucket}
-use Rattle.wire.proofs.OutputLaws.{Part, begin, turn, wrote-length, each-next, each-none}
+use Rattle.wire.proofs.OutputLaws.{Part, begin, turn, wrote-length}
 use Rattle.wire.proofs.EmitLaws.{emitted, done}
 use Rattle.calls.specs.CallList.{Volume, Freed}
 use Rattle.calls.specs.Release.{releasedKey}
-use Rattle.shares.specs.FieldBytes.{keysBytes}
+use Rattle.change_fields.specs.FieldBytes.{keysBytes}
 use Rattle.shares.specs.Buckets.{bucketsIn}
 use Rattle.shares.specs.Tables.{Tabled}
-use Rattle.shares.proofs.FieldBytesLaws.{each-keys, wrote-key}
+use Rattle.change_fields.proofs.FieldLists.{fields-next, fields-none, emitted-key}
 use Rattle.shares.proofs.ShareLaws.{Ready, ready, share-held, buckets-next, buckets-none}
 use Rattle.shares.proofs.KeyLaws.{released-key}
 use Rattle.shares.proofs.alloc_keys.put_allocs.Statement.{statement}
 use Rattle.shares.proofs.alloc_keys.put_allocs.Tie as tie
 
 abbrev Inv-loop : tie.InvT-loop
-Inv-loop s journal buckets amounts places out₀ at p₀ k₀ out p k = (k ≤ length buckets) × (length out ≡ length out₀) × ((v : Volume) (rs : List Freed) → Tabled s v rs buckets amounts places → v .head .journal ≡ journal → Part out₀ at (each (λ b. encodeField (keyField 4 (releasedKey v rs b))) (bucketsIn buckets)) out p (each (λ b. encodeField (keyField 4 (releasedKey v rs b))) (drop k (bucketsIn buckets))))
+Inv-loop s journal buckets amounts places out₀ at p₀ k₀ out p k = (k ≤ length buckets) × (length out ≡ length out₀) × ((v : Volume) (rs : List Freed) → Tabled s v rs buckets amounts places → v .head .journal ≡ journal → Part out₀ at (keysBytes 4 (map (releasedKey v rs) (bucketsIn buckets))) out p (keysBytes 4 (map (releasedKey v rs) (drop k (bucketsIn buckets)))))
 
 abbrev μ-loop : tie.MeasureT-loop
 μ-loop s journal buckets amounts places out₀ at p₀ k₀ out p k = length buckets - k
 
 -- what the refusals show of the bucket
-its : (c : tie.In-loop Inv-loop μ-loop) → Ready (c .before .before .before .before .before .before .before .args .s .now) (c .before .before .before .before .before .before .before .pre .volume .head .bucketSectors) (getD (c .before .before .before .before .before .before .before .args .buckets .now) (c .before .loop .k) 0) (getD (c .before .before .before .before .before .before .before .args .amounts .now) (c .before .loop .k) 0) (getD (c .before .before .before .before .before .before .before .args .places .now) (c .before .loop .k) 0)
-its c = ready (c .before .before .before .before .before .before .before .pre) (c .before .loop .k) (c .loop-test .taken)
+its : (c : tie.In-loop Inv-loop μ-loop) → Ready (c .before .before .before .before .before .before .before .args .s .now) (c .before .before .before .before .before .before .before .pre .pass .volume .head .bucketSectors) (getD (c .before .before .before .before .before .before .before .args .buckets .now) (c .before .loop .k) 0) (getD (c .before .before .before .before .before .before .before .args .amounts .now) (c .before .loop .k) 0) (getD (c .before .before .before .before .before .before .before .args .places .now) (c .before .loop .k) 0)
+its c = ready (c .before .before .before .before .before .before .before .pre .pass) (c .before .loop .k) (c .loop-test .taken)
 
 loop-holds : tie.Need-loop-holds Inv-loop μ-loop
 loop-holds c = (omega arith, refl, λ v rs t e. begin _ _ _ (omega arith))
 
 share-at-requires : tie.Need-share-at-requires Inv-loop μ-loop
-share-at-requires c κs = (c .before .before .before .before .before .before .before .pre, c .loop-test .taken)
+share-at-requires c κs = (c .before .before .before .before .before .before .before .pre .pass, c .loop-test .taken)
 
 mul-freed-key : tie.Need-mul-freed-key Inv-loop μ-loop
-mul-freed-key c = omega (arith, c .before .before .before .before .before .before .before .before .pre .tabled .keys)
+mul-freed-key c = omega (arith, c .before .before .before .before .before .before .before .before .pre .pass .tabled .keys)
 
 shared-slice-read-freed-key : tie.Need-shared-slice-read-freed-key Inv-loop μ-loop
-shared-slice-read-freed-key c = omega (arith, c .before .before .before .before .before .before .before .before .before .pre .tabled .keys)
+shared-slice-read-freed-key c = omega (arith, c .before .before .before .before .before .before .before .before .before .pre .pass .tabled .keys)
 
 cast-freed-key : tie.Need-cast-freed-key Inv-loop μ-loop
 cast-freed-key c = omega (arith, c .shared-slice-known5 .given (c .before .before .before .loop .k))
 
 freed-key-requires : tie.Need-freed-key-requires Inv-loop μ-loop
-freed-key-requires c κs = let i = its (c .before .before) in (i .there, i .long, share-held (c .before .before .before .before .before .before .before .before .before .pre) (c .before .before .before .loop .k) (c .before .before .loop-test .taken) _ (c .before .share-at .ensures))
+freed-key-requires c κs = let i = its (c .before .before) in (i .there, i .long, share-held (c .before .before .before .before .before .before .before .before .before .pre .pass) (c .before .before .before .loop .k) (c .before .before .loop-test .taken) _ (c .before .share-at .ensures))
 
 put-key-requires : tie.Need-put-key-requires Inv-loop μ-loop
 put-key-requires c κs = c .before .freed-key .ensures .0
@@ -67,7 +66,7 @@ loop-again c =
       wrote-length w ∙ l .loop .inv .1,
       λ v rs t e.
           let r = released-key (t .at k (c .before .before .before .before .before .before .before .loop-test .taken)) (its (c .before .before .before .before .before .before .before)) e (c .before .before .before .before .before .before .share-at .result) (c .before .before .before .before .before .before .share-at .ensures v rs t) (c .before .before .before .before .freed-key .ensures .1) in
-          turn _ (l .loop .inv .2 v rs t e) (each-next (λ b. encodeField (keyField 4 (releasedKey v rs b))) (buckets-next (a .args .buckets .now) k (omega arith))) (wrote-key 4 r w),
+          turn _ (l .loop .inv .2 v rs t e) (fields-next (keyField 4) (ap (map (releasedKey v rs)) (buckets-next (a .args .buckets .now) k (omega arith)))) (emitted-key 4 r w),
     )
 
 same-length : tie.Need-same-length Inv-loop μ-loop
@@ -78,8 +77,8 @@ returns c =
     λ v rs t e.
     let l = c .before in
     let a = l .before .before .before .before .before .before in
-    emitted (each-keys 4 (releasedKey v rs) (bucketsIn (a .args .buckets .now)) ∙ ap (λ (l : List Bucket). keysBytes 4 (map (releasedKey v rs) l)) (t .named))
-    (done (l .loop .inv .2 v rs t e) (each-none (λ b. encodeField (keyField 4 (releasedKey v rs b))) (buckets-none (a .args .buckets .now) (l .loop .k) (omega arith))))
+    emitted (ap (λ (l : List Bucket). keysBytes 4 (map (releasedKey v rs) l)) (t .named))
+    (done (l .loop .inv .2 v rs t e) (fields-none (keyField 4) (ap (map (releasedKey v rs)) (buckets-none (a .args .buckets .now) (l .loop .k) (omega arith)))))
 
 pub put-allocs-spec : {M : Type 1} → statement M
 put-allocs-spec =

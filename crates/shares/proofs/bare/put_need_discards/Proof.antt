@@ -2,20 +2,22 @@
 use native.Mathlib.Omega.{arith}
 use Prim.Native.Nat.{_-_}
 use lib.ListN.{length, drop}
-use Rattle.wire.specs.Numbers.{each}
-use Rattle.wire.specs.Encode.{encodeField, keyField}
-use Rattle.wire.proofs.OutputLaws.{Part, begin, turn, part-length, each-next, each-none}
-use Rattle.wire.proofs.EmitLaws.{emitted, done}
+use mathlib.Core.Path.{ap}
+use mathlib.Core.List.{map}
+use Rattle.wire.specs.Encode.{keyField}
+use Rattle.wire.proofs.OutputLaws.{Part, begin, turn, part-length}
+use Rattle.wire.proofs.EmitLaws.{done}
 use Rattle.calls.specs.Lru.{needDiscardKey}
 use Rattle.shares.specs.Buckets.{bucketsIn}
-use Rattle.shares.proofs.FieldBytesLaws.{each-keys, wrote-key}
+use Rattle.change_fields.specs.FieldBytes.{keysBytes}
+use Rattle.change_fields.proofs.FieldLists.{fields-next, fields-none, emitted-key}
 use Rattle.shares.proofs.ShareLaws.{buckets-next, buckets-none}
 use Rattle.shares.proofs.KeyLaws.{wait-is}
 use Rattle.shares.proofs.bare.put_need_discards.Statement.{statement}
 use Rattle.shares.proofs.bare.put_need_discards.Tie as tie
 
 abbrev Inv-loop : tie.InvT-loop
-Inv-loop journal gone out₀ at p₀ k₀ out p k = Part out₀ at (each (λ b. encodeField (keyField 12 (needDiscardKey journal b))) (bucketsIn gone)) out p (each (λ b. encodeField (keyField 12 (needDiscardKey journal b))) (drop k (bucketsIn gone)))
+Inv-loop journal gone out₀ at p₀ k₀ out p k = Part out₀ at (keysBytes 12 (map (needDiscardKey journal) (bucketsIn gone))) out p (keysBytes 12 (map (needDiscardKey journal) (drop k (bucketsIn gone))))
 
 abbrev μ-loop : tie.MeasureT-loop
 μ-loop journal gone out₀ at p₀ k₀ out p k = length gone - k
@@ -35,8 +37,8 @@ cast-t12 c = omega (arith, c .shared-slice-known2 .given (c .before .before .loo
 need-discard-at-requires : tie.Need-need-discard-at-requires Inv-loop μ-loop
 need-discard-at-requires c κs = tt
 
-put-bare-key-requires : tie.Need-put-bare-key-requires Inv-loop μ-loop
-put-bare-key-requires c κs = tt
+put-new-key-requires : tie.Need-put-new-key-requires Inv-loop μ-loop
+put-new-key-requires c κs = tt
 
 add-k : tie.Need-add-k Inv-loop μ-loop
 add-k c = omega arith
@@ -48,8 +50,8 @@ loop-again : tie.Need-loop-again Inv-loop μ-loop
 loop-again c =
     let l = c .before .before .before .before .before .before .before in
     let a = l .before .before .before in
-    let w = wrote-key 12 (wait-is (a .args .journal) _ _ (c .before .before .before .before .need-discard-at .ensures)) (c .before .before .put-bare-key .ensures) in
-    turn _ (l .loop .inv) (each-next (λ b. encodeField (keyField 12 (needDiscardKey (a .args .journal) b))) (buckets-next (a .args .gone .now) (l .loop .k) (omega arith))) w
+    let w = emitted-key 12 (wait-is (a .args .journal) _ _ (c .before .before .before .before .need-discard-at .ensures)) (c .before .before .put-new-key .ensures) in
+    turn _ (l .loop .inv) (fields-next (keyField 12) (ap (map (needDiscardKey (a .args .journal))) (buckets-next (a .args .gone .now) (l .loop .k) (omega arith)))) w
 
 same-length : tie.Need-same-length Inv-loop μ-loop
 same-length c = part-length (c .before .loop .inv)
@@ -58,8 +60,7 @@ returns : tie.Need-returns Inv-loop μ-loop
 returns c =
     let l = c .before in
     let a = l .before .before .before in
-    emitted (each-keys 12 (needDiscardKey (a .args .journal)) (bucketsIn (a .args .gone .now)))
-    (done (l .loop .inv) (each-none (λ b. encodeField (keyField 12 (needDiscardKey (a .args .journal) b))) (buckets-none (a .args .gone .now) (l .loop .k) (omega arith))))
+    done (l .loop .inv) (fields-none (keyField 12) (ap (map (needDiscardKey (a .args .journal))) (buckets-none (a .args .gone .now) (l .loop .k) (omega arith))))
 
 pub put-need-discards-spec : {M : Type 1} → statement M
 put-need-discards-spec =
@@ -72,7 +73,7 @@ put-need-discards-spec =
     shared-slice-read-t11
     cast-t12
     need-discard-at-requires
-    put-bare-key-requires
+    put-new-key-requires
     add-k
     loop-less
     loop-again

@@ -4,24 +4,24 @@ use mathlib.Core.Path.{_≡_, refl, ap, _∙_}
 use mathlib.Core.List.{List, flatMap}
 use Prim.Native.Nat.{ℕ, _-_, _≤_}
 use lib.ListN.{length, drop, getD}
-use Rattle.wire.specs.Numbers.{each}
+use Rattle.wire.specs.Encode.{keyField}
 use Rattle.wire.specs.declared.kinds.Bucket.{Bucket}
-use Rattle.wire.proofs.OutputLaws.{Part, begin, turn, wrote-length, each-next, each-none}
+use Rattle.wire.proofs.OutputLaws.{Part, begin, turn, wrote-length}
 use Rattle.wire.proofs.EmitLaws.{emitted, done}
 use Rattle.calls.specs.CallList.{Volume, Freed}
 use Rattle.calls.specs.Release.{freedBuckets, releasedLru}
 use Rattle.calls.proofs.View.{bucket}
-use Rattle.shares.specs.FieldBytes.{keysBytes}
+use Rattle.change_fields.specs.FieldBytes.{keysBytes}
 use Rattle.shares.specs.Buckets.{bucketsIn}
 use Rattle.shares.specs.Tables.{Tabled}
-use Rattle.shares.proofs.FieldBytesLaws.{each-flat, wrote-as}
+use Rattle.change_fields.proofs.FieldLists.{flat-next, flat-none}
 use Rattle.shares.proofs.ShareLaws.{share-held, buckets-next, buckets-none}
 use Rattle.shares.proofs.KeyLaws.{lru-is}
 use Rattle.shares.proofs.lru_keys.put_lrus.Statement.{statement}
 use Rattle.shares.proofs.lru_keys.put_lrus.Tie as tie
 
 abbrev Inv-loop : tie.InvT-loop
-Inv-loop s sectors buckets amounts places out₀ at p₀ k₀ out p k = (k ≤ length buckets) × (length out ≡ length out₀) × ((v : Volume) (rs : List Freed) → Tabled s v rs buckets amounts places → v .head .bucketSectors ≡ sectors → Part out₀ at (each (λ b. keysBytes 10 (releasedLru v rs b)) (bucketsIn buckets)) out p (each (λ b. keysBytes 10 (releasedLru v rs b)) (drop k (bucketsIn buckets))))
+Inv-loop s sectors buckets amounts places out₀ at p₀ k₀ out p k = (k ≤ length buckets) × (length out ≡ length out₀) × ((v : Volume) (rs : List Freed) → Tabled s v rs buckets amounts places → v .head .bucketSectors ≡ sectors → Part out₀ at (keysBytes 10 (flatMap (releasedLru v rs) (bucketsIn buckets))) out p (keysBytes 10 (flatMap (releasedLru v rs) (drop k (bucketsIn buckets)))))
 
 abbrev μ-loop : tie.MeasureT-loop
 μ-loop s sectors buckets amounts places out₀ at p₀ k₀ out p k = length buckets - k
@@ -30,10 +30,10 @@ loop-holds : tie.Need-loop-holds Inv-loop μ-loop
 loop-holds c = (omega arith, refl, λ v rs t e. begin _ _ _ (omega arith))
 
 share-at-requires : tie.Need-share-at-requires Inv-loop μ-loop
-share-at-requires c κs = (c .before .before .before .before .before .before .before .pre .1, c .loop-test .taken)
+share-at-requires c κs = (c .before .before .before .before .before .before .before .pre .1 .pass, c .loop-test .taken)
 
 put-share-lru-requires : tie.Need-put-share-lru-requires Inv-loop μ-loop
-put-share-lru-requires c κs = (c .before .before .before .before .before .before .before .before .before .pre .0, share-held (c .before .before .before .before .before .before .before .before .before .pre .1) (c .before .before .before .loop .k) (c .before .before .loop-test .taken) _ (c .before .share-at .ensures))
+put-share-lru-requires c κs = (c .before .before .before .before .before .before .before .before .before .pre .0, share-held (c .before .before .before .before .before .before .before .before .before .pre .1 .pass) (c .before .before .before .loop .k) (c .before .before .loop-test .taken) _ (c .before .share-at .ensures))
 
 add-k : tie.Need-add-k Inv-loop μ-loop
 add-k c = omega arith
@@ -51,7 +51,7 @@ loop-again c =
       wrote-length w ∙ l .loop .inv .1,
       λ v rs t e.
           let r = lru-is v rs (bucket (getD (a .args .buckets .now) k 0)) (c .before .before .before .before .share-at .result) (c .before .before .before .before .share-at .ensures v rs t) (a .args .sectors) e in
-          turn _ (l .loop .inv .2 v rs t e) (each-next (λ b. keysBytes 10 (releasedLru v rs b)) (buckets-next (a .args .buckets .now) k (omega arith))) (wrote-as (ap (keysBytes 10) r) w),
+          turn _ (l .loop .inv .2 v rs t e) (flat-next (keyField 10) (releasedLru v rs) (buckets-next (a .args .buckets .now) k (omega arith))) (emitted (ap (keysBytes 10) r) w),
     )
 
 same-length : tie.Need-same-length Inv-loop μ-loop
@@ -62,8 +62,8 @@ returns c =
     λ v rs t e.
     let l = c .before in
     let a = l .before .before .before .before .before .before in
-    emitted (each-flat 10 (releasedLru v rs) (bucketsIn (a .args .buckets .now)) ∙ ap (λ (l : List Bucket). keysBytes 10 (flatMap (releasedLru v rs) l)) (t .named ∙ ap (λ (n : ℕ). freedBuckets n rs) e))
-    (done (l .loop .inv .2 v rs t e) (each-none (λ b. keysBytes 10 (releasedLru v rs b)) (buckets-none (a .args .buckets .now) (l .loop .k) (omega arith))))
+    emitted (ap (λ (l : List Bucket). keysBytes 10 (flatMap (releasedLru v rs) l)) (t .named ∙ ap (λ (n : ℕ). freedBuckets n rs) e))
+    (done (l .loop .inv .2 v rs t e) (flat-none (keyField 10) (releasedLru v rs) (buckets-none (a .args .buckets .now) (l .loop .k) (omega arith))))
 
 pub put-lrus-spec : {M : Type 1} → statement M
 put-lrus-spec =

@@ -9,7 +9,7 @@ use Rattle.wire.specs.declared.kinds.Bucket.{Bucket}
 use Rattle.wire.proofs.OutputLaws.{wrote-length}
 use Rattle.gens.specs.Records.{RecordsFound}
 use Rattle.shares.specs.Buckets.{bucketsIn}
-use Rattle.shares.proofs.QueueLaws.{Queue, queue-starts, queue-turn, queue-ends, age-at}
+use Rattle.shares.proofs.QueueLaws.{Queue, queue-starts, queue-turn, queue-ends, age-at, aged-count}
 use Rattle.shares.proofs.queued.put_gens.Statement.{statement}
 use Rattle.shares.proofs.queued.put_gens.Tie as tie
 
@@ -35,7 +35,7 @@ cast-t17 : tie.Need-cast-t17 Inv-loop μ-loop
 cast-t17 c = omega (arith, c .shared-slice-known5 .given (c .before .before .loop .k))
 
 shared-slice-read-next-record : tie.Need-shared-slice-read-next-record Inv-loop μ-loop
-shared-slice-read-next-record c = omega (arith, c .before .before .before .before .before .before .before .before .before .before .pre .1)
+shared-slice-read-next-record c = omega (arith, aged-count (c .before .before .before .before .before .before .before .before .before .before .pre .1))
 
 next-record-requires : tie.Need-next-record-requires Inv-loop μ-loop
 next-record-requires c κs = let l = c .before .before .before in let a = l .before .before .before .before .before .before .before in (a .pre .0, a .pre .2 (l .loop .k) (omega arith), l .loop .inv .1)

@@ -14,7 +14,7 @@ use Rattle.shares.proofs.refusals.bucket_refusal.Statement.{statement}
 use Rattle.shares.proofs.refusals.bucket_refusal.Tie as tie
 
 there : (c : tie.Else1) → Whole (c .before .before .before .args .s .now) (c .before .before .before .args .place)
-there c = let a = c .before .before .before in place-some (a .pre .1 .is) (omega arith) .1
+there c = let a = c .before .before .before in place-some (a .pre .shared .key) (omega arith) .1
 
 long : (c : tie.Else2) → 56 ≤ length (keyHere (c .before .before .before .before .before .args .s .now) (c .before .before .before .before .before .args .place) .value)
 long c = omega (arith, c .before .value-len .ensures)

@@ -52,8 +52,7 @@ bucket-refusal-requires : tie.Need-bucket-refusal-requires Inv-loop μ-loop
 bucket-refusal-requires c κs =
     let l = c .before .before .before .before in
     let a = l .before .before .before .before .before .before in
-    let t = a .pre .tabled .at (l .loop .k) (omega arith) in
-    (record { gens = _; are = a .pre .recorded }, record { key = _; is = t .key }, t .low)
+    record { volume = a .pre .volume; requests = a .pre .requests; shared = a .pre .tabled .at (l .loop .k) (omega arith); recorded = a .pre .recorded; size = a .pre .size }
 
 returns : tie.Need-returns Inv-loop μ-loop
 returns c =

@@ -3,7 +3,7 @@ use native.Mathlib.Omega.{arith}
 use mathlib.Core.Path.{sym}
 use Rattle.wire.proofs.EmitLaws.{emitted, and-then, nothing}
 use Rattle.calls.specs.Place.{rootMissing}
-use Rattle.shares.proofs.FieldBytesLaws.{roots-idle, roots-both}
+use Rattle.shares.proofs.RootLaws.{roots-idle, roots-both}
 use borrow.Author.Needs.{needs}
 use Rattle.shares.proofs.roots.put_roots.Statement.{statement}
 use Rattle.shares.proofs.roots.put_roots.Tie as tie
