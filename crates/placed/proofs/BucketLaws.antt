@@ -10,7 +10,7 @@ use lib.Seq.{getD-set-same, getD-set-other}
 use lib.Dec.{eqb}
 use borrow.Author.Tests.{eq-eqb, eqb-true, lt-ltb, le-ltb}
 use Rattle.wire.specs.Fields.{Field}
-use Rattle.wire.specs.Kinds.{noBucket, sameBucket}
+use Rattle.wire.specs.Kinds.{noBucket, sameBucket, bucketIs, bucketsIn}
 use Rattle.wire.specs.Positions.{allocAt, lruAt}
 use Rattle.wire.specs.Encode.{encode}
 use Rattle.wire.specs.declared.kinds.Bucket.{Bucket}
@@ -25,7 +25,6 @@ use Rattle.calls.specs.Lru.{lruKeys}
 use Rattle.calls.specs.Place.{dirtyIn, newAllocKey, placedOf}
 use Rattle.calls.specs.Answers.{readCall}
 use Rattle.reader.specs.declared.head.Head.{Head}
-use Rattle.placed.specs.Pieces.{bucketIs, bucketsIn}
 use Rattle.placed.specs.Plan.{Plan, Reached, Stepped, Dirty, AllocsOf, placedFrom}
 use Rattle.placed.specs.declared.placed.Cursor.{Cursor}
 use Rattle.placed.specs.declared.placed.Step.{Step}

@@ -9,7 +9,7 @@ ghost use Rattle.calls.specs.CallList.{Volume};
 ghost use Rattle.calls.specs.Trees.{newKey};
 ghost use Rattle.calls.specs.Extents as calls;
 ghost use Rattle.calls.specs.Place.{newAllocKey};
-ghost use Rattle.placed.specs.Pieces.{bucketsIn};
+ghost use Rattle.wire.specs.Kinds.{bucketsIn};
 ghost use Rattle.wire.specs.Output.{Emitted};
 ghost use Rattle.placed.specs.Plan.{Dirty, DirtyKnown, AllocsOf, AllocsKnown};
 use format::alloc;

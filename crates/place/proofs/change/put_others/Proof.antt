@@ -4,7 +4,7 @@ use mathlib.Core.List.{List, map}
 use Rattle.calls.specs.Extents as calls
 use Rattle.calls.specs.Place.{placedOf}
 use Rattle.calls.specs.Answers.{readCall}
-use Rattle.placed.specs.Pieces.{bucketsIn}
+use Rattle.wire.specs.Kinds.{bucketsIn}
 use Rattle.tally.specs.Tally.{talliesOf}
 use Rattle.wire.proofs.EmitLaws.{emitted, and-then}
 use Rattle.placed.proofs.StepLaws.{buckets-length}

@@ -9,7 +9,7 @@ use Rattle.wire.proofs.OutputLaws.{Part, begin, turn, wrote-length}
 use Rattle.calls.specs.Extents as calls
 use Rattle.calls.specs.Lru.{lruKeys}
 use Rattle.calls.specs.Place.{dirtyIn}
-use Rattle.placed.specs.Pieces.{bucketIs, bucketsIn}
+use Rattle.wire.specs.Kinds.{bucketIs, bucketsIn}
 use Rattle.placed.specs.Plan.{Dirty}
 use Rattle.wire.proofs.EmitLaws.{emitted, done}
 use Rattle.placed.proofs.BucketLaws.{buckets-next, buckets-none, flat-next, flat-none}
