@@ -1,16 +1,14 @@
 -- What refusals 2 and 3 show, part by part. Assumes nothing.
-use mathlib.Core.Path.{_≡_, refl, ap, sym, _∙_}
-use mathlib.Core.Bool.{Bool, true, false, not, _&&_, _||_}
+use mathlib.Core.Path.{_≡_, ap, sym, _∙_}
+use mathlib.Core.Bool.{Bool, true, not, _&&_, _||_}
 use mathlib.Core.List.{List, [], _∷_, _++_}
 use Prim.Native.Nat.{ℕ, zero, suc, _≤_, _<_}
-use native.Mathlib.Omega.{arith}
-use lib.Dec.{leb, ltb, eqb}
+use lib.Dec.{leb, eqb}
 use lib.ListN.{length, drop}
-use borrow.Author.Tests.{leb-true, ltb-true, eq-eqb, eqb-true}
+use borrow.Author.Tests.{leb-true, ltb-true, eq-eqb}
 use Rattle.wire.specs.Keys.{Key}
-use Rattle.wire.specs.Kinds.{bucketInRange, runEndInRange, baseInRange, bucketBelow}
+use Rattle.wire.specs.Kinds.{bucketInRange, baseInRange, bucketBelow}
 use Rattle.wire.specs.Positions.{bucketIn}
-use Rattle.wire.specs.declared.kinds.Bucket.{Bucket}
 use Rattle.wire.specs.Fields.{fields, whole}
 use Rattle.calls.specs.Lists.{allOf, inOrder}
 use Rattle.calls.specs.CallList.{shaped, bodies, volumeShapes, requestShapes, tagsAscend, treesOk, headOk, laidOut, callLaidOut}
@@ -20,6 +18,7 @@ use Rattle.calls.proofs.BoolLaws.{parts as and-true}
 use Rattle.calls.proofs.SortedLaws.{InOrder}
 use Rattle.calls.proofs.SixTrees.{EachTree, trees-order}
 use Rattle.choose.specs.Checked.{Checked}
+use Rattle.choose.specs.Runs.{endInRange}
 
 -- a test of every element holds of the one at a place
 pub all-drop : {A : Type 0} (t : A → Bool) (l : List A) (i : ℕ) → allOf t l ≡ true → allOf t (drop i l) ≡ true
@@ -35,9 +34,6 @@ all-first t {l} {xs} {x} h e = and-true (t x) (allOf t xs) (sym (ap (allOf t) e)
 -- the limits of a key
 abbrev pub inRange : Key → Bool
 inRange k = not (atInode0 k) || bucketInRange (bucketIn (k .pos))
-
-abbrev pub endInRange : Key → Bool
-endInRange k = not (isRun k) || runEndInRange (bucketIn (k .pos))
 
 pub range-at : (k : Key) → inRange k ≡ true → k .pos .inode ≡ 0 → k .pos .offset < 65536
 range-at k h e = ltb-true (k .pos .offset) 65536 (rw (eq-eqb (k .pos .inode) 0 e) at h)

@@ -5,9 +5,9 @@ use mathlib.Core.List.{List, [], _∷_}
 use Prim.Native.Nat.{ℕ, zero, suc, _+_, _-_, _≤_, _<_}
 use native.Mathlib.Nat.{add-zero}
 use native.Mathlib.Omega.{arith}
-use lib.Dec.{ltb, eqb}
+use lib.Dec.{eqb}
 use lib.ListN.{length, drop, drop-of-length-le}
-use borrow.Author.Tests.{lt-ltb, le-ltb, ltb-true, ltb-false, eqb-true, eqb-false, eq-eqb, ne-eqb}
+use borrow.Author.Tests.{lt-ltb, le-ltb, ltb-true, ltb-false, eqb-true, eqb-false, ne-eqb}
 use Rattle.wire.specs.Keys.{Key}
 use Rattle.wire.specs.Kinds.{bucketBelow, sameBucket, nextBucket, bucketsFrom, bucketsUpTo, noBucket}
 use Rattle.wire.specs.declared.kinds.Bucket.{Bucket}
@@ -15,12 +15,10 @@ use Rattle.calls.specs.Lists.{anyOf, those, total}
 use Rattle.calls.specs.Limits.{isRun}
 use Rattle.calls.specs.Freespace.{isIn, runsOf, startOf, endOf, bucketsOf, freeCount}
 use Rattle.calls.specs.History.{one as ind}
-use Rattle.choose.specs.Runs.{runIn, countBelow}
+use Rattle.choose.specs.Runs.{endInRange, runIn, countBelow}
 use Rattle.choose.specs.declared.runs.Run.{Run}
-use Rattle.choose.proofs.CheckedLaws.{endInRange, end-at}
-use Rattle.choose.proofs.RunLaws.{Rising, rising-weak, runIf, isSome, meets, run-end}
+use Rattle.choose.proofs.RunLaws.{Rising, runIf, isSome, meets, run-end}
 use Rattle.choose.proofs.WalkLaws.{up-to-none}
-use Rattle.wire.proofs.KindLaws.{from-length}
 
 length-those : {A : Type 0} (t : A → Bool) (x : A) (xs : List A) → length (those t (x ∷ xs)) ≡ ind (t x) + length (those t xs)
 unfolding those
@@ -256,16 +254,16 @@ module _ {ks : List Key} {bs : List Bucket} {free j i : ℕ} (c : Counting ks bs
           let m = count-mono s n bs (omega arith) in
           record {
             order = omega arith;
-            small = run-end k (end-at k l);
+            small = run-end k l;
             start = omega (arith, c .below, count-mono (c .last) s bs (h .0));
             end = m;
             fits = omega arith;
-            room = omega (arith, c .most, run-end k (end-at k l));
+            room = omega (arith, c .most, run-end k l);
             on =
                 λ free' j' p q.
                 record {
                   last = n;
-                  small = run-end k (end-at k l);
+                  small = run-end k l;
                   most = omega (arith, c .most);
                   below = q;
                   apart = parted .1;

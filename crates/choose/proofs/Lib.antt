@@ -1,12 +1,14 @@
 pub mod BitLaws
 pub mod CheckedLaws
+pub mod ChoiceLaws
 pub mod ClockLaws
-pub mod EarlyLaws
 pub mod FreeLaws
 pub mod ListLaws
 pub mod MarkLaws
+pub mod RefusalLaws
 pub mod RequestLaws
 pub mod RunLaws
+pub mod SizedLaws
 pub mod TakeLaws
 pub mod TakenLaws
 pub mod WalkLaws

@@ -2,12 +2,12 @@
 use mathlib.Core.Path.{_≡_, refl, ap, sym, _∙_}
 use mathlib.Core.Bool.{Bool, true, false, not, _&&_, _||_, and-false, cond}
 use mathlib.Core.List.{List, [], _∷_}
-use mathlib.Core.Option.{Option, none, some}
-use Prim.Native.Nat.{ℕ, zero, suc, _+_, _/_, _≤_, _<_, Ordering, Ordering·lt, Ordering·eq, Ordering·gt}
+use mathlib.Core.Option.{some}
+use Prim.Native.Nat.{ℕ, _≤_, _<_, Ordering, Ordering·lt, Ordering·eq, Ordering·gt}
 use native.Mathlib.Omega.{arith}
-use lib.Dec.{leb, ltb, eqb}
+use lib.Dec.{leb, eqb}
 use lib.ListN.{length, getD, drop, replicate, length-replicate, drop-of-length-le}
-use borrow.Author.Tests.{eqb-true, eqb-false, eq-eqb, ne-eqb, lt-leb, le-leb}
+use borrow.Author.Tests.{eqb-true, eq-eqb, ne-eqb, lt-leb, le-leb}
 use Rattle.wire.specs.Keys.{Key}
 use Rattle.wire.specs.Kinds.{sameBucket}
 use Rattle.wire.specs.Order.{cmp}
@@ -17,11 +17,10 @@ use Rattle.wire.specs.declared.kinds.Bucket.{Bucket}
 use Rattle.wire.proofs.OrderLaws.{pos-cmp, mk-eq, lt≢eq, gt≢eq}
 use Rattle.calls.specs.Lists.{allOf, anyOf, fromOption}
 use Rattle.calls.specs.Limits.{atInode0}
-use Rattle.calls.specs.Freespace.{isIn, isUsed}
+use Rattle.calls.specs.Freespace.{isUsed}
 use Rattle.calls.specs.Trees.{onEq, lookup}
 use Rattle.calls.proofs.BoolLaws.{parts as and-true}
 use Rattle.calls.proofs.SortedLaws.{Chain, Sorted, chain-weak, chain-sorted}
-use Rattle.calls.proofs.SortedLaws.{lookup-chain}
 use Rattle.calls.proofs.SortedLaws.{NoSnapshots}
 use Rattle.choose.specs.Bits.{marked, withMark, inUse, usedMark, Marks}
 use Rattle.choose.proofs.BitLaws.{mark-told, mark-length, mark-none}

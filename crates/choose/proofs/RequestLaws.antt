@@ -1,14 +1,13 @@
 -- Pieces at their offsets, and the tests of refusals 6 to 9. Assumes nothing.
-use mathlib.Core.Path.{_≡_, refl, ap, sym, _∙_}
-use mathlib.Core.Bool.{Bool, true, false, not, and-false, or-true}
+use mathlib.Core.Path.{_≡_, ap, sym, _∙_}
+use mathlib.Core.Bool.{true, false, not, and-false, or-true}
 use mathlib.Core.Logic.{_⊎_, inl, inr}
-use mathlib.Core.List.{List, [], _∷_}
-use Prim.Native.Nat.{ℕ, _+_, _%_, _≤_, _<_, min, max}
+use mathlib.Core.List.{List, _∷_}
+use Prim.Native.Nat.{ℕ, _+_, _≤_, _<_, min}
 use native.Mathlib.Omega.{arith}
 use lib.Dec.{leb, eqb}
 use lib.ListN.{length, take, drop, getD}
 use borrow.Author.Tests.{le-leb, lt-leb, eq-eqb, ne-eqb}
-use Rattle.wire.specs.Numbers.{le}
 use Rattle.calls.specs.CallList.{Piece, pieceOf}
 use Rattle.calls.specs.Pieces.{kindListed, blockOf, divides, pieceSized}
 use Rattle.reader.specs.Located.{PiecesAt, noPiece}

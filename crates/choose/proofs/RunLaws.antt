@@ -1,29 +1,27 @@
 -- Runs whose ends ascend: whether they overlap, and how many buckets of them are free. Assumes nothing.
 use mathlib.Core.Path.{_≡_, refl, ap, sym, _∙_}
-use mathlib.Core.Bool.{Bool, true, false, not, _&&_, _||_, and-false, cond}
+use mathlib.Core.Bool.{Bool, true, false, _&&_, _||_, and-false, cond}
 use mathlib.Core.List.{List, [], _∷_, map}
-use Prim.Native.Nat.{ℕ, zero, suc, _+_, _-_, _≤_, _<_, Ordering, Ordering·lt}
+use Prim.Native.Nat.{ℕ, suc, _-_, _≤_, _<_, Ordering·lt}
 use native.Mathlib.Omega.{arith}
-use lib.Dec.{leb, ltb, eqb}
+use lib.Dec.{ltb, eqb}
 use lib.ListN.{length, drop, drop-of-length-le}
 use borrow.Author.Tests.{lt-ltb, le-ltb, ltb-true, ltb-false, eqb-true, eqb-false, eq-eqb, ne-eqb}
 use Rattle.wire.specs.Keys.{Key}
 use Rattle.wire.specs.Order.{cmp, posLess}
-use Rattle.wire.specs.Kinds.{bucketBelow, sameBucket, nextBucket, bucketsFrom, bucketsUpTo, runStart, beganBefore, noBucket}
+use Rattle.wire.specs.Kinds.{bucketBelow, runStart, beganBefore, noBucket}
 use Rattle.wire.specs.declared.bpos.Bpos.{Bpos}
 use Rattle.wire.specs.declared.kinds.Bucket.{Bucket}
 use Rattle.wire.proofs.OrderLaws.{cmp-less, offset-more, snapshot-less}
-use Rattle.calls.specs.Lists.{allOf, anyOf, those, inOrder, total}
+use Rattle.calls.specs.Lists.{allOf, anyOf, those, inOrder}
 use Rattle.calls.specs.Limits.{isRun, isSet, atInode0}
-use Rattle.calls.specs.Freespace.{isIn, runsOf, startOf, endOf, bucketsOf, overlap, overlaps, freeCount}
+use Rattle.calls.specs.Freespace.{runsOf, startOf, endOf, overlap, overlaps}
 use Rattle.calls.proofs.BoolLaws.{parts as and-true}
-use Rattle.calls.specs.History.{one as ind}
 use Rattle.calls.proofs.SortedLaws.{Chain, Sorted, chain-weak, chain-sorted}
 use Rattle.calls.proofs.SortedLaws.{NoSnapshots}
-use Rattle.choose.specs.Runs.{beganEarly, runIn, countBelow}
+use Rattle.choose.specs.Runs.{endInRange, beganEarly, runIn}
 use Rattle.choose.specs.declared.runs.Run.{Run}
-use Rattle.choose.proofs.WalkLaws.{up-to-none}
-use Rattle.wire.proofs.KindLaws.{from-length}
+use Rattle.choose.proofs.CheckedLaws.{end-at}
 
 -- buckets ascend strictly, from a number on
 abbrev pub Rising : ℕ → List Bucket → Type 0
@@ -213,12 +211,12 @@ unfolding runIn
 run-some k r e f g = rw (r, g, e, f)
 
 -- its end is within the limit of a run's
-pub run-end : (k : Key) → (isRun k ≡ true → k .pos .offset ≤ 65536) → runIn k .end .0 ≤ 65536
+pub run-end : (k : Key) → endInRange k ≡ true → runIn k .end .0 ≤ 65536
 unfolding runIn
 run-end k h = go (isRun k) refl
   where
     go : (t : Bool) → isRun k ≡ t → runIf t k .end .0 ≤ 65536
-    go true f = h f
+    go true f = end-at k h f
     go false f = omega arith
 
 -- a run, and one begun before bucket 0, as the code tests them

@@ -14,7 +14,8 @@ use Rattle.calls.specs.Freespace.{startOf, endOf, bucketsOf, runsOf, pass, walk
 use Rattle.calls.specs.Answers.{readVolume}
 use Rattle.choose.specs.Checked.{Checked}
 use Rattle.calls.proofs.BoolLaws.{parts as and-true}
-use Rattle.choose.proofs.CheckedLaws.{endInRange, end-at, run-range}
+use Rattle.choose.specs.Runs.{endInRange}
+use Rattle.choose.proofs.CheckedLaws.{end-at, run-range}
 
 all-append : {A : Type 0} (t : A → Bool) (l m : List A) → allOf t l ≡ true → allOf t m ≡ true → allOf t (l ++ m) ≡ true
 unfolding allOf

@@ -1,5 +1,7 @@
 pub mod Bits
+pub mod Called
 pub mod Checked
+pub mod Choice
 pub mod Requests
 pub mod Runs
 pub mod Times

@@ -1,10 +1,10 @@
 -- A run as the code holds it, and the reserved buckets below one.
 use Prim.Native.Nat.{ℕ}
-use mathlib.Core.Bool.{Bool, _&&_, cond}
+use mathlib.Core.Bool.{Bool, not, _&&_, _||_, cond}
 use mathlib.Core.List.{List}
 use lib.ListN.{length}
 use Rattle.wire.specs.Keys.{Key}
-use Rattle.wire.specs.Kinds.{bucketBelow, beganBefore, noBucket}
+use Rattle.wire.specs.Kinds.{bucketBelow, runEndInRange, beganBefore, noBucket}
 use Rattle.wire.specs.declared.kinds.Bucket.{Bucket}
 use Rattle.calls.specs.Lists.{those}
 use Rattle.calls.specs.Limits.{isRun}
@@ -14,6 +14,10 @@ use Rattle.choose.specs.declared.runs.Run.{Run}
 -- a run that began before bucket 0
 unfoldable pub beganEarly : Key → Bool
 beganEarly k = isRun k && beganBefore (endOf k) (k .size)
+
+-- FORMAT.md, "Limits": a run ends at most at 65,536
+abbrev pub endInRange : Key → Bool
+endInRange k = not (isRun k) || runEndInRange (endOf k)
 
 -- the buckets that a key covers: none where it is no run
 unfoldable pub runIn : Key → Run

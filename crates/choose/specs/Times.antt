@@ -1,6 +1,6 @@
 -- The largest clock, one key after the other.
-use Prim.Native.Nat.{ℕ, max}
-use mathlib.Core.Bool.{Bool, true, false, _&&_, _||_, cond}
+use Prim.Native.Nat.{max}
+use mathlib.Core.Bool.{Bool, true, _&&_, cond}
 use lib.ListN.{length}
 use lib.Dec.{leb, eqb}
 use Rattle.wire.specs.Keys.{Key}

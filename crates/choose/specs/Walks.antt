@@ -1,43 +1,48 @@
 -- The walk over the runs, as the code makes it.
-use Prim.Native.Nat.{ℕ, zero, suc, _+_, _-_, _≤_, _<_}
+use Prim.Native.Nat.{ℕ, zero, suc, _+_, _≤_, _<_, _^_}
 use mathlib.Core.Path.{_≡_}
-use mathlib.Core.Bool.{Bool, false, cond}
-use mathlib.Core.List.{List, [], _∷_, _++_, map}
+use mathlib.Core.Bool.{Bool, true, cond}
+use mathlib.Core.List.{List, [], _∷_, _++_}
 use lib.ListN.{length, take}
 use Rattle.wire.specs.Keys.{Key}
+use Rattle.wire.specs.Kinds.{beganBefore, bucketsIn}
 use Rattle.wire.specs.declared.kinds.Bucket.{Bucket}
 use Rattle.calls.specs.Limits.{isRun}
-use Rattle.calls.specs.Freespace.{bucketsOf, Passed, pass, shortened, Walked}
-use Rattle.choose.specs.Runs.{beganEarly}
-use Rattle.choose.specs.declared.take.Passage.{Passage}
-use Rattle.choose.specs.declared.take.Stage.{Stage}
-use Rattle.choose.specs.declared.take.Taken.{Taken}
-use Rattle.choose.specs.declared.take.Taken.the-variants.{Refused, Took}
+use Rattle.calls.specs.Freespace as calls
+use Rattle.calls.specs.Freespace.{endOf, bucketsOf, pass, shortened}
+use Rattle.reader.specs.KeyHere.{Whole, keyHere}
+use Rattle.choose.specs.Bits.{Tables}
+use Rattle.choose.specs.Runs.{endInRange}
+use Rattle.choose.specs.declared.take.Walked.{Walked}
 
--- buckets as the table of those taken has them
-abbrev pub numbers : List Bucket → List ℕ
-numbers bs = map (λ b. b .0) bs
+-- a refusal, with nothing taken
+abbrev pub stopped : ℕ → Walked
+stopped refusal = record { refusal = refusal; count = 0; passed = 0; left = 0 }
 
--- what one run makes, with `from` of n buckets taken before it
-pub record Passing (p : Passed) (from n : ℕ) (before after : List ℕ) (r : Passage) : Type 0 where
-  pub taken : take (r .count) after ≡ take from before ++ numbers (p .taken)
-  pub count : r .count ≡ from + length (p .taken)
-  pub need : n - r .count ≡ p .need
-  pub left : r .left ≡ p .left
-  pub hit : r .hit ≡ p .used
+-- before the first key
+abbrev pub unwalked : Walked
+unwalked = stopped 0
 
--- what one key makes: nothing where it is no run
-unfoldable pub keyPass : (Bucket → Bool) → (Bucket → Bool) → ℕ → Key → Passed
-keyPass reserved used need k =
-    cond (isRun k) (pass reserved used need (bucketsOf k)) (record { taken = []; left = 0; need = need; used = false })
+-- What the walk of a key asks: a key at its place within the limits, the tables, and room for the buckets.
+pub record Walkable (s : List ℕ) (at : ℕ) (reserved used : List ℕ) (n : ℕ) (from : Walked) (table : List ℕ) : Type 0 where
+  pub key : Whole s at
+  pub end : endInRange (keyHere s at) ≡ true
+  pub tables : Tables s reserved used
+  pub most : from .count ≤ n
+  pub room : n ≤ length table
+  pub few : from .passed < 2 ^ 63
 
--- and refusal 12 or 13, or 0
-unfoldable pub keyRefusal : Passed → Key → ℕ
-keyRefusal p k = cond (beganEarly k) 12 (cond (p .used) 13 0)
-
-pub record KeyWalked (p : Passed) (k : Key) (from n : ℕ) (before after : List ℕ) (r : Stage) : Type 0 where
-  pub refusal : r .refusal ≡ keyRefusal p k
-  pub passing : r .refusal ≡ 0 → Passing p from n before after (record { count = r .count; left = r .left; hit = false })
+-- what the walk makes of one key: nothing where it is no run
+unfoldable pub keyWalk : (Bucket → Bool) → (Bucket → Bool) → ℕ → Key → calls.Walked
+keyWalk reserved used need k =
+    let p = pass reserved used need (bucketsOf k) in
+    cond (isRun k)
+    (record {
+      taken = p .taken;
+      queue = shortened k (p .left) ∷ [];
+      refusal = cond (beganBefore (endOf k) (k .size)) 12 (cond (p .used) 13 0);
+    })
+    (record { taken = []; queue = []; refusal = 0 })
 
 -- what the last of the keys passed has left; those before it are walked to their end
 abbrev pub leftOf : ℕ → ℕ → ℕ
@@ -55,23 +60,16 @@ queueOf (suc passed) left [] = []
 queueOf (suc passed) left (k ∷ ks) =
     cond (isRun k) (shortened k (leftOf passed left) ∷ queueOf passed left ks) (queueOf passed left ks)
 
--- the refusal of each answer of the code
-abbrev pub refusalIs : Taken → ℕ
-refusalIs (Refused number) = number
-refusalIs (Took count passed left) = 0
+-- What an accepted walk that passed some keys leaves, from where it was: the buckets taken, in the table, and the keys queued.
+pub record WalkTook (n : ℕ) (ks : List Key) (w : calls.Walked) (from : Walked) (before after : List ℕ) (r : Walked) : Type 0 where
+  pub taken : bucketsIn (take (r .count) after) ≡ bucketsIn (take (from .count) before) ++ w .taken
+  pub count : r .count ≡ from .count + length (w .taken)
+  pub passed : r .passed ≡ from .passed + length ks
+  pub queue : w .queue ≡ queueOf (length ks) (r .left) ks
+  -- where it is short of n buckets, it is at a key's end
+  pub short : r .count < n → r .left ≡ 0
 
--- what an accepted walk leaves: the buckets taken, and the keys queued
-pub record WalkTook (ks : List Key) (w : Walked) (table : List ℕ) (count passed left : ℕ) : Type 0 where
-  pub taken : take count table ≡ numbers (w .taken)
-  pub many : count ≡ length (w .taken)
-  pub few : passed ≤ length ks
-  pub queue : w .queue ≡ queueOf passed left ks
-
--- and a refused one a number that is not 0
-abbrev pub tookIs : List Key → Walked → List ℕ → Taken → Type 0
-tookIs ks w table (Refused number) = 0 < number
-tookIs ks w table (Took count passed left) = WalkTook ks w table count passed left
-
-pub record WalkIs (ks : List Key) (w : Walked) (table : List ℕ) (r : Taken) : Type 0 where
-  pub refusal : refusalIs r ≡ w .refusal
-  pub took : tookIs ks w table r
+-- the walk's refusal, or what it leaves
+pub record WalkIs (n : ℕ) (ks : List Key) (w : calls.Walked) (from : Walked) (before after : List ℕ) (r : Walked) : Type 0 where
+  pub refusal : r .refusal ≡ w .refusal
+  pub took : r .refusal ≡ 0 → WalkTook n ks w from before after r

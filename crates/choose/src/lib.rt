@@ -1,4 +1,4 @@
-// What a placement chooses: refusals 4 to 13, take_buckets, write_clock.
+// What a placement asks and takes: refusals 4 to 13, take_buckets, write_clock.
 pub mod clock;
 pub mod marks;
 pub mod refusals;

@@ -7,7 +7,7 @@ ghost use Rattle.calls.specs.Freespace.{isIn, isUsed};
 ghost use Rattle.reader.specs.KeyHere.{Whole, keyHere};
 ghost use Rattle.reader.specs.Located.{KeysAt, BucketsAt};
 ghost use Rattle.choose.specs.Checked.{Checked};
-ghost use Rattle.choose.specs.Bits.{hasBit, withBit, marked, withMark, inUse, usedMark, Marks};
+ghost use Rattle.choose.specs.Bits.{hasBit, withBit, marked, withMark, usedMark, Marks};
 use format::alloc;
 use reader::key;
 use wire::kinds;

@@ -1,47 +1,29 @@
-// Refusals 4 to 10, in their order.
+// Refusals 4 to 13 of a placement, in their order, and the buckets that it takes where none is met.
 ghost use mathlib.Core.Path.{_≡_};
-ghost use mathlib.Core.Bool.{not, _&&_, _||_};
-ghost use Prim.Native.Nat.{_<_};
-ghost use lib.Dec.{eqb};
-ghost use lib.ListN.{take};
+ghost use mathlib.Core.Bool.{false};
+ghost use Prim.Native.Nat.{_≤_};
+ghost use lib.Dec.{leb};
+ghost use lib.ListN.{length, take};
 ghost use Rattle.calls.specs.Answers.{readCall, readVolume};
-ghost use Rattle.calls.specs.Lists.{allOf};
-ghost use Rattle.calls.specs.Pieces.{divides};
+ghost use Rattle.calls.specs.Freespace.{isIn, runsOf, overlaps, freeCount, wanted};
 ghost use Rattle.calls.specs.Place.{placeTests};
 ghost use Rattle.calls.specs.Refusals.{verdict};
 ghost use Rattle.reader.specs.Heads.{headIn};
-ghost use Rattle.reader.specs.Located.{KeysAt, PiecesAt};
+ghost use Rattle.reader.specs.Located.{KeysAt, BucketsAt, PiecesAt};
+ghost use Rattle.choose.specs.Called.{Called};
 ghost use Rattle.choose.specs.Checked.{Checked};
+ghost use Rattle.choose.specs.Choice.{ChosenIs};
 use crate::requests;
 use crate::runs;
+use crate::take;
+use crate::take::Walked;
+use layout::needed;
 use reader::head::Head;
 
-// Refusal 7: whether a checksum option takes the pieces' kinds. The reader shows where the pieces stand.
-fn option_fits(s: &[u8], pieces: &[u32], option: u8) -> bool
-    requires { ⌜ PiecesAt (now s) (now pieces) (readCall (now s) .pieces) ⌝ }
-    ensures { λ r. ⌜ r ≡ (not (eqb option 0) || allOf (λ p. eqb (p .kind) 0) (readCall (now (s .entry)) .pieces)) ⌝ }
-{
-    if option != 0 {
-        return true;
-    }
-    requests::all_plain(s, pieces)
-}
-
-// Refusal 8: whether a block divides both the bucket and 128. `block_of` shows that a block has sectors.
-fn block_fits(block: u16, bucket: u16) -> bool
-    requires { ⌜ 0 < block ⌝ }
-    ensures { λ r. ⌜ r ≡ (divides block bucket && divides block 128) ⌝ }
-{
-    if !requests::divides(block, bucket) {
-        return false;
-    }
-    requests::divides(block, 128)
-}
-
-// The first of refusals 4 to 10, or 0. Refusals 2 and 3 and the reader show what is asked.
-pub fn refuse_early(s: &[u8], h: Head, runs: &[u32], pieces: &[u32]) -> u32
-    requires { ⌜ Checked (now s) × KeysAt (now s) (now runs) (readVolume (now s) .trees .freespace) × PiecesAt (now s) (now pieces) (readCall (now s) .pieces) × (headIn h ≡ readVolume (now s) .head) ⌝ }
-    ensures { λ r. ⌜ r ≡ verdict (take 7 (placeTests (readCall (now (s .entry))))) ⌝ }
+// Refusals 4 to 9, of what is asked: the first of them, or 0. The reader shows where the pieces stand.
+fn refuse_requests(s: &[u8], h: Head, pieces: &[u32]) -> u32
+    requires { ⌜ PiecesAt (now s) (now pieces) (readCall (now s) .pieces) × (headIn h ≡ readVolume (now s) .head) ⌝ }
+    ensures { λ r. ⌜ r ≡ verdict (take 6 (placeTests (readCall (now (s .entry))))) ⌝ }
 {
     if h.bucket_sectors == 0 {
         return 4;
@@ -52,18 +34,55 @@ pub fn refuse_early(s: &[u8], h: Head, runs: &[u32], pieces: &[u32]) -> u32
     if !requests::kinds_listed(s, pieces) {
         return 6;
     }
-    if !option_fits(s, pieces, h.option) {
+    if !requests::option_fits(s, pieces, h.option) {
         return 7;
     }
     let block = requests::block_of(h.block_sectors);
-    if !block_fits(block, h.bucket_sectors) {
+    if !requests::block_fits(block, h.bucket_sectors) {
         return 8;
     }
     if !requests::pieces_sized(s, pieces, h.bucket_sectors, block) {
         return 9;
     }
-    if runs::overlaps(s, runs) {
-        return 10;
-    }
     0
+}
+
+// Refusal 11: whether enough buckets are free for the n that are needed. Refusals 2, 3 and 10, the reader and 1,024 pieces show what is asked.
+fn enough_free(s: &[u8], reserve: u32, runs: &[u32], reserved: &[u32], n: usize) -> bool
+    requires { ⌜ Checked (now s) × KeysAt (now s) (now runs) (readVolume (now s) .trees .freespace) × BucketsAt (now s) (now reserved) (readVolume (now s) .reserved) × (overlaps (runsOf (readVolume (now s) .trees .freespace)) ≡ false) × (n ≤ 1024) ⌝ }
+    ensures { λ r. ⌜ r ≡ leb (wanted n reserve) (freeCount (isIn (readVolume (now (s .entry)) .reserved)) (runsOf (readVolume (now (s .entry)) .trees .freespace))) ⌝ }
+{
+    let wanted = n as u64 + 32 + reserve as u64;
+    wanted <= runs::free_count(s, runs, reserved)
+}
+
+// The buckets for the pieces: the first refusal of 4 to 13, or those taken. The reader and the lent table show what is required.
+pub fn choose_buckets(
+    s: &[u8],
+    h: Head,
+    alloc: &[u32],
+    runs: &[u32],
+    reserved: &[u32],
+    pieces: &[u32],
+    taken: &mut [u64],
+) -> Walked
+    requires { ⌜ Called (now s) h (now alloc) (now runs) (now reserved) (now pieces) × (1024 ≤ length (now taken)) ⌝ }
+    ensures { λ r. ⌜ ChosenIs (now (s .entry)) (now (taken .entry)) (now (taken .exit)) r ⌝ }
+{
+    // 4 to 9: what is asked
+    let number = refuse_requests(s, h, pieces);
+    if number != 0 {
+        return take::stopped(number);
+    }
+    // 10: two runs overlap
+    if runs::overlaps(s, runs) {
+        return take::stopped(10);
+    }
+    // 11: too few buckets are free
+    let n = needed::buckets_needed(s, pieces, h.bucket_sectors);
+    if !enough_free(s, h.reserve, runs, reserved, n) {
+        return take::stopped(11);
+    }
+    // 12 and 13: the walk meets a run begun before bucket 0, or a used bucket
+    take::walk_runs(s, alloc, runs, reserved, n, taken)
 }

@@ -1,8 +1,8 @@
-// The pieces that are asked, and refusals 6 to 9.
+// What is asked of a placement: the tests of refusals 6 to 9.
 ghost use mathlib.Core.Path.{_≡_};
-ghost use Prim.Native.Nat.{_+_, _<_, _≤_};
+ghost use mathlib.Core.Bool.{not, _&&_, _||_};
+ghost use Prim.Native.Nat.{_+_, _<_};
 ghost use lib.Dec.{eqb};
-ghost use lib.ListN.{length, take, drop};
 ghost use Rattle.calls.specs.Answers.{readCall};
 ghost use Rattle.calls.specs.Lists.{allOf};
 ghost use Rattle.calls.specs.Pieces.{kindListed, blockOf, divides, pieceSized};
@@ -13,7 +13,7 @@ use reader::piece;
 use reader::piece::Piece;
 
 // Whether a piece's kind is one of 0, 2, 3, 4, 5.
-pub fn kind_listed(p: Piece) -> bool
+fn kind_listed(p: Piece) -> bool
     ensures { λ r. ⌜ r ≡ kindListed (pieceIn p) ⌝ }
 {
     let kind = p.kind;
@@ -37,11 +37,22 @@ pub fn block_of(block: u16) -> u16
 }
 
 // Whether a block divides a number of sectors. `block_of` shows that it is not 0.
-pub fn divides(block: u16, n: u16) -> bool
+fn divides(block: u16, n: u16) -> bool
     requires { ⌜ 0 < block ⌝ }
     ensures { λ r. ⌜ r ≡ divides block n ⌝ }
 {
     n % block == 0
+}
+
+// Refusal 8: whether a block divides both the bucket and 128. `block_of` shows that a block has sectors.
+pub fn block_fits(block: u16, bucket: u16) -> bool
+    requires { ⌜ 0 < block ⌝ }
+    ensures { λ r. ⌜ r ≡ (divides block bucket && divides block 128) ⌝ }
+{
+    if !divides(block, bucket) {
+        return false;
+    }
+    divides(block, 128)
 }
 
 // Whether a piece stored as it is has as many sectors stored as in the file, and one that is compressed has not.
@@ -60,7 +71,7 @@ fn kind_fits(p: Piece) -> bool
 }
 
 // Whether a piece's sectors are within their bounds, are whole blocks and agree with its kind. `block_of` shows that a block has sectors.
-pub fn piece_sized(p: Piece, bucket: u16, block: u16) -> bool
+fn piece_sized(p: Piece, bucket: u16, block: u16) -> bool
     requires { ⌜ 0 < block ⌝ }
     ensures { λ r. ⌜ r ≡ pieceSized bucket block (pieceIn p) ⌝ }
 {
@@ -105,8 +116,8 @@ pub fn kinds_listed(s: &[u8], pieces: &[u32]) -> bool
     true
 }
 
-// Refusal 7: whether each piece is stored as it is.
-pub fn all_plain(s: &[u8], pieces: &[u32]) -> bool
+// Whether each piece is stored as it is.
+fn all_plain(s: &[u8], pieces: &[u32]) -> bool
     requires { ⌜ PiecesAt (now s) (now pieces) (readCall (now s) .pieces) ⌝ }
     ensures { λ r. ⌜ r ≡ allOf (λ p. eqb (p .kind) 0) (readCall (now (s .entry)) .pieces) ⌝ }
 {
@@ -119,6 +130,17 @@ pub fn all_plain(s: &[u8], pieces: &[u32]) -> bool
         i += 1;
     }
     true
+}
+
+// Refusal 7: whether a checksum option takes the pieces' kinds.
+pub fn option_fits(s: &[u8], pieces: &[u32], option: u8) -> bool
+    requires { ⌜ PiecesAt (now s) (now pieces) (readCall (now s) .pieces) ⌝ }
+    ensures { λ r. ⌜ r ≡ (not (eqb option 0) || allOf (λ p. eqb (p .kind) 0) (readCall (now (s .entry)) .pieces)) ⌝ }
+{
+    if option != 0 {
+        return true;
+    }
+    all_plain(s, pieces)
 }
 
 // Refusal 9: whether each piece's sectors are as a bucket and a block allow.

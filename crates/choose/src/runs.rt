@@ -2,8 +2,6 @@
 ghost use mathlib.Core.Path.{_≡_};
 ghost use mathlib.Core.Bool.{false};
 ghost use Prim.Native.Nat.{_≤_};
-ghost use lib.ListN.{length};
-ghost use Rattle.wire.specs.Kinds.{runStart, beganBefore, bucketsUpTo};
 ghost use Rattle.calls.specs.Answers.{readVolume};
 ghost use Rattle.calls.specs.Limits.{isRun};
 ghost use Rattle.calls.specs.Freespace.{isIn, runsOf, overlaps, freeCount};

@@ -21,7 +21,7 @@ use Rattle.calls.specs.Answers.{readCall, readVolume}
 use Rattle.reader.specs.Heads.{headIn}
 use Rattle.reader.specs.declared.head.Head.{Head}
 use Rattle.change_fields.specs.FieldBytes.{rootsBytes}
-use Rattle.placed.specs.Pieces.{bucketsIn}
+use Rattle.wire.specs.Kinds.{bucketsIn}
 use Rattle.placed.specs.Plan.{Plan}
 use Rattle.place.specs.Change.{placement, keyFields, otherFields}
 use Rattle.accounting.specs.Tally.{talliesOf}

@@ -10,7 +10,7 @@ ghost use Rattle.calls.specs.ChangeList.{takenField, sectorsField, changeBytes}
 ghost use Rattle.calls.specs.Place.{rootMissing, rootsIf};
 ghost use Rattle.calls.specs.Answers.{readVolume};
 ghost use Rattle.change_fields.specs.FieldBytes.{rootsBytes};
-ghost use Rattle.placed.specs.Pieces.{bucketsIn};
+ghost use Rattle.wire.specs.Kinds.{bucketsIn};
 ghost use Rattle.placed.specs.Plan.{Plan};
 ghost use Rattle.placed.specs.Queue.{Walk};
 ghost use Rattle.wire.specs.Output.{Emitted};

@@ -8,7 +8,7 @@ use lib.ListN.{length, drop, getD, set, length-set, List·getD-map, drop-of-leng
 use lib.Seq.{getD-set-same, getD-set-other}
 use lib.Dec.{eqb}
 use borrow.Author.Tests.{eq-eqb, eqb-true}
-use Rattle.wire.specs.Kinds.{noBucket, sameBucket}
+use Rattle.wire.specs.Kinds.{noBucket, sameBucket, bucketIs, bucketsIn}
 use Rattle.wire.specs.Positions.{allocAt}
 use Rattle.wire.specs.declared.kinds.Bucket.{Bucket}
 use Rattle.wire.proofs.OutputLaws.{drop-next}
@@ -20,7 +20,6 @@ use Rattle.calls.specs.Extents as calls
 use Rattle.calls.specs.Place.{dirtyIn, newAllocKey, placedOf}
 use Rattle.calls.specs.Answers.{readCall}
 use Rattle.reader.specs.declared.head.Head.{Head}
-use Rattle.placed.specs.Pieces.{bucketIs, bucketsIn}
 use Rattle.placed.specs.Plan.{Plan, Reached, Stepped, Dirty, AllocsOf, placedFrom}
 use Rattle.placed.specs.declared.placed.Cursor.{Cursor}
 use Rattle.placed.specs.declared.placed.Step.{Step}

@@ -7,7 +7,7 @@ use native.Mathlib.Omega.{arith}
 use lib.ListN.{length, take, drop, getD, set}
 use lib.Seq.{take-suc-set, append-snoc}
 use Rattle.wire.specs.declared.kinds.Bucket.{Bucket}
-use Rattle.placed.specs.Pieces.{bucketIs, bucketsIn}
+use Rattle.wire.specs.Kinds.{bucketIs, bucketsIn}
 use Rattle.placed.proofs.BucketLaws.{buckets-next, buckets-none}
 
 module _ (g : Bucket → ℕ) (ns : List ℕ) where

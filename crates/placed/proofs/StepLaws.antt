@@ -1,13 +1,11 @@
 -- Laws of the step that every walk over the pieces takes. Assumes nothing.
 use mathlib.Core.Path.{_≡_, refl, sym, ap, _∙_}
-use mathlib.Core.Bool.{Bool, true, false, _&&_, _||_}
+use mathlib.Core.Bool.{true}
 use mathlib.Core.List.{List, [], _∷_, map}
-use Prim.Native.Nat.{ℕ, zero, suc, _+_, _*_, _≤_, _<_, _^_, min}
+use Prim.Native.Nat.{ℕ, zero, suc, _+_, _*_, _≤_, _<_, _^_}
 use native.Mathlib.Omega.{arith}
 use lib.ListN.{length, take, drop, getD, length-map}
-use lib.Dec.{leb, eqb}
-use borrow.Author.Tests.{leb-true, eqb-true}
-use Rattle.wire.specs.Kinds.{sectorAt, extentEnd, noBucket}
+use Rattle.wire.specs.Kinds.{bucketIs, bucketsIn, sectorAt, extentEnd, noBucket}
 use Rattle.wire.specs.declared.kinds.Bucket.{Bucket}
 use Rattle.wire.specs.declared.kinds.DeviceSector.{DeviceSector}
 use Rattle.wire.specs.declared.kinds.FileSector.{FileSector}
@@ -20,56 +18,18 @@ use Rattle.calls.specs.Pieces.{nextFit, bucketsNeeded, kindListed, blockOf, pie
 use Rattle.calls.specs.Extents.{bucketAt, placedAt}
 use Rattle.calls.specs.Place.{walkOf}
 use Rattle.calls.specs.Answers.{readCall, readVolume}
-use Rattle.calls.proofs.BoolLaws.{parts as and-true}
 use Rattle.reader.specs.Located.{noPiece}
 use Rattle.reader.specs.declared.head.Head.{Head}
 use Rattle.reader.specs.Pieces.{pieceIn}
 use Rattle.layout.specs.Fit.{slotIn}
-use Rattle.placed.specs.Pieces.{bucketIs, bucketsIn}
 use Rattle.placed.specs.Plan.{Plan, Reached, Stepped, placedFrom}
 use Rattle.reader.specs.declared.piece.Piece.{Piece}
 use Rattle.layout.specs.declared.next_fit.Slot.{Slot}
 use Rattle.placed.specs.declared.placed.Cursor.{Cursor}
 use Rattle.accounting.proofs.PieceLaws.{piece-next, all-at}
+use Rattle.choose.proofs.SizedLaws.{kind-bound, file-low, file-high, stored-low, stored-high}
 use Rattle.layout.proofs.NextFitLaws.{fit-next, fit-high, fit-offset, fit-used}
 use Rattle.placed.proofs.LayoutLaws.{needs-first, enough-next}
-
--- what refusals 6 and 9 say of a piece
-
-pub kind-bound : (p : calls.Piece) → kindListed p ≡ true → p .kind < 16
-unfolding kindListed
-kind-bound p e = go (eqb (p .kind) 0) refl e
-  where
-    go : (t : Bool) → eqb (p .kind) 0 ≡ t → t || (leb 2 (p .kind) && leb (p .kind) 5) ≡ true → p .kind < 16
-    go true t e = omega (arith, eqb-true (p .kind) 0 t)
-    go false t e = omega (arith, leb-true (p .kind) 5 (and-true (leb 2 (p .kind)) (leb (p .kind) 5) e .1))
-
-module _ (B block : ℕ) (p : calls.Piece) (e : pieceSized B block p ≡ true) where
-  parts : (leb 1 (p .file) && leb (p .file) (min 128 B) ≡ true) × (leb 1 (p .stored) && leb (p .stored) (p .file) ≡ true)
-  unfolding pieceSized
-  parts =
-      let a = and-true (leb 1 (p .file) && leb (p .file) (min 128 B)) _ e in
-      (a .0, and-true (leb 1 (p .stored) && leb (p .stored) (p .file)) _ (a .1) .0)
-
-  pub file-low : 1 ≤ p .file
-  file-low = leb-true 1 (p .file) (and-true (leb 1 (p .file)) (leb (p .file) (min 128 B)) (parts .0) .0)
-
-  pub file-high : p .file ≤ 128
-  file-high = omega (arith, leb-true (p .file) (min 128 B) (and-true (leb 1 (p .file)) (leb (p .file) (min 128 B)) (parts .0) .1))
-
-  pub stored-low : 1 ≤ p .stored
-  stored-low = leb-true 1 (p .stored) (and-true (leb 1 (p .stored)) (leb (p .stored) (p .file)) (parts .1) .0)
-
-  pub stored-high : p .stored ≤ 128
-  stored-high = omega (arith, file-high, leb-true (p .stored) (p .file) (and-true (leb 1 (p .stored)) (leb (p .stored) (p .file)) (parts .1) .1))
-
-  pub stored-fits : p .stored ≤ B
-  stored-fits =
-      omega (
-        arith,
-        leb-true (p .file) (min 128 B) (and-true (leb 1 (p .file)) (leb (p .file) (min 128 B)) (parts .0) .1),
-        leb-true (p .stored) (p .file) (and-true (leb 1 (p .stored)) (leb (p .stored) (p .file)) (parts .1) .1),
-      )
 
 -- the buckets taken, by index
 

@@ -4,7 +4,7 @@ use mathlib.Core.Path.{_≡_}
 use mathlib.Core.Bool.{true}
 use mathlib.Core.List.{List, _∷_, map}
 use lib.ListN.{length, getD, drop}
-use Rattle.wire.specs.Kinds.{noBucket, baseInRange, fileSectorNumber, sectorNumber}
+use Rattle.wire.specs.Kinds.{noBucket, baseInRange, fileSectorNumber, sectorNumber, bucketIs, bucketsIn}
 use Rattle.calls.specs.Lists.{allOf}
 use Rattle.calls.specs.CallList.{CallList, Volume}
 use Rattle.calls.specs.Clock.{clockOf}
@@ -18,7 +18,6 @@ use Rattle.reader.specs.Heads.{headIn}
 use Rattle.reader.specs.Located.{PiecesAt}
 use Rattle.reader.specs.declared.head.Head.{Head}
 use Rattle.reader.specs.Pieces.{pieceIn}
-use Rattle.placed.specs.Pieces.{bucketIs, bucketsIn}
 use Rattle.placed.specs.declared.placed.Placed.{Placed}
 use Rattle.placed.specs.declared.placed.Cursor.{Cursor}
 use Rattle.placed.specs.declared.placed.Step.{Step}

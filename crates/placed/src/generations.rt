@@ -6,7 +6,7 @@ ghost use lib.ListN.{length, take, getD};
 ghost use Rattle.calls.specs.Answers.{readVolume};
 ghost use Rattle.calls.specs.Generations.{genOf};
 ghost use Rattle.gens.specs.Records.{RecordsFound};
-ghost use Rattle.placed.specs.Pieces.{bucketsIn};
+ghost use Rattle.wire.specs.Kinds.{bucketsIn};
 use gens::lookup;
 use wire::kinds::Bucket;
 

@@ -6,7 +6,7 @@ ghost use Rattle.calls.specs.Extents as calls;
 ghost use Rattle.calls.specs.Lru.{lruKeys};
 ghost use Rattle.calls.specs.Place.{dirtyIn};
 ghost use Rattle.change_fields.specs.FieldBytes.{keysBytes};
-ghost use Rattle.placed.specs.Pieces.{bucketsIn};
+ghost use Rattle.wire.specs.Kinds.{bucketsIn};
 ghost use Rattle.wire.specs.Output.{Emitted};
 ghost use Rattle.placed.specs.Plan.{Dirty, DirtyKnown};
 use change_fields::lru as lru_keys;

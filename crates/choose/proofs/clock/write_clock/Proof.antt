@@ -1,5 +1,5 @@
 -- `write_clock` meets its contract. The loop's invariant: the keys from here on decide the rest.
-use mathlib.Core.Path.{_≡_, refl, sym, ap, _∙_}
+use mathlib.Core.Path.{_≡_, refl, sym, _∙_}
 use Prim.Native.Nat.{_-_}
 use lib.ListN.{length, drop}
 use mathlib.Core.Bool.{false}

@@ -1,5 +1,4 @@
 -- `has_bit` meets its contract.
-use mathlib.Core.Path.{_≡_, refl, sym, ap, _∙_}
 use Rattle.choose.proofs.BitLaws.{power-at, power-some, bit-by}
 use native.Mathlib.Omega.{arith}
 use borrow.Author.Needs.{needs}

@@ -1,5 +1,4 @@
 -- `is_marked` meets its contract.
-use mathlib.Core.Path.{_≡_, refl, sym, ap, _∙_}
 use Rattle.choose.specs.Bits.{marked}
 use borrow.Author.Needs.{needs}
 use Rattle.choose.proofs.marks.is_marked.Statement.{statement}

@@ -1,5 +1,5 @@
 -- `mark` meets its contract.
-use mathlib.Core.Path.{_≡_, refl, sym, ap, _∙_}
+use mathlib.Core.Path.{ap}
 use Prim.Native.Nat.{ℕ, _/_}
 use lib.ListN.{set}
 use Rattle.choose.specs.Bits.{withMark}

@@ -1,10 +1,9 @@
 -- `mark_key` meets its contract.
-use mathlib.Core.Path.{_≡_, refl, sym, ap, _∙_}
-use Prim.Native.Nat.{ℕ, _+_, _-_, _/_, _%_, _≤_, _<_}
-use lib.ListN.{length, getD}
+use mathlib.Core.Path.{_≡_, sym, ap, _∙_}
+use Prim.Native.Nat.{_-_}
+use lib.ListN.{getD}
 use lib.Seq.{drop-drop}
 use Rattle.format.specs.Packing.{get}
-use Rattle.format.specs.AllocV4.{dataType}
 use Rattle.wire.specs.declared.bpos.Bpos.{Bpos}
 use Rattle.wire.specs.declared.kinds.Bucket.{Bucket}
 use Rattle.wire.specs.Positions.{bucketIn}

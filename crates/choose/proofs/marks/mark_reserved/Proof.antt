@@ -1,8 +1,7 @@
 -- `mark_reserved` meets its contract. The loop's invariant: the buckets passed are marked.
-use mathlib.Core.Path.{_≡_, refl, sym, ap, _∙_}
-use Prim.Native.Nat.{ℕ, _+_, _-_, _/_, _%_, _≤_, _<_}
-use lib.ListN.{length, drop, getD}
-use mathlib.Core.Bool.{true}
+use mathlib.Core.Path.{_≡_, sym, ap, _∙_}
+use Prim.Native.Nat.{ℕ, _+_, _-_, _<_}
+use lib.ListN.{length, drop}
 use Rattle.calls.specs.Answers.{readVolume}
 use Rattle.choose.proofs.CheckedLaws.{all-drop, all-first}
 use mathlib.Core.List.{List, _∷_}
@@ -10,7 +9,7 @@ use Rattle.wire.specs.declared.kinds.Bucket.{Bucket}
 use borrow.Author.Tests.{ltb-true}
 use Rattle.wire.specs.Kinds.{sameBucket, bucketInRange}
 use Rattle.calls.specs.Freespace.{isIn}
-use Rattle.choose.specs.Bits.{marked, withMark}
+use Rattle.choose.specs.Bits.{marked}
 use Rattle.choose.proofs.CheckedLaws.{reserved-range}
 use Rattle.choose.proofs.ListLaws.{buckets-next}
 use Rattle.choose.proofs.BitLaws.{mark-told, mark-length}

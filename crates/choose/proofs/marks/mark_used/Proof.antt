@@ -1,14 +1,13 @@
 -- `mark_used` meets its contract. The loop's invariant: the buckets in use of the keys passed are marked.
-use mathlib.Core.Path.{_≡_, refl, sym, ap, _∙_}
-use Prim.Native.Nat.{ℕ, _+_, _-_, _/_, _%_, _≤_, _<_}
+use mathlib.Core.Path.{_≡_, sym, ap, _∙_}
+use Prim.Native.Nat.{ℕ, _-_, _<_}
 use lib.ListN.{length, drop, getD}
 use mathlib.Core.Bool.{true}
 use Rattle.calls.specs.Answers.{readVolume}
 use Rattle.choose.proofs.CheckedLaws.{all-drop, all-first}
 use mathlib.Core.List.{List}
-use Rattle.wire.specs.declared.kinds.Bucket.{Bucket}
 use Rattle.reader.specs.KeyHere.{keyHere}
-use Rattle.choose.specs.Bits.{marked, Marks}
+use Rattle.choose.specs.Bits.{marked}
 use Rattle.choose.proofs.CheckedLaws.{inRange, range-at, alloc-range, trees-in-order}
 use Rattle.reader.proofs.KeyHereLaws.{whole-at, keys-next}
 use Rattle.choose.proofs.MarkLaws.{Marking, marking-start, marking-on, marking-end, usesBucket, used-told, used-length, used-any, used-inode-0}

@@ -1,5 +1,5 @@
 -- `with_bit` meets its contract.
-use mathlib.Core.Path.{_≡_, refl, sym, ap, _∙_}
+use mathlib.Core.Path.{sym, _∙_}
 use Rattle.choose.proofs.BitLaws.{power-at, bit-kept, bit-new, bit-room}
 use borrow.Author.Needs.{needs}
 use Rattle.choose.proofs.marks.with_bit.Statement.{statement}

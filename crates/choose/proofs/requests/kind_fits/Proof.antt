@@ -1,5 +1,5 @@
 -- `kind_fits` meets its contract.
-use mathlib.Core.Path.{_≡_, refl, sym, ap, _∙_}
+use mathlib.Core.Path.{sym}
 use mathlib.Core.Logic.{inl, inr}
 use Rattle.choose.proofs.RequestLaws.{fits-plain, fits-else}
 use Rattle.choose.proofs.requests.kind_fits.Statement.{statement}

@@ -1,5 +1,5 @@
 -- `kind_listed` meets its contract.
-use mathlib.Core.Path.{_≡_, refl, sym, ap, _∙_}
+use mathlib.Core.Path.{sym}
 use Rattle.choose.proofs.RequestLaws.{listed-plain, listed-low, listed-else}
 use Rattle.choose.proofs.requests.kind_listed.Statement.{statement}
 use Rattle.choose.proofs.requests.kind_listed.Tie as tie

@@ -1,5 +1,5 @@
 -- `piece_sized` meets its contract.
-use mathlib.Core.Path.{_≡_, refl, sym, ap, _∙_}
+use mathlib.Core.Path.{sym, _∙_}
 use borrow.Author.Tests.{not-true, not-false}
 use Rattle.choose.proofs.RequestLaws.{file-low, file-high, stored-low, stored-high, file-broken, stored-broken, sized-else}
 use native.Mathlib.Omega.{arith}

@@ -1,6 +1,6 @@
 -- `began_early` meets its contract.
-use mathlib.Core.Path.{_≡_, refl, sym, ap, _∙_}
-use Prim.Native.Nat.{ℕ, _+_, _-_, _*_, _≤_, _<_}
+use mathlib.Core.Path.{sym, ap, _∙_}
+use Prim.Native.Nat.{ℕ, _-_}
 use Rattle.wire.specs.declared.kinds.Bucket.{Bucket}
 use borrow.Author.Tests.{not-true, not-false}
 use Rattle.wire.specs.Kinds.{beganBefore}

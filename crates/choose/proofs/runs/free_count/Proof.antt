@@ -1,16 +1,14 @@
 -- `free_count` meets its contract. The loop's invariant: the free buckets so far, with those of the keys from here on, are all of them.
-use mathlib.Core.Path.{_≡_, refl, sym, ap, _∙_}
-use Prim.Native.Nat.{ℕ, _+_, _-_, _*_, _≤_, _<_}
-use Rattle.wire.specs.declared.kinds.Bucket.{Bucket}
-use Rattle.wire.specs.Keys.{Key}
+use mathlib.Core.Path.{_≡_, sym, _∙_}
+use Prim.Native.Nat.{_+_, _-_}
 use mathlib.Core.List.{_∷_}
 use mathlib.Core.Bool.{true}
 use mathlib.Core.Logic.{⊎-elim}
 use lib.ListN.{length, drop, getD}
 use Rattle.calls.specs.Answers.{readVolume}
 use Rattle.reader.specs.KeyHere.{keyHere}
-use Rattle.choose.specs.Runs.{countBelow}
-use Rattle.choose.proofs.CheckedLaws.{all-drop, all-first, endInRange, run-range, trees-in-order}
+use Rattle.choose.specs.Runs.{endInRange}
+use Rattle.choose.proofs.CheckedLaws.{all-drop, all-first, run-range, trees-in-order}
 use Rattle.reader.proofs.KeyHereLaws.{whole-at, keys-next}
 use Rattle.choose.proofs.RunLaws.{rising, meets-all}
 use Rattle.wire.proofs.KindLaws.{from-length}

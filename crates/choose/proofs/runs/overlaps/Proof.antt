@@ -1,8 +1,7 @@
 -- `overlaps` meets its contract. The loop's invariant: the keys from here on decide the rest.
 use mathlib.Core.Path.{_≡_, refl, sym, ap, _∙_}
-use Prim.Native.Nat.{ℕ, _+_, _-_, _*_, _≤_, _<_}
+use Prim.Native.Nat.{_+_, _-_}
 use Rattle.wire.specs.declared.kinds.Bucket.{Bucket}
-use Rattle.wire.specs.Keys.{Key}
 use mathlib.Core.List.{_∷_}
 use mathlib.Core.Logic.{⊎-elim}
 use lib.ListN.{length, drop, getD}

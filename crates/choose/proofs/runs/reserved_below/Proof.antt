@@ -1,14 +1,14 @@
 -- `reserved_below` meets its contract. The loop's invariant: the buckets passed are below the one asked.
-use mathlib.Core.Path.{_≡_, refl, sym, ap, _∙_}
-use Prim.Native.Nat.{ℕ, _+_, _-_, _*_, _≤_, _<_}
+use mathlib.Core.Path.{_≡_, sym, ap, _∙_}
+use Prim.Native.Nat.{_+_, _-_, _≤_}
 use Rattle.wire.specs.declared.kinds.Bucket.{Bucket}
 use mathlib.Core.List.{_∷_}
-use lib.ListN.{length, drop, getD}
+use lib.ListN.{length, drop}
 use borrow.Author.Tests.{ltb-true, ltb-false, not-true, not-false}
 use Rattle.calls.specs.Answers.{readVolume}
 use Rattle.choose.specs.Runs.{countBelow}
 use Rattle.choose.proofs.ListLaws.{buckets-next}
-use Rattle.choose.proofs.RunLaws.{Rising, rising}
+use Rattle.choose.proofs.RunLaws.{rising}
 use Rattle.choose.proofs.FreeLaws.{count-length, count-more, count-most}
 use native.Mathlib.Omega.{arith}
 use borrow.Author.Needs.{needs}

@@ -1,5 +1,5 @@
 -- `run_of` meets its contract.
-use mathlib.Core.Path.{_≡_, refl, sym, ap, _∙_}
+use mathlib.Core.Path.{sym, _∙_}
 use borrow.Author.Tests.{not-true, not-false}
 use Rattle.reader.specs.KeyHere.{keyHere}
 use Rattle.choose.proofs.RunLaws.{run-none, run-some}

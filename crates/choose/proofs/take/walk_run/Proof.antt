@@ -1,30 +1,44 @@
 -- `walk_run` meets its contract. The loop's invariant: what was made so far, with what the buckets from here on make, is what the run makes.
-use mathlib.Core.Path.{_≡_, refl, sym, ap, _∙_}
-use Prim.Native.Nat.{ℕ, _+_, _-_, _*_, _≤_, _<_}
+use mathlib.Core.Path.{_≡_, refl, sym, ap, _∙_, subst⁻¹}
+use Prim.Native.Nat.{_-_, _≤_, _<_}
 use Rattle.wire.specs.declared.kinds.Bucket.{Bucket}
 use mathlib.Core.Logic.{⊎-elim}
-use mathlib.Core.Bool.{_||_}
 use lib.ListN.{length}
 use borrow.Author.Tests.{ltb-true, ltb-false, not-true, not-false}
+use Rattle.wire.specs.Keys.{Key}
 use Rattle.wire.specs.Kinds.{bucketsUpTo}
 use Rattle.calls.specs.Freespace.{pass}
+use Rattle.reader.specs.KeyHere.{keyHere}
 use Rattle.choose.specs.Bits.{marked}
-use Rattle.choose.proofs.WalkLaws.{Ahead, ahead-start, ahead-skip, ahead-take, ahead-full, ahead-done, ahead-at, met-one, met-none}
+use Rattle.choose.specs.declared.runs.Run.{Run}
+use Rattle.choose.proofs.RunLaws.{run-end}
+use Rattle.choose.proofs.TakeLaws.{key-walked}
+use Rattle.choose.proofs.WalkLaws.{Ahead, ahead-start, ahead-skip, ahead-take, ahead-full, ahead-done, ahead-at, thirteen, met-one, met-none}
 use native.Mathlib.Omega.{arith}
 use borrow.Author.Needs.{needs}
 use Rattle.choose.proofs.take.walk_run.Statement.{statement}
 use Rattle.choose.proofs.take.walk_run.Tie as tie
 
 abbrev Inv-loop : tie.InvT-loop
-Inv-loop reserved used end n from taken₀ b₀ count₀ hit₀ taken b count hit = Ahead (marked reserved) (marked used) (pass (marked reserved) (marked used) (n - from) (bucketsUpTo b₀ end)) n from taken₀ end b count hit taken
+Inv-loop s at reserved used n taken₀ end passed b₀ count₀ refusal₀ taken b count refusal = Ahead (marked reserved) (marked used) (pass (marked reserved) (marked used) (n - count₀) (bucketsUpTo b₀ end)) n count₀ taken₀ end b count refusal taken
 
 abbrev μ-loop : tie.MeasureT-loop
-μ-loop reserved used end n from taken₀ b₀ count₀ hit₀ taken b count hit = end .0 - b .0
+μ-loop s at reserved used n taken₀ end passed b₀ count₀ refusal₀ taken b count refusal = end .0 - b .0
+
+abbrev run : tie.At-loop Inv-loop μ-loop → tie.After-run-of Inv-loop μ-loop
+run l = l .before .before .before .before
 
 abbrev start : tie.At-loop Inv-loop μ-loop → tie.Start Inv-loop μ-loop
-start l = l .before .before
+start l = run l .before .before .before
 
-below : (c : tie.Then1 Inv-loop μ-loop) → c .before .before .loop .b .0 < start (c .before .before) .args .end .0
+abbrev key : tie.At-loop Inv-loop μ-loop → Key
+key l = keyHere (start l .args .s .now) (start l .args .at)
+
+-- the end's bound
+limit : (l : tie.At-loop Inv-loop μ-loop) → run l .run-of .result .end .0 ≤ 65536
+limit l = subst⁻¹ (λ (r : Run). r .end .0 ≤ 65536) (run l .run-of .ensures) (run-end (key l) (start l .pre .0 .end))
+
+below : (c : tie.Then1 Inv-loop μ-loop) → c .before .before .loop .b .0 < run (c .before .before) .run-of .result .end .0
 below c = ltb-true _ _ (sym (c .before .bucket-below .ensures) ∙ c .if1 .taken)
 
 -- a bucket is still needed, and there is room for it
@@ -34,28 +48,40 @@ room : (c : tie.Else2 Inv-loop μ-loop) →
 room c =
     let l = c .before .before .before in
     let h : l .loop .count < start l .args .n = omega (arith, l .loop .inv .most, c .if2 .left) in
-    (h, omega (arith, start l .pre .2, l .loop .inv .size), l .loop .inv .size)
+    (h, omega (arith, start l .pre .0 .room, l .loop .inv .size), l .loop .inv .size)
+
+run-of-requires : tie.Need-run-of-requires Inv-loop μ-loop
+run-of-requires c κs = c .before .before .pre .0 .key
+
+add-passed : tie.Need-add-passed Inv-loop μ-loop
+add-passed c = omega (arith, c .before .before .before .before .before .pre .0 .few)
 
 loop-holds : tie.Need-loop-holds Inv-loop μ-loop
-loop-holds c = ahead-start _ _ _ _ _ _ _ (c .before .pre .1)
+loop-holds c = ahead-start _ _ _ _ _ _ _ (c .before .before .before .before .before .before .pre .0 .most)
 
 bucket-below-requires : tie.Need-bucket-below-requires Inv-loop μ-loop
 bucket-below-requires c κs = search needs
 
 buckets-between-requires : tie.Need-buckets-between-requires Inv-loop μ-loop
-buckets-between-requires c κs = (omega (arith, below (c .before)), c .before .before .before .before .before .pre .0)
+buckets-between-requires c κs = (omega (arith, below (c .before)), limit (c .before .before .before))
 
 same-length : tie.Need-same-length Inv-loop μ-loop
 same-length c = c .before .before .before .before .loop .inv .size
 
 returns : tie.Need-returns Inv-loop μ-loop
-returns c = ahead-full _ _ (c .before .before .before .before .loop .inv) _ (c .before .if2 .taken) (c .buckets-between .ensures)
+returns c =
+    let l = c .before .before .before .before in
+    let a = start l in
+    let q = a .pre .0 in
+    key-walked _ _ (key l) _ (a .args .from) _ _ _ _ (q .tables .reserved-told) (q .tables .used-told) (q .end) (a .pre .1) (q .most)
+    (run l .run-of .result) (run l .run-of .ensures) _
+    (ahead-full _ _ (l .loop .inv) _ (c .before .if2 .taken) (c .buckets-between .ensures)) refl
 
 is-marked-requires : tie.Need-is-marked-requires Inv-loop μ-loop
-is-marked-requires c κs = omega (arith, below (c .before), start (c .before .before .before) .pre .0)
+is-marked-requires c κs = omega (arith, below (c .before), limit (c .before .before .before))
 
 is-marked-requires-2 : tie.Need-is-marked-requires-2 Inv-loop μ-loop
-is-marked-requires-2 c κs = omega (arith, below (c .before .before .before), start (c .before .before .before .before .before) .pre .0)
+is-marked-requires-2 c κs = omega (arith, below (c .before .before .before), limit (c .before .before .before .before .before))
 
 mul-taken : tie.Need-mul-taken Inv-loop μ-loop
 mul-taken c = omega (arith, room (c .before .before .before .before), start (c .before .before .before .before .before .before .before) .good)
@@ -67,7 +93,7 @@ add-count : tie.Need-add-count Inv-loop μ-loop
 add-count c = omega (arith, room (c .before .before .before .before))
 
 next-bucket-requires : tie.Need-next-bucket-requires Inv-loop μ-loop
-next-bucket-requires c κs = omega (arith, below (c .before .before .before), start (c .before .before .before .before .before) .pre .0)
+next-bucket-requires c κs = omega (arith, below (c .before .before .before), limit (c .before .before .before .before .before))
 
 loop-less : tie.Need-loop-less Inv-loop μ-loop
 loop-less c = omega (arith, below (c .before .before .before .before), ap (λ (b : Bucket). b .0) (c .next-bucket .ensures))
@@ -79,10 +105,11 @@ loop-again c =
     let m = sym (c .before .before .is-marked .ensures) in
     ⊎-elim
     (λ w.
-    let hit : w .2 .hit ≡ (l .loop .hit || marked (start l .args .used .now) (l .loop .b)) =
-    ⊎-elim (λ u. u .1 ∙ met-one (l .loop .hit) (sym (w .1 .ensures) ∙ u .0 .taken)) (λ u. u .1 ∙ met-none (l .loop .hit) (sym (w .1 .ensures) ∙ u .0 .left)) (w .2 .came) in
+    let met : w .2 .refusal ≡ thirteen (marked (start l .args .used .now) (l .loop .b)) (l .loop .refusal) =
+    ⊎-elim (λ u. u .1 ∙ met-one (l .loop .refusal) (sym (w .1 .ensures) ∙ u .0 .taken)) (λ u. u .1 ∙ met-none (l .loop .refusal) (sym (w .1 .ensures) ∙ u .0 .left))
+    (w .2 .came) in
     ahead-at (c .next-bucket .ensures) (w .4) (w .5) (w .3)
-    (ahead-take _ _ (l .loop .inv) (w .2 .hit) (room e .0) (start l .pre .2) (below (e .before)) (m ∙ not-true _ (w .0 .taken)) hit))
+    (ahead-take _ _ (l .loop .inv) (w .2 .refusal) (room e .0) (start l .pre .0 .room) (below (e .before)) (m ∙ not-true _ (w .0 .taken)) met))
     (λ w.
     ahead-at (c .next-bucket .ensures) (w .2) (w .3) (w .1)
     (ahead-skip _ _ (l .loop .inv) (room e .0) (below (e .before)) (m ∙ not-false _ (w .0 .left))))
@@ -94,7 +121,11 @@ same-length-2 c = c .before .before .loop .inv .size
 returns-2 : tie.Need-returns-2 Inv-loop μ-loop
 returns-2 c =
     let l = c .before .before in
-    ahead-done _ _ (l .loop .inv) (ltb-false (l .loop .b .0) (start l .args .end .0) (sym (c .before .bucket-below .ensures) ∙ c .if1 .left))
+    let a = start l in
+    let q = a .pre .0 in
+    key-walked _ _ (key l) _ (a .args .from) _ _ _ _ (q .tables .reserved-told) (q .tables .used-told) (q .end) (a .pre .1) (q .most)
+    (run l .run-of .result) (run l .run-of .ensures) _
+    (ahead-done _ _ (l .loop .inv) (ltb-false (l .loop .b .0) (run l .run-of .result .end .0) (sym (c .before .bucket-below .ensures) ∙ c .if1 .left))) refl
 
 pub walk-run-spec : {M : Type 1} → statement M
 walk-run-spec =
@@ -102,6 +133,8 @@ walk-run-spec =
     (tie.spec
     Inv-loop
     μ-loop
+    run-of-requires
+    add-passed
     loop-holds
     bucket-below-requires
     buckets-between-requires

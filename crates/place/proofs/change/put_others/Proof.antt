@@ -4,8 +4,8 @@ use mathlib.Core.List.{List, map}
 use Rattle.calls.specs.Extents as calls
 use Rattle.calls.specs.Place.{placedOf}
 use Rattle.calls.specs.Answers.{readCall}
-use Rattle.placed.specs.Pieces.{bucketsIn}
 use Rattle.accounting.specs.Tally.{talliesOf}
+use Rattle.wire.specs.Kinds.{bucketsIn}
 use Rattle.wire.proofs.EmitLaws.{emitted, and-then}
 use Rattle.placed.proofs.StepLaws.{buckets-length}
 use Rattle.accounting.proofs.PlaceRowLaws.{placed-pieces}

@@ -9,7 +9,7 @@ use Rattle.wire.proofs.OutputLaws.{Part, begin, turn, wrote-length}
 use Rattle.calls.specs.CallList.{Volume}
 use Rattle.calls.specs.Extents as calls
 use Rattle.calls.specs.Place.{newAllocKey}
-use Rattle.placed.specs.Pieces.{bucketsIn}
+use Rattle.wire.specs.Kinds.{bucketsIn}
 use Rattle.placed.specs.Plan.{Dirty, AllocsOf}
 use Rattle.wire.proofs.EmitLaws.{emitted, done}
 use Rattle.change_fields.proofs.FieldLists.{fields-next, fields-none}

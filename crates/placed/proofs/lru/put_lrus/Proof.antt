@@ -10,7 +10,7 @@ use Rattle.calls.specs.Extents as calls
 use Rattle.calls.specs.Lru.{lruKeys}
 use Rattle.calls.specs.Place.{dirtyIn}
 use Rattle.change_fields.specs.FieldBytes.{keysBytes}
-use Rattle.placed.specs.Pieces.{bucketIs, bucketsIn}
+use Rattle.wire.specs.Kinds.{bucketIs, bucketsIn}
 use Rattle.placed.specs.Plan.{Dirty}
 use Rattle.wire.proofs.EmitLaws.{emitted, done}
 use Rattle.change_fields.proofs.FieldLists.{flat-next, flat-none}

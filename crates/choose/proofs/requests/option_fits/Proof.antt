@@ -1,8 +1,8 @@
 -- `option_fits` meets its contract. Assumes nothing.
 use borrow.Author.Tests.{eq-eqb, ne-eqb}
 use borrow.Author.Needs.{needs}
-use Rattle.choose.proofs.refusals.option_fits.Statement.{statement}
-use Rattle.choose.proofs.refusals.option_fits.Tie as tie
+use Rattle.choose.proofs.requests.option_fits.Statement.{statement}
+use Rattle.choose.proofs.requests.option_fits.Tie as tie
 
 returns : tie.Need-returns
 returns c = rw (ne-eqb _ 0 (c .if1 .taken))

@@ -4,8 +4,8 @@ use mathlib.Core.Bool.{Bool, _&&_}
 use Rattle.calls.specs.Pieces.{divides}
 use borrow.Author.Tests.{not-true, not-false}
 use borrow.Author.Needs.{needs}
-use Rattle.choose.proofs.refusals.block_fits.Statement.{statement}
-use Rattle.choose.proofs.refusals.block_fits.Tie as tie
+use Rattle.choose.proofs.requests.block_fits.Statement.{statement}
+use Rattle.choose.proofs.requests.block_fits.Tie as tie
 
 divides-requires : tie.Need-divides-requires
 divides-requires c κs = search needs

@@ -1,4 +1,4 @@
--- `refuse_early` meets its contract: each test passed leaves the tests from the next one on. Assumes nothing.
+-- `refuse_requests` meets its contract: each test passed leaves the tests from the next one on. Assumes nothing.
 use mathlib.Core.Path.{_≡_, sym, ap, _∙_}
 use mathlib.Core.Bool.{not, _&&_}
 use mathlib.Core.List.{[]}
@@ -12,19 +12,19 @@ use Rattle.calls.specs.Lists.{allOf}
 use Rattle.calls.specs.Pieces.{blockOf, divides, pieceSized}
 use Rattle.calls.specs.Place.{placeTests}
 use Rattle.calls.specs.Refusals.{verdict}
-use Rattle.choose.proofs.EarlyLaws.{verdict-next, verdict-stops, from-5, from-6, from-7, from-8, from-9, from-10, early}
+use Rattle.choose.proofs.RefusalLaws.{verdict-next, verdict-stops, from-5, from-6, from-7, from-8, from-9, first-tests}
 use borrow.Author.Needs.{needs}
-use Rattle.choose.proofs.refusals.refuse_early.Statement.{statement}
-use Rattle.choose.proofs.refusals.refuse_early.Tie as tie
+use Rattle.choose.proofs.refusals.refuse_requests.Statement.{statement}
+use Rattle.choose.proofs.refusals.refuse_requests.Tie as tie
 
 abbrev list : tie.Start → CallList
 list a = readCall (a .args .s .now)
 
 abbrev all : tie.Start → ℕ
-all a = verdict (take 7 (placeTests (list a)))
+all a = verdict (take 6 (placeTests (list a)))
 
 abbrev s4 : tie.Else1 → tie.Start
-s4 c = c .before .before .before .before .before
+s4 c = c .before .before .before .before
 
 abbrev s5 : tie.Else2 → tie.Start
 s5 c = s4 (c .before .before)
@@ -38,11 +38,8 @@ s7 c = s6 (c .before .before)
 abbrev s8 : tie.Else5 → tie.Start
 s8 c = s7 (c .before .before .before)
 
-abbrev s9 : tie.Else6 → tie.Start
-s9 c = s8 (c .before .before)
-
 past-4 : (c : tie.Else1) → all (s4 c) ≡ verdict (from-5 (list (s4 c)) (s4 c .args .h))
-past-4 c = early (list (s4 c)) (s4 c .args .h) (s4 c .pre .3) ∙ verdict-next 4 _ _ (ap not (ne-eqb _ 0 (c .if1 .left)))
+past-4 c = first-tests (list (s4 c)) (s4 c .args .h) (s4 c .pre .1) ∙ verdict-next 4 _ _ (ap not (ne-eqb _ 0 (c .if1 .left)))
 
 past-5 : (c : tie.Else2) → all (s5 c) ≡ verdict (from-6 (list (s5 c)) (s5 c .args .h))
 past-5 c = past-4 (c .before .before) ∙ verdict-next 5 _ _ (le-leb (s5 c .args .h .option) 3 (c .if2 .left))
@@ -76,13 +73,10 @@ sizing c =
     let a = s8 (c .before) in
     c .pieces-sized .ensures ∙ ap (λ (b : ℕ). allOf (pieceSized (a .args .h .«bucket_sectors») b) (list a .pieces)) (c .before .before .before .block-of .ensures)
 
-past-9 : (c : tie.Else6) → all (s9 c) ≡ verdict (from-10 (list (s9 c)) (s9 c .args .h))
-past-9 c = past-8 (c .before .before) ∙ verdict-next 9 _ _ (sym (sizing (c .before)) ∙ not-false _ (c .if6 .left))
-
 returns : tie.Need-returns
 returns c =
-    let a = c .before .before .before .before .before in
-    sym (early (list a) (a .args .h) (a .pre .3) ∙ verdict-stops 4 _ _ (omega arith) (ap not (eq-eqb _ 0 (c .if1 .taken))))
+    let a = c .before .before .before .before in
+    sym (first-tests (list a) (a .args .h) (a .pre .1) ∙ verdict-stops 4 _ _ (omega arith) (ap not (eq-eqb _ 0 (c .if1 .taken))))
 
 returns-2 : tie.Need-returns-2
 returns-2 c = sym (past-4 (c .before .before) ∙ verdict-stops 5 _ _ (omega arith) (lt-leb _ 3 (c .if2 .taken)))
@@ -109,23 +103,17 @@ returns-5 : tie.Need-returns-5
 returns-5 c = sym (past-7 (c .before .before .before) ∙ verdict-stops 8 _ _ (omega arith) (sym (fitting (c .before)) ∙ not-true _ (c .if5 .taken)))
 
 pieces-sized-requires : tie.Need-pieces-sized-requires
-pieces-sized-requires c κs = (s8 c .pre .2, some-block (c .before .before))
+pieces-sized-requires c κs = (s8 c .pre .0, some-block (c .before .before))
 
 returns-6 : tie.Need-returns-6
 returns-6 c = sym (past-8 (c .before .before) ∙ verdict-stops 9 _ _ (omega arith) (sym (sizing (c .before)) ∙ not-true _ (c .if6 .taken)))
 
-overlaps-requires : tie.Need-overlaps-requires
-overlaps-requires c κs = search needs
-
 returns-7 : tie.Need-returns-7
-returns-7 c = sym (past-9 (c .before .before) ∙ verdict-stops 10 _ _ (omega arith) (ap not (sym (c .before .overlaps .ensures) ∙ c .if7 .taken)))
-
-returns-8 : tie.Need-returns-8
 unfolding verdict
-returns-8 c = sym (past-9 (c .before .before) ∙ verdict-next 10 _ [] (ap not (sym (c .before .overlaps .ensures) ∙ c .if7 .left)))
+returns-7 c = sym (past-8 (c .before .before) ∙ verdict-next 9 _ [] (sym (sizing (c .before)) ∙ not-false _ (c .if6 .left)))
 
-pub refuse-early-spec : {M : Type 1} → statement M
-refuse-early-spec =
+pub refuse-requests-spec : {M : Type 1} → statement M
+refuse-requests-spec =
     tie.close
     (tie.spec
     returns
@@ -139,6 +127,4 @@ refuse-early-spec =
     returns-5
     pieces-sized-requires
     returns-6
-    overlaps-requires
-    returns-7
-    returns-8)
+    returns-7)
