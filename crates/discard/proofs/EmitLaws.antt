@@ -25,14 +25,14 @@ use Rattle.calls.specs.ChangeList.{batchFields, discardedField, endField}
 use Rattle.calls.specs.Discard.{joinedRuns, runKey, waitingKey, waitingDeletions, discardBatch}
 use Rattle.calls.specs.Trees.{deletion, withValue}
 use Rattle.reader.specs.KeyHere.{keyHere, keysHere}
-use Rattle.waiting.specs.Kept.{bucketHere}
-use Rattle.waiting.specs.Table.{waitsOf}
+use Rattle.need_discard.specs.Kept.{bucketHere}
+use Rattle.need_discard.specs.Table.{waitsOf}
 use Rattle.discard.specs.Emitted.{discardedKey, bucketsAt, batchBytes}
 use Rattle.accounting.specs.RowBytes.{rowsBytes}
 use Rattle.change_fields.specs.FieldBytes.{keysBytes}
 use Rattle.change_fields.proofs.FieldLists.{fields-none}
-use Rattle.waiting.specs.declared.waiting.Waits.{Waits}
-use Rattle.waiting.specs.declared.waiting.Waits.the-variants.{At, Not}
+use Rattle.need_discard.specs.declared.waiting.Waits.{Waits}
+use Rattle.need_discard.specs.declared.waiting.Waits.the-variants.{At, Not}
 
 -- what the keys at some offsets have, from index i on
 module _ {A : Type 0} (f : ℕ → A) (os : List ℕ) (i : ℕ) where

@@ -14,7 +14,7 @@ use Rattle.wire.proofs.OutputLaws.{Part, begin, turn}
 use Rattle.wire.proofs.EmitLaws.{done}
 use Rattle.wire.proofs.EncodeLaws.{encode-none, encode-one}
 use Rattle.calls.specs.Trees.{newKey}
-use Rattle.waiting.specs.Kept.{bucketHere}
+use Rattle.need_discard.specs.Kept.{bucketHere}
 use Rattle.change_fields.specs.FieldBytes.{keysBytes}
 use Rattle.change_fields.proofs.FieldLists.{fields-append}
 use Rattle.discard.proofs.EmitLaws.{at-next, at-none}

@@ -14,8 +14,8 @@ use Rattle.calls.specs.ChangeList.{Batch, batchFields, changeBytes}
 use Rattle.calls.specs.Discard.{chunks, discardBatch}
 use Rattle.calls.specs.Trees.{newKey, withValue}
 use Rattle.reader.specs.KeyHere.{keysHere}
-use Rattle.waiting.specs.Kept.{bucketHere}
-use Rattle.waiting.specs.Chosen.{needTrees}
+use Rattle.need_discard.specs.Kept.{bucketHere}
+use Rattle.need_discard.specs.Chosen.{needTrees}
 use Rattle.discard.specs.declared.runs.Run.{Run}
 
 -- an alloc key with its value discarded

@@ -9,23 +9,23 @@ ghost use Rattle.calls.specs.ChangeList.{discardedField};
 ghost use Rattle.calls.specs.Discard.{waitingDeletions};
 ghost use Rattle.reader.specs.KeyHere.{keyHere, keysHere};
 ghost use Rattle.change_fields.specs.FieldBytes.{keysBytes};
-ghost use Rattle.waiting.specs.Kept.{bucketHere, FreedKept};
-ghost use Rattle.waiting.specs.Table.{Tabled};
+ghost use Rattle.need_discard.specs.Kept.{bucketHere, DiscardedKept};
+ghost use Rattle.need_discard.specs.Table.{WaitingTable};
 ghost use Rattle.discard.specs.Emitted.{discardedKey, bucketsAt, batchBytes};
 use crate::runs;
 use accounting::discard_rows;
 use change_fields::end;
 use change_fields::keys;
 use format::alloc;
+use need_discard::waiting as waiting_keys;
+use need_discard::waiting::Waits;
 use reader::key;
-use waiting::waiting as waiting_keys;
-use waiting::waiting::Waits;
 use wire::emit;
 use wire::emit_key;
 
-// The alloc key at an offset, its value discarded. `freed_keys` shows what is required of the offsets, here and below.
+// The alloc key at an offset, its value discarded. `discarded_keys` shows what is required of the offsets, here and below.
 fn put_alloc_key(out: &mut [u8], at: usize, s: &[u8], o: u32) -> usize
-    requires { ⌜ FreedKept (now s) o ⌝ }
+    requires { ⌜ DiscardedKept (now s) o ⌝ }
     ensures { λ r. ⌜ Emitted (now (out .entry)) at (encodeField (keyField 4 (discardedKey (keyHere (now (s .entry)) o)))) (now (out .exit)) r ⌝ }
 {
     let k = key::key_at(s, o as usize);
@@ -34,14 +34,14 @@ fn put_alloc_key(out: &mut [u8], at: usize, s: &[u8], o: u32) -> usize
 }
 
 // Tree 4.
-fn put_alloc_keys(out: &mut [u8], at: usize, s: &[u8], freed: &[u32]) -> usize
-    requires { ⌜ All (FreedKept (now s)) (now freed) ⌝ }
-    ensures { λ r. ⌜ Emitted (now (out .entry)) at (keysBytes 4 (map discardedKey (keysHere (now (s .entry)) (now (freed .entry))))) (now (out .exit)) r ⌝ }
+fn put_alloc_keys(out: &mut [u8], at: usize, s: &[u8], discarded: &[u32]) -> usize
+    requires { ⌜ All (DiscardedKept (now s)) (now discarded) ⌝ }
+    ensures { λ r. ⌜ Emitted (now (out .entry)) at (keysBytes 4 (map discardedKey (keysHere (now (s .entry)) (now (discarded .entry))))) (now (out .exit)) r ⌝ }
 {
     let mut p = at;
     let mut i: usize = 0;
-    while i < freed.len() {
-        p = put_alloc_key(out, p, s, freed[i]);
+    while i < discarded.len() {
+        p = put_alloc_key(out, p, s, discarded[i]);
         i += 1;
     }
     p
@@ -49,7 +49,7 @@ fn put_alloc_keys(out: &mut [u8], at: usize, s: &[u8], freed: &[u32]) -> usize
 
 // The deletion of the need-discard key that stands for the bucket at an offset. `discard_lists` chooses the table, here and below.
 fn put_waiting(out: &mut [u8], at: usize, s: &[u8], o: u32, needs: &[u32], table: &[u16]) -> usize
-    requires { ⌜ FreedKept (now s) o × Tabled (now s) (now needs) (now table) ⌝ }
+    requires { ⌜ DiscardedKept (now s) o × WaitingTable (now s) (now needs) (now table) ⌝ }
     ensures { λ r. ⌜ Emitted (now (out .entry)) at (keysBytes 12 (waitingDeletions (keysHere (now (s .entry)) (now (needs .entry))) (bucketHere (now (s .entry)) o))) (now (out .exit)) r ⌝ }
 {
     let Waits::At(pos) = waiting_keys::waiting_at(s, needs, table, key::bucket_at(s, o as usize))
@@ -64,31 +64,31 @@ fn put_deletions(
     out: &mut [u8],
     at: usize,
     s: &[u8],
-    freed: &[u32],
+    discarded: &[u32],
     needs: &[u32],
     table: &[u16],
 ) -> usize
-    requires { ⌜ All (FreedKept (now s)) (now freed) × Tabled (now s) (now needs) (now table) ⌝ }
-    ensures { λ r. ⌜ Emitted (now (out .entry)) at (keysBytes 12 (flatMap (waitingDeletions (keysHere (now (s .entry)) (now (needs .entry)))) (bucketsAt (now (s .entry)) (now (freed .entry))))) (now (out .exit)) r ⌝ }
+    requires { ⌜ All (DiscardedKept (now s)) (now discarded) × WaitingTable (now s) (now needs) (now table) ⌝ }
+    ensures { λ r. ⌜ Emitted (now (out .entry)) at (keysBytes 12 (flatMap (waitingDeletions (keysHere (now (s .entry)) (now (needs .entry)))) (bucketsAt (now (s .entry)) (now (discarded .entry))))) (now (out .exit)) r ⌝ }
 {
     let mut p = at;
     let mut i: usize = 0;
-    while i < freed.len() {
-        p = put_waiting(out, p, s, freed[i], needs, table);
+    while i < discarded.len() {
+        p = put_waiting(out, p, s, discarded[i], needs, table);
         i += 1;
     }
     p
 }
 
 // 75.
-fn put_unreserved(out: &mut [u8], at: usize, s: &[u8], freed: &[u32]) -> usize
-    requires { ⌜ All (FreedKept (now s)) (now freed) ⌝ }
-    ensures { λ r. ⌜ Emitted (now (out .entry)) at (encode (map discardedField (bucketsAt (now (s .entry)) (now (freed .entry))))) (now (out .exit)) r ⌝ }
+fn put_unreserved(out: &mut [u8], at: usize, s: &[u8], discarded: &[u32]) -> usize
+    requires { ⌜ All (DiscardedKept (now s)) (now discarded) ⌝ }
+    ensures { λ r. ⌜ Emitted (now (out .entry)) at (encode (map discardedField (bucketsAt (now (s .entry)) (now (discarded .entry))))) (now (out .exit)) r ⌝ }
 {
     let mut p = at;
     let mut i: usize = 0;
-    while i < freed.len() {
-        p = emit::put_bucket(out, p, 75, key::bucket_at(s, freed[i] as usize));
+    while i < discarded.len() {
+        p = emit::put_bucket(out, p, 75, key::bucket_at(s, discarded[i] as usize));
         i += 1;
     }
     p
@@ -99,17 +99,17 @@ pub fn discard_buckets(
     out: &mut [u8],
     at: usize,
     s: &[u8],
-    freed: &[u32],
+    discarded: &[u32],
     needs: &[u32],
     table: &[u16],
 ) -> usize
-    requires { ⌜ All (FreedKept (now s)) (now freed) × (0 < length (now freed)) × (length (now freed) ≤ 4096) × Tabled (now s) (now needs) (now table) ⌝ }
-    ensures { λ r. ⌜ Emitted (now (out .entry)) at (batchBytes (now (s .entry)) (now (needs .entry)) (now (freed .entry))) (now (out .exit)) r ⌝ }
+    requires { ⌜ All (DiscardedKept (now s)) (now discarded) × (0 < length (now discarded)) × (length (now discarded) ≤ 4096) × WaitingTable (now s) (now needs) (now table) ⌝ }
+    ensures { λ r. ⌜ Emitted (now (out .entry)) at (batchBytes (now (s .entry)) (now (needs .entry)) (now (discarded .entry))) (now (out .exit)) r ⌝ }
 {
-    let p = put_alloc_keys(out, at, s, freed);
-    let p = runs::put_runs(out, p, s, freed);
-    let p = put_deletions(out, p, s, freed, needs, table);
-    let p = discard_rows::put_rows(out, p, freed.len() as u64);
-    let p = put_unreserved(out, p, s, freed);
+    let p = put_alloc_keys(out, at, s, discarded);
+    let p = runs::put_runs(out, p, s, discarded);
+    let p = put_deletions(out, p, s, discarded, needs, table);
+    let p = discard_rows::put_rows(out, p, discarded.len() as u64);
+    let p = put_unreserved(out, p, s, discarded);
     end::put_end(out, p)
 }

@@ -7,7 +7,7 @@ ghost use Rattle.wire.specs.Bytes.{All};
 ghost use Rattle.wire.specs.Output.{Emitted};
 ghost use Rattle.calls.specs.Discard.{joinedRuns, runKey};
 ghost use Rattle.change_fields.specs.FieldBytes.{keysBytes};
-ghost use Rattle.waiting.specs.Kept.{FreedKept};
+ghost use Rattle.need_discard.specs.Kept.{DiscardedKept};
 ghost use Rattle.discard.specs.Emitted.{bucketsAt, shownRun, endedRun, withBucket};
 use change_fields::keys;
 use reader::key;
@@ -56,10 +56,10 @@ fn with_bucket(r: Run, b: Bucket) -> Run
     Run { end, size: 1 }
 }
 
-// The runs of a batch. `freed_keys` and the limits show what is required.
-pub fn put_runs(out: &mut [u8], at: usize, s: &[u8], freed: &[u32]) -> usize
-    requires { ⌜ All (FreedKept (now s)) (now freed) × (length (now freed) ≤ 4096) ⌝ }
-    ensures { λ q. ⌜ Emitted (now (out .entry)) at (keysBytes 11 (map runKey (joinedRuns (bucketsAt (now (s .entry)) (now (freed .entry)))))) (now (out .exit)) q ⌝ }
+// The runs of a batch. `discarded_keys` and the limits show what is required.
+pub fn put_runs(out: &mut [u8], at: usize, s: &[u8], discarded: &[u32]) -> usize
+    requires { ⌜ All (DiscardedKept (now s)) (now discarded) × (length (now discarded) ≤ 4096) ⌝ }
+    ensures { λ q. ⌜ Emitted (now (out .entry)) at (keysBytes 11 (map runKey (joinedRuns (bucketsAt (now (s .entry)) (now (discarded .entry)))))) (now (out .exit)) q ⌝ }
 {
     let mut p = at;
     let mut r = Run {
@@ -67,8 +67,8 @@ pub fn put_runs(out: &mut [u8], at: usize, s: &[u8], freed: &[u32]) -> usize
         size: 0,
     };
     let mut i: usize = 0;
-    while i < freed.len() {
-        let b = key::bucket_at(s, freed[i] as usize);
+    while i < discarded.len() {
+        let b = key::bucket_at(s, discarded[i] as usize);
         p = put_ended(out, p, r, b);
         r = with_bucket(r, b);
         i += 1;

@@ -31,9 +31,9 @@ use Rattle.reader.specs.declared.head.Head.{Head}
 use Rattle.reader.specs.declared.table.Ends.{Ends}
 use Rattle.reader.proofs.KeyHereLaws.{keyed, keys-here}
 use Rattle.reader.proofs.PartsLaws.{passed, read-on, read-refused, between, Part, alloc-part, gens-part, freeds-part}
-use Rattle.freed.specs.Freeds.{freedsIn, Requested}
-use Rattle.freed.specs.Summing.{Cleared}
-use Rattle.shares.specs.Places.{Keyed}
+use Rattle.release_sums.specs.Freeds.{freedsIn, Requested}
+use Rattle.release_sums.specs.Summing.{Cleared}
+use Rattle.release_keys.specs.Places.{Keyed}
 use Rattle.release.specs.Outcomes.{volumeOf}
 use Rattle.release.proofs.TopLaws.{zeros-at}
 
@@ -124,7 +124,7 @@ trees-laid call s h =
     parts (treesOk (v .trees)) (inOrder bucketBelow (v .reserved)) (e .1) .0
 
 trees-ok : (s : List ℕ) → 0 ≡ callRefusal 2 s → EachTree (λ ks. keysOk ks ≡ true) (readVolume s .trees)
-trees-ok s z = trees-each (readVolume s .trees) (trees-laid 2 s (passed 2 s z .laid))
+trees-ok s z = trees-each (readVolume s .trees) (trees-laid 2 s (passed 2 s z .tables))
 
 -- ---- the scratch
 pub scratch-short : (l : List ℕ) → length l < 65536 → l ≡ scratchAfter l

@@ -36,7 +36,7 @@ returns c =
     let r = d .before .before .before .before in
     let k = r .before .before .before .before in
     let a = k .before .before .before .before .before .before .before .args in
-    emitted (batch-is (now (a .s)) (now (a .needs)) (now (a .freed)))
+    emitted (batch-is (now (a .s)) (now (a .needs)) (now (a .discarded)))
     (and-then (k .put-alloc-keys .ensures)
     (and-then (r .put-runs .ensures)
     (and-then (d .put-deletions .ensures) (and-then (w .put-rows .ensures) (and-then (u .put-unreserved .ensures) (z .put-end .ensures))))))

@@ -11,16 +11,16 @@ use Rattle.reader.specs.KeyHere.{keyHere, keysHere}
 use Rattle.change_fields.specs.FieldBytes.{keysBytes}
 use Rattle.change_fields.proofs.FieldLists.{fields-next, fields-none}
 use Rattle.discard.specs.Emitted.{discardedKey}
-use Rattle.waiting.proofs.KeptLaws.{all-at}
+use Rattle.need_discard.proofs.KeptLaws.{all-at}
 use Rattle.discard.proofs.EmitLaws.{at-next, at-none}
 use Rattle.discard.proofs.batch.put_alloc_keys.Statement.{statement}
 use Rattle.discard.proofs.batch.put_alloc_keys.Tie as tie
 
 abbrev Inv-loop : tie.InvT-loop
-Inv-loop out₀ at s freed p₀ i₀ out p i = Part out₀ at (keysBytes 4 (map discardedKey (keysHere s freed))) out p (keysBytes 4 (map discardedKey (drop i (keysHere s freed))))
+Inv-loop out₀ at s discarded p₀ i₀ out p i = Part out₀ at (keysBytes 4 (map discardedKey (keysHere s discarded))) out p (keysBytes 4 (map discardedKey (drop i (keysHere s discarded))))
 
 abbrev μ-loop : tie.MeasureT-loop
-μ-loop out₀ at s freed p₀ i₀ out p i = length freed - i
+μ-loop out₀ at s discarded p₀ i₀ out p i = length discarded - i
 
 loop-holds : tie.Need-loop-holds Inv-loop μ-loop
 loop-holds c = begin _ _ _ (omega arith)
@@ -45,7 +45,7 @@ loop-again c =
     let k = c .before .before in
     let l = k .before .before .before .before in
     let a = l .before .before .before .before .args in
-    turn _ (l .loop .inv) (fields-next (keyField 4) (ap (map discardedKey) (at-next (keyHere (a .s .now)) (a .freed .now) (l .loop .i) (omega arith)))) (k .put-alloc-key .ensures)
+    turn _ (l .loop .inv) (fields-next (keyField 4) (ap (map discardedKey) (at-next (keyHere (a .s .now)) (a .discarded .now) (l .loop .i) (omega arith)))) (k .put-alloc-key .ensures)
 
 same-length : tie.Need-same-length Inv-loop μ-loop
 same-length c = part-length (c .before .loop .inv)
@@ -54,7 +54,7 @@ returns : tie.Need-returns Inv-loop μ-loop
 returns c =
     let l = c .before in
     let a = l .before .before .before .before .args in
-    done (l .loop .inv) (fields-none (keyField 4) (ap (map discardedKey) (at-none (keyHere (a .s .now)) (a .freed .now) (l .loop .i) (omega arith))))
+    done (l .loop .inv) (fields-none (keyField 4) (ap (map discardedKey) (at-none (keyHere (a .s .now)) (a .discarded .now) (l .loop .i) (omega arith))))
 
 pub put-alloc-keys-spec : {M : Type 1} → statement M
 put-alloc-keys-spec =

@@ -10,18 +10,18 @@ use Rattle.calls.specs.Discard.{waitingDeletions}
 use Rattle.reader.specs.KeyHere.{keysHere}
 use Rattle.change_fields.specs.FieldBytes.{keysBytes}
 use Rattle.change_fields.proofs.FieldLists.{flat-next, flat-none}
-use Rattle.waiting.specs.Kept.{bucketHere}
+use Rattle.need_discard.specs.Kept.{bucketHere}
 use Rattle.discard.specs.Emitted.{bucketsAt}
-use Rattle.waiting.proofs.KeptLaws.{all-at}
+use Rattle.need_discard.proofs.KeptLaws.{all-at}
 use Rattle.discard.proofs.EmitLaws.{at-next, at-none}
 use Rattle.discard.proofs.batch.put_deletions.Statement.{statement}
 use Rattle.discard.proofs.batch.put_deletions.Tie as tie
 
 abbrev Inv-loop : tie.InvT-loop
-Inv-loop out₀ at s freed needs table p₀ i₀ out p i = Part out₀ at (keysBytes 12 (flatMap (waitingDeletions (keysHere s needs)) (bucketsAt s freed))) out p (keysBytes 12 (flatMap (waitingDeletions (keysHere s needs)) (drop i (bucketsAt s freed))))
+Inv-loop out₀ at s discarded needs table p₀ i₀ out p i = Part out₀ at (keysBytes 12 (flatMap (waitingDeletions (keysHere s needs)) (bucketsAt s discarded))) out p (keysBytes 12 (flatMap (waitingDeletions (keysHere s needs)) (drop i (bucketsAt s discarded))))
 
 abbrev μ-loop : tie.MeasureT-loop
-μ-loop out₀ at s freed needs table p₀ i₀ out p i = length freed - i
+μ-loop out₀ at s discarded needs table p₀ i₀ out p i = length discarded - i
 
 loop-holds : tie.Need-loop-holds Inv-loop μ-loop
 loop-holds c = begin _ _ _ (omega arith)
@@ -46,7 +46,7 @@ loop-again c =
     let k = c .before .before in
     let l = k .before .before .before .before in
     let a = l .before .before .before .before .before .before .args in
-    turn _ (l .loop .inv) (flat-next (keyField 12) (waitingDeletions (keysHere (a .s .now) (a .needs .now))) (at-next (bucketHere (a .s .now)) (a .freed .now) (l .loop .i) (omega arith))) (k .put-waiting .ensures)
+    turn _ (l .loop .inv) (flat-next (keyField 12) (waitingDeletions (keysHere (a .s .now) (a .needs .now))) (at-next (bucketHere (a .s .now)) (a .discarded .now) (l .loop .i) (omega arith))) (k .put-waiting .ensures)
 
 same-length : tie.Need-same-length Inv-loop μ-loop
 same-length c = part-length (c .before .loop .inv)
@@ -55,7 +55,7 @@ returns : tie.Need-returns Inv-loop μ-loop
 returns c =
     let l = c .before in
     let a = l .before .before .before .before .before .before .args in
-    done (l .loop .inv) (flat-none (keyField 12) (waitingDeletions (keysHere (a .s .now) (a .needs .now))) (at-none (bucketHere (a .s .now)) (a .freed .now) (l .loop .i) (omega arith)))
+    done (l .loop .inv) (flat-none (keyField 12) (waitingDeletions (keysHere (a .s .now) (a .needs .now))) (at-none (bucketHere (a .s .now)) (a .discarded .now) (l .loop .i) (omega arith)))
 
 pub put-deletions-spec : {M : Type 1} → statement M
 put-deletions-spec =

@@ -8,18 +8,18 @@ use mathlib.Core.List.{map}
 use Rattle.wire.specs.Encode.{encode}
 use Rattle.calls.specs.ChangeList.{discardedField}
 use Rattle.change_fields.proofs.FieldLists.{fields-next, fields-none}
-use Rattle.waiting.specs.Kept.{bucketHere}
+use Rattle.need_discard.specs.Kept.{bucketHere}
 use Rattle.discard.specs.Emitted.{bucketsAt}
-use Rattle.waiting.proofs.KeptLaws.{all-at}
+use Rattle.need_discard.proofs.KeptLaws.{all-at}
 use Rattle.discard.proofs.EmitLaws.{at-next, at-none}
 use Rattle.discard.proofs.batch.put_unreserved.Statement.{statement}
 use Rattle.discard.proofs.batch.put_unreserved.Tie as tie
 
 abbrev Inv-loop : tie.InvT-loop
-Inv-loop out₀ at s freed p₀ i₀ out p i = Part out₀ at (encode (map discardedField (bucketsAt s freed))) out p (encode (map discardedField (drop i (bucketsAt s freed))))
+Inv-loop out₀ at s discarded p₀ i₀ out p i = Part out₀ at (encode (map discardedField (bucketsAt s discarded))) out p (encode (map discardedField (drop i (bucketsAt s discarded))))
 
 abbrev μ-loop : tie.MeasureT-loop
-μ-loop out₀ at s freed p₀ i₀ out p i = length freed - i
+μ-loop out₀ at s discarded p₀ i₀ out p i = length discarded - i
 
 loop-holds : tie.Need-loop-holds Inv-loop μ-loop
 loop-holds c = begin _ _ _ (omega arith)
@@ -51,7 +51,7 @@ loop-again c =
     let b = k .before in
     let l = b .before .before .before .before in
     let a = l .before .before .before .before .args in
-    turn _ (l .loop .inv) (fields-next discardedField (at-next (bucketHere (a .s .now)) (a .freed .now) (l .loop .i) (omega arith))) (rw (b .bucket-at .ensures) at (k .put-bucket .ensures))
+    turn _ (l .loop .inv) (fields-next discardedField (at-next (bucketHere (a .s .now)) (a .discarded .now) (l .loop .i) (omega arith))) (rw (b .bucket-at .ensures) at (k .put-bucket .ensures))
 
 same-length : tie.Need-same-length Inv-loop μ-loop
 same-length c = part-length (c .before .loop .inv)
@@ -60,7 +60,7 @@ returns : tie.Need-returns Inv-loop μ-loop
 returns c =
     let l = c .before in
     let a = l .before .before .before .before .args in
-    done (l .loop .inv) (fields-none discardedField (at-none (bucketHere (a .s .now)) (a .freed .now) (l .loop .i) (omega arith)))
+    done (l .loop .inv) (fields-none discardedField (at-none (bucketHere (a .s .now)) (a .discarded .now) (l .loop .i) (omega arith)))
 
 pub put-unreserved-spec : {M : Type 1} → statement M
 put-unreserved-spec =
