@@ -6,7 +6,7 @@ use mathlib.Core.List.{List, [], _∷_, map, map-map}
 use native.Mathlib.Omega.{arith}
 use lib.Dec.{eqb}
 use lib.ListN.{length, take, drop, length-map}
-use borrow.Author.Tests.{eq-eqb, ne-eqb, leb-true, ltb-true}
+use borrow.Author.Tests.{eq-eqb, ne-eqb, leb-true}
 use Rattle.wire.specs.Bytes.{All, none, more}
 use Rattle.wire.specs.Keys.{Key}
 use Rattle.wire.specs.Kinds.{bucketInRange}
@@ -49,14 +49,14 @@ pub alloc-kept : {s os : List ℕ} {ks : List Key} → KeysAt s os ks → allOf 
     → All (AllocKept s) os
 alloc-kept q h =
     found _
-    (λ o k r t. record { kept = r .whole; below = λ z. rw (r .is) (ltb-true (k .pos .offset) 65536 (or-then (atInode0 k) _ t (eq-eqb _ 0 (rw (r .is) at z)))) })
+    (λ o k r t. record { kept = r .whole; below = λ z. rw (r .is) (or-then (atInode0 k) _ t (eq-eqb _ 0 (rw (r .is) at z))) })
     q h
 
 pub needs-kept : {s os : List ℕ} {ks : List Key} → KeysAt s os ks → allOf (λ k. not (isSet k) || bucketInRange (bucketIn (k .pos))) ks ≡ true
     → All (NeedKept s) os
 needs-kept q h =
     found _
-    (λ o k r t. record { kept = r .whole; below = λ z. rw (r .is) (ltb-true (k .pos .offset) 65536 (or-then (isSet k) _ t (eq-eqb _ 25 (rw (r .is) at z)))) })
+    (λ o k r t. record { kept = r .whole; below = λ z. rw (r .is) (or-then (isSet k) _ t (eq-eqb _ 25 (rw (r .is) at z))) })
     q h
 
 -- what the reader shows, as the parts of a discard want it

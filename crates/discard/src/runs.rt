@@ -1,9 +1,11 @@
 // The runs of neighbouring buckets that a batch makes free: tree 11.
 ghost use mathlib.Core.Path.{_≡_};
+ghost use mathlib.Core.Bool.{true};
 ghost use mathlib.Core.List.{map};
 ghost use Prim.Native.Nat.{_≤_, _<_};
 ghost use lib.ListN.{length};
 ghost use Rattle.wire.specs.Bytes.{All};
+ghost use Rattle.wire.specs.Kinds.{bucketInRange};
 ghost use Rattle.wire.specs.Output.{Emitted};
 ghost use Rattle.calls.specs.Discard.{joinedRuns, runKey};
 ghost use Rattle.change_fields.specs.FieldBytes.{keysBytes};
@@ -43,7 +45,7 @@ fn put_ended(out: &mut [u8], at: usize, r: Run, b: Bucket) -> usize
 
 // The run that a bucket joins, or begins. The limits show the bounds.
 fn with_bucket(r: Run, b: Bucket) -> Run
-    requires { ⌜ (b .0 < 65536) × (r .size < 4096) ⌝ }
+    requires { ⌜ (bucketInRange b ≡ true) × (r .size < 4096) ⌝ }
     ensures { λ q. ⌜ q ≡ withBucket r b ⌝ }
 {
     let end = kinds::next_bucket(b);

@@ -9,10 +9,10 @@ use native.Mathlib.Numerals.{add-one}
 use lib.Dec.{eqb}
 use lib.ListN.{length, getD, set, take, replicate, length-set, getD-replicate}
 use lib.Seq.{getD-set-same, getD-set-other, take-suc, take-length}
-use borrow.Author.Tests.{eqb-true, eqb-false, eq-eqb, ne-eqb}
+use borrow.Author.Tests.{eqb-true, eqb-false, eq-eqb, ne-eqb, ltb-true}
 use Rattle.wire.specs.Bytes.{All}
 use Rattle.wire.specs.Keys.{Key}
-use Rattle.wire.specs.Kinds.{sameBucket}
+use Rattle.wire.specs.Kinds.{sameBucket, bucketInRange}
 use Rattle.wire.specs.declared.kinds.Bucket.{Bucket}
 use Rattle.calls.specs.Limits.{isSet}
 use Rattle.calls.specs.Lists.{isNone}
@@ -55,7 +55,7 @@ entry-new {s} {needs} {ls} {b} {f} i h p q =
 pub empty-entries : (s needs : List ℕ) → Entries s needs [] (replicate 65536 0)
 unfolding waitingKey
 empty-entries s needs b h =
-    let e : _≡_ {A = ℕ} (getD (replicate 65536 0) (b .0) 0) 0 = getD-replicate 65536 (b .0) 0 0 h in
+    let e : _≡_ {A = ℕ} (getD (replicate 65536 0) (b .0) 0) 0 = getD-replicate 65536 (b .0) 0 0 (ltb-true (b .0) 65536 h) in
     record { unnamed = λ z. refl; named = λ z. absurd (omega arith) }
 
 pub noted-length : (s table : List ℕ) (o i : ℕ) → length (noted s table o i) ≡ length table
@@ -68,7 +68,7 @@ noted-length s table o i = go (isSet (keyHere s o))
 
 -- the key at place i is noted
 module _ (s needs table : List ℕ) (ks : List Key) (i : ℕ) (h : i < length needs) (l : length table ≡ 65536)
-    (t : Entries s needs ks table) (b : Bucket) (m : b .0 < 65536) where
+    (t : Entries s needs ks table) (b : Bucket) (m : bucketInRange b ≡ true) where
   abbrev o : ℕ
   o = getD needs i 0
 
@@ -84,7 +84,7 @@ module _ (s needs table : List ℕ) (ks : List Key) (i : ℕ) (h : i < length ne
           → Entry s needs (ks ++ keyHere s o ∷ []) b (getD (set table (bucketHere s o .0) (i + 1)) (b .0) 0)
       go true q =
           let p : bucketHere s o .0 ≡ b .0 = eqb-true (bucketHere s o .0) (b .0) q in
-          entry-new i h (rw p (getD-set-same table (b .0) (i + 1) 0 (omega arith))) (waiting-more ks (keyHere s o) b ∙ rw (e, q))
+          entry-new i h (rw p (getD-set-same table (b .0) (i + 1) 0 (omega (arith, ltb-true (b .0) 65536 m)))) (waiting-more ks (keyHere s o) b ∙ rw (e, q))
       go false q =
           let p = eqb-false (bucketHere s o .0) (b .0) q in
           entry-kept (t b m) (getD-set-other table (bucketHere s o .0) (b .0) (i + 1) 0 (λ z. p (sym z))) (waiting-more ks (keyHere s o) b ∙ rw (e, q))

@@ -2,12 +2,12 @@
 use Prim.Native.Nat.{ℕ, _+_, _-_, _≤_, _<_}
 use mathlib.Core.Path.{_≡_}
 use mathlib.Core.List.{List}
-use mathlib.Core.Bool.{Bool, _&&_, cond}
+use mathlib.Core.Bool.{Bool, true, _&&_, cond}
 use mathlib.Core.Option.{Option, none, some}
 use lib.ListN.{length, getD, set}
 use Rattle.wire.specs.Bytes.{All}
 use Rattle.wire.specs.Keys.{Key}
-use Rattle.wire.specs.Kinds.{sameBucket}
+use Rattle.wire.specs.Kinds.{sameBucket, bucketInRange}
 use Rattle.wire.specs.Positions.{bucketIn}
 use Rattle.wire.specs.declared.kinds.Bucket.{Bucket}
 use Rattle.calls.specs.Limits.{isSet}
@@ -33,7 +33,7 @@ pub record Entry (s needs : List ℕ) (ks : List Key) (b : Bucket) (e : ℕ) : T
 
 -- each bucket within the limit has the entry that these of the need-discard keys give it
 abbrev pub Entries : List ℕ → List ℕ → List Key → List ℕ → Type 0
-Entries s needs ks table = (b : Bucket) → b .0 < 65536 → Entry s needs ks b (getD table (b .0) 0)
+Entries s needs ks table = (b : Bucket) → bucketInRange b ≡ true → Entry s needs ks b (getD table (b .0) 0)
 
 -- A table with an entry for each bucket is filled, and the need-discard keys stand where they are looked for.
 pub record WaitingTable (s needs table : List ℕ) : Type 0 where

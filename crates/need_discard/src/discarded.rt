@@ -2,9 +2,10 @@
 ghost use mathlib.Core.Path.{_≡_};
 ghost use Prim.Native.Nat.{_+_, _≤_, _<_};
 ghost use mathlib.Core.List.{_++_};
-ghost use mathlib.Core.Bool.{not};
+ghost use mathlib.Core.Bool.{true, not};
 ghost use lib.ListN.{length, take, drop};
 ghost use Rattle.wire.specs.Bytes.{All};
+ghost use Rattle.wire.specs.Kinds.{bucketInRange};
 ghost use Rattle.calls.specs.Lists.{isNone};
 ghost use Rattle.calls.specs.Discard.{waitingKey, genTaken};
 ghost use Rattle.reader.specs.KeyHere.{keysHere};
@@ -28,7 +29,7 @@ pub fn gen_taken(s: &[u8], at: usize) -> bool
 
 // Whether a need-discard key names a bucket.
 fn is_waiting(s: &[u8], needs: &[u32], table: &[u16], b: Bucket) -> bool
-    requires { ⌜ WaitingTable (now s) (now needs) (now table) × (b .0 < 65536) ⌝ }
+    requires { ⌜ WaitingTable (now s) (now needs) (now table) × (bucketInRange b ≡ true) ⌝ }
     ensures { λ r. ⌜ r ≡ not (isNone (waitingKey (keysHere (now (s .entry)) (now (needs .entry))) b)) ⌝ }
 {
     let w = waiting::waiting_at(s, needs, table, b);

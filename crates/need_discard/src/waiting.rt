@@ -2,9 +2,11 @@
 // alloc keys, since to clear the table, 128 KiB, costs as much as a thousand comparisons. The table is filled in one pass, and has the place of a key in
 // two bytes, which is half the memory of its offset.
 ghost use mathlib.Core.Path.{_≡_};
+ghost use mathlib.Core.Bool.{true};
 ghost use Prim.Native.Nat.{_≤_, _<_};
 ghost use lib.ListN.{length, replicate};
 ghost use Rattle.wire.specs.Bytes.{All};
+ghost use Rattle.wire.specs.Kinds.{bucketInRange};
 ghost use Rattle.calls.specs.Discard.{waitingKey};
 ghost use Rattle.reader.specs.KeyHere.{keyHere, keysHere};
 ghost use Rattle.need_discard.specs.Kept.{NeedKept};
@@ -73,7 +75,7 @@ fn search_entry(s: &[u8], needs: &[u32], b: Bucket) -> usize
 
 // The entry of a bucket: from the table, where it has one for each bucket, else by a search.
 fn entry_of(s: &[u8], needs: &[u32], table: &[u16], b: Bucket) -> usize
-    requires { ⌜ WaitingTable (now s) (now needs) (now table) × (b .0 < 65536) ⌝ }
+    requires { ⌜ WaitingTable (now s) (now needs) (now table) × (bucketInRange b ≡ true) ⌝ }
     ensures { λ r. ⌜ Entry (now (s .entry)) (now (needs .entry)) (keysHere (now (s .entry)) (now (needs .entry))) b r ⌝ }
 {
     if table.len() < 65536 {
@@ -84,7 +86,7 @@ fn entry_of(s: &[u8], needs: &[u32], table: &[u16], b: Bucket) -> usize
 
 // The key that stands for a bucket. `discard_lists` chooses the table.
 pub fn waiting_at(s: &[u8], needs: &[u32], table: &[u16], b: Bucket) -> Waits
-    requires { ⌜ WaitingTable (now s) (now needs) (now table) × (b .0 < 65536) ⌝ }
+    requires { ⌜ WaitingTable (now s) (now needs) (now table) × (bucketInRange b ≡ true) ⌝ }
     ensures { λ r. ⌜ r ≡ waitsOf (waitingKey (keysHere (now (s .entry)) (now (needs .entry))) b) ⌝ }
 {
     let e = entry_of(s, needs, table, b);

@@ -5,12 +5,12 @@ use mathlib.Core.List.{List, [], _∷_, _++_, map, flatMap, append-nil}
 use Prim.Native.Nat.{ℕ, zero, suc, _+_, _-_, _≤_, _<_}
 use native.Mathlib.Omega.{arith}
 use lib.IntN.{pos, negℤ, _+ℤ_}
-use lib.ListN.{length, getD, length-map}
+use lib.ListN.{length, getD}
 use lib.Dec.{eqb}
-use borrow.Author.Tests.{eq-eqb, ne-eqb}
+use borrow.Author.Tests.{eq-eqb, ne-eqb, lt-ltb}
 use Rattle.wire.specs.Encode.{encode, encodeField}
 use Rattle.wire.specs.Rows.{rowField}
-use Rattle.wire.specs.Kinds.{sameBucket, bucketBelow}
+use Rattle.wire.specs.Kinds.{sameBucket, bucketBelow, bucketsIn, bucketInRange}
 use Rattle.wire.specs.Positions.{backpointerAt}
 use Rattle.wire.specs.declared.kinds.Bucket.{Bucket}
 use Rattle.wire.proofs.EncodeLaws.{encode-append, encode-one}
@@ -35,8 +35,8 @@ use Rattle.release_sums.specs.Summing.{Sums, sumOf, summedBuckets, BucketsListe
 use Rattle.release_sums.proofs.FoundLaws.{freed-up, found-freed}
 use Rattle.release_keys.specs.Counting.{keptOf, lostOf}
 use Rattle.change_fields.specs.FieldBytes.{keysBytes, rootsBytes}
-use Rattle.release_keys.specs.Buckets.{bucketsIn}
 use Rattle.release_keys.specs.Tables.{Unrefused, UnrefusedIn, UnrefusedAt}
+use Rattle.release_keys.proofs.FreedBucketLaws.{buckets-length}
 use Rattle.release.specs.Outcomes.{BatchTables}
 
 -- ---- the batch
@@ -73,7 +73,7 @@ module _ (v : Volume) (rs : List Freed) where
 
 -- ---- the emptied buckets
 pub in-at : (ns : List ℕ) (j : ℕ) → j < length ns → isIn (bucketsIn ns) (bucket (getD ns j 0)) ≡ true
-unfolding isIn anyOf
+unfolding isIn anyOf bucketsIn
 in-at [] j h = absurd (omega arith)
 in-at (n ∷ ns) zero h = rw (eq-eqb n n refl)
 in-at (n ∷ ns) (suc j) h = go (eqb n (getD ns j 0)) (in-at ns j (omega arith))
@@ -81,6 +81,21 @@ in-at (n ∷ ns) (suc j) h = go (eqb n (getD ns j 0)) (in-at ns j (omega arith))
     go : (t : Bool) → isIn (bucketsIn ns) (bucket (getD ns j 0)) ≡ true → (t || isIn (bucketsIn ns) (bucket (getD ns j 0))) ≡ true
     go true h = refl
     go false h = h
+
+-- what holds of each bucket of a list
+in-more : (t : Bool) {u : Bool} → u ≡ true → (t || u) ≡ true
+in-more true m = refl
+in-more false m = m
+
+map-in : (f g : Bucket → ℕ) (bs : List Bucket) → ((b : Bucket) → isIn bs b ≡ true → f b ≡ g b) → map f bs ≡ map g bs
+unfolding isIn anyOf
+map-in f g [] h = refl
+map-in f g (b ∷ bs) h = λ x. h b (rw (eq-eqb (b .0) (b .0) refl)) x ∷ map-in f g bs (λ c m. h c (in-more (sameBucket b c) m)) x
+
+all-in : (t : Bucket → Bool) (bs : List Bucket) → ((b : Bucket) → isIn bs b ≡ true → t b ≡ true) → allOf t bs ≡ true
+unfolding isIn anyOf allOf
+all-in t [] h = refl
+all-in t (b ∷ bs) h = rw (h b (rw (eq-eqb (b .0) (b .0) refl))) (all-in t bs (λ c m. h c (in-more (sameBucket b c) m)))
 
 module _ {s : List ℕ} {h : Head} {requests buckets freed places records emptied generations : List ℕ} (d : BatchTables s h requests buckets freed places records emptied generations) where
   abbrev rs : List Freed
@@ -105,7 +120,7 @@ module _ {s : List ℕ} {h : Head} {requests buckets freed places records emptie
   tables-few =
       omega (
         arith,
-        length-map buckets bucket,
+        buckets-length buckets,
         ap length (d .tables .summed .named),
         named-few (h .bucketSectors) rs,
         d .tables .summed .requested .count,
@@ -116,8 +131,8 @@ module _ {s : List ℕ} {h : Head} {requests buckets freed places records emptie
   emptied-few =
       omega (
         arith,
-        length-map emptied bucket,
-        length-map buckets bucket,
+        buckets-length emptied,
+        buckets-length buckets,
         ap length (d .chosen),
         those-length (isEmptied (d .tables .volume) rs) (bucketsIn buckets),
         tables-few,
@@ -133,33 +148,25 @@ module _ {s : List ℕ} {h : Head} {requests buckets freed places records emptie
       (up-order 0 (those (isEmptied (d .tables .volume) rs) (freedBuckets (d .tables .volume .head .bucketSectors) rs))
       (up-those (isEmptied (d .tables .volume) rs) 0 (freedBuckets (d .tables .volume .head .bucketSectors) rs) (freed-up (d .tables .volume .head .bucketSectors) rs)))
 
-  pub emptied-low : (j : ℕ) → j < length emptied → getD emptied j 0 < 65536
-  emptied-low j l =
-      let b = bucket (getD emptied j 0) in
-      let i = sym (ap (λ (x : List Bucket). isIn x b) (d .chosen ∙ ap (those (isEmptied (d .tables .volume) rs)) (d .tables .summed .named))) ∙ in-at emptied j l in
-      named-range (h .bucketSectors) rs (d .tables .summed .checked) b
-      (parts (isEmptied (d .tables .volume) rs b) (isIn (freedBuckets (h .bucketSectors) rs) b) (sym (isIn-those (isEmptied (d .tables .volume) rs) (freedBuckets (h .bucketSectors) rs) b) ∙ i) .1)
+  pub emptied-low : allOf bucketInRange (bucketsIn emptied) ≡ true
+  emptied-low =
+      let e = d .chosen ∙ ap (those (isEmptied (d .tables .volume) rs)) (d .tables .summed .named) in
+      all-in bucketInRange (bucketsIn emptied)
+      (λ b i.
+      let m = sym (isIn-those (isEmptied (d .tables .volume) rs) (freedBuckets (h .bucketSectors) rs) b) ∙ sym (ap (λ (x : List Bucket). isIn x b) e) ∙ i in
+      lt-ltb (b .0) 65536 (named-range (h .bucketSectors) rs (d .tables .summed .checked) b (parts (isEmptied (d .tables .volume) rs b) (isIn (freedBuckets (h .bucketSectors) rs) b) m .1)))
 
 -- ---- the requests, listed
-map-in : (f g : Bucket → ℕ) (bs : List Bucket) → ((b : Bucket) → isIn bs b ≡ true → f b ≡ g b) → map f bs ≡ map g bs
-unfolding isIn anyOf
-map-in f g [] h = refl
-map-in f g (b ∷ bs) h = λ x. h b (rw (eq-eqb (b .0) (b .0) refl)) x ∷ map-in f g bs (λ c m. h c (go (sameBucket b c) m)) x
-  where
-    go : (t : Bool) {u : Bool} → u ≡ true → (t || u) ≡ true
-    go true m = refl
-    go false m = m
-
 pub listed-freed : {sectors : ℕ} {rs : List Freed} {sums buckets freed : List ℕ} {n : ℕ} → Sums sectors rs sums → allOf (freedOk sectors) rs ≡ true
     → BucketsListed (summedBuckets sums) (sumOf sums) buckets freed n → BucketsListed (freedBuckets sectors rs) (freedIn sectors rs) buckets freed n
 listed-freed {sectors} {rs} {sums} s ok l =
     let e = found-freed sectors rs sums s ok in
     record {
       count = l .count ∙ ap length e;
-      named = l .named ∙ ap (map (λ (b : Bucket). b .0)) e;
+      named = l .named ∙ e;
       valued =
           l .valued ∙ ap (map (sumOf sums)) e
-          ∙ map-in (sumOf sums) (freedIn sectors rs) (freedBuckets sectors rs) (λ b m. s .at (b .0) (named-range sectors rs ok b m));
+          ∙ map-in (sumOf sums) (freedIn sectors rs) (freedBuckets sectors rs) (λ b m. s .at b (lt-ltb (b .0) 65536 (named-range sectors rs ok b m)));
     }
 
 -- ---- the change list
@@ -170,4 +177,4 @@ one-batch b = ap encode (append-nil (batchFields b))
 -- no more are picked than there are
 pub listed-short : (t : Bucket → Bool) (bs : List ℕ) {value : Bucket → ℕ} {buckets freed : List ℕ} {n : ℕ} → BucketsListed (those t (bucketsIn bs)) value buckets freed n
     → n ≤ length bs
-listed-short t bs l = omega (arith, l .count, those-length t (bucketsIn bs), length-map bs bucket)
+listed-short t bs l = omega (arith, l .count, those-length t (bucketsIn bs), buckets-length bs)

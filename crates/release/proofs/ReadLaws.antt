@@ -7,7 +7,7 @@ use native.Mathlib.Omega.{arith}
 use lib.ListN.{length, getD, take, drop, replicate, length-append, length-take, length-drop, length-replicate, List·getD-append}
 use lib.Seq.{drop-at}
 use lib.Dec.{eqb}
-use borrow.Author.Tests.{le-leb, lt-leb, lt-ltb, le-ltb}
+use borrow.Author.Tests.{le-leb, lt-leb, lt-ltb, le-ltb, ltb-true}
 use Rattle.wire.specs.Fields.{fields, whole}
 use Rattle.wire.specs.Keys.{Key}
 use Rattle.wire.specs.Kinds.{bucketBelow}
@@ -147,7 +147,7 @@ module _ (l m : List ℕ) (h : 65536 ≤ length l) (e : m ≡ replicate 65536 0 
   cleared-length = ap length e ∙ front-length 65536 l h
 
   pub cleared : Cleared m
-  cleared = record { long = omega (arith, cleared-length); zero = λ b k. ap (λ (x : List ℕ). getD x b 0) e ∙ front-zero 65536 (drop 65536 l) b k }
+  cleared = record { long = omega (arith, cleared-length); zero = λ b k. ap (λ (x : List ℕ). getD x (b .0) 0) e ∙ front-zero 65536 (drop 65536 l) (b .0) (ltb-true (b .0) 65536 k) }
 
   pub cleared-after : scratchAfter m ≡ scratchAfter l
   cleared-after =

@@ -5,8 +5,8 @@ use mathlib.Core.List.{List, [], _∷_, _++_, map}
 use Prim.Native.Nat.{ℕ, zero, suc, _+_, _≤_, _<_}
 use native.Mathlib.Omega.{arith}
 use lib.ListN.{length, getD, take, drop, replicate, length-map}
-use borrow.Author.Tests.{eq-eqb, ne-eqb}
-use Rattle.wire.specs.Kinds.{bucketBelow}
+use borrow.Author.Tests.{eq-eqb, ne-eqb, lt-ltb}
+use Rattle.wire.specs.Kinds.{bucketBelow, bucketsIn}
 use Rattle.wire.specs.declared.kinds.Bucket.{Bucket}
 use Rattle.calls.specs.Answers.{Answer, answer, made, outcome}
 use Rattle.calls.specs.CallList.{Head, Volume, Freed}
@@ -22,16 +22,11 @@ use Rattle.calls.proofs.View.{bucket}
 use Rattle.release_sums.specs.Freeds.{freedsIn, Requested}
 use Rattle.release_sums.specs.Summing.{Cleared, BucketsListed}
 use Rattle.release_sums.proofs.FoundLaws.{freed-up}
-use Rattle.release_keys.specs.Buckets.{bucketsIn}
 use Rattle.release_keys.specs.Tables.{PlacesOf, FreedTables, Unrefused}
+use Rattle.release_keys.proofs.FreedBucketLaws.{bucket-at, buckets-length}
 use Rattle.release_keys.proofs.GenRecordLaws.{generation-at}
 use Rattle.release.specs.Outcomes.{Summed, VolumeTables, BatchTables, bucketTests}
 use Rattle.release.proofs.BatchLaws.{in-at}
-
--- numbers of buckets, and the buckets again
-pub buckets-back : (bs : List Bucket) → bucketsIn (map (λ (b : Bucket). b .0) bs) ≡ bs
-buckets-back [] = refl
-buckets-back (b ∷ bs) = ap (λ (l : List Bucket). b ∷ l) (buckets-back bs)
 
 -- ---- the freed buckets, listed
 pub summed-made : {s : List ℕ} {sectors : ℕ} {requests buckets freed : List ℕ} {n : ℕ} → Requested s requests → length requests ≤ 1024 → 0 < sectors
@@ -44,7 +39,7 @@ summed-made {s} {sectors} {requests} q f h ok l =
       few = f;
       some-sectors = h;
       checked = ok;
-      named = ap bucketsIn (l .named) ∙ buckets-back (freedBuckets sectors (freedsIn s requests));
+      named = l .named;
       sums = l .valued;
     }
 
@@ -54,7 +49,7 @@ module _ {s : List ℕ} {sectors : ℕ} {requests buckets freed : List ℕ} (m :
 
   pub summed-few : length buckets ≤ 1024
   summed-few =
-      omega (arith, length-map buckets bucket, ap length (m .named), named-few sectors pieces, m .requested .count, m .few)
+      omega (arith, buckets-length buckets, ap length (m .named), named-few sectors pieces, m .requested .count, m .few)
 
   pub summed-up : inOrder bucketBelow (bucketsIn buckets) ≡ true
   summed-up = rw (m .named) (up-order 0 (freedBuckets sectors pieces) (freed-up sectors pieces))
@@ -65,14 +60,15 @@ module _ {s : List ℕ} {sectors : ℕ} {requests buckets freed : List ℕ} (m :
       let a : freed ≡ map (freedIn sectors pieces) (bucketsIn buckets) = m .sums ∙ ap (map (freedIn sectors pieces)) (sym (m .named)) in
       record {
         named = m .named ∙ ap (λ (n : ℕ). freedBuckets n pieces) (sym e);
-        sums = ap length a ∙ length-map (bucketsIn buckets) (freedIn sectors pieces) ∙ length-map buckets bucket;
+        sums = ap length a ∙ length-map (bucketsIn buckets) (freedIn sectors pieces) ∙ buckets-length buckets;
         keys = p .count;
         at = λ i h.
-            record {
-              low = named-range sectors pieces (m .checked) (bucket (getD buckets i 0)) (ap (λ (l : List Bucket). isIn l (bucket (getD buckets i 0))) (sym (m .named)) ∙ in-at buckets i h);
+            rw (bucket-at buckets i)
+            (record {
+              low = lt-ltb (getD buckets i 0) 65536 (named-range sectors pieces (m .checked) (bucket (getD buckets i 0)) (ap (λ (l : List Bucket). isIn l (bucket (getD buckets i 0))) (sym (m .named)) ∙ in-at buckets i h));
               freed = generation-at freed buckets (freedIn sectors pieces) i h a ∙ ap (λ (n : ℕ). freedIn n pieces (bucket (getD buckets i 0))) (sym e);
-              key = p .at i h;
-            };
+              key = rw (bucket-at buckets i) at (p .at i h);
+            });
       }
 
 -- ---- refusals 15 to 19, and what follows
@@ -87,8 +83,7 @@ module _ {s : List ℕ} {h : Head} {requests buckets freed places records : List
   abbrev pub batch-tables : {emptied generations : List ℕ} {m : ℕ} → r ≡ 0 → BucketsListed (those (isEmptied (d .volume) (freedsIn s requests)) (bucketsIn buckets)) (emptiedGen (d .volume .trees)) emptied generations m
       → BatchTables s h requests buckets freed places records (take m emptied) (take m generations)
   batch-tables {emptied} {generations} {m} z l =
-      let b = ap bucketsIn (l .named) ∙ buckets-back (those (isEmptied (d .volume) (freedsIn s requests)) (bucketsIn buckets)) in
-      record { tables = d; none-refuses = same ∙ z; chosen = b; generations-are = l .valued ∙ ap (map (emptiedGen (d .volume .trees))) (sym b) }
+      record { tables = d; none-refuses = same ∙ z; chosen = l .named; generations-are = l .valued ∙ ap (map (emptiedGen (d .volume .trees))) (sym (l .named)) }
 
   pub tables-stop : (bytes : List ℕ) (room : ℕ) (out : List ℕ) {written : ℕ} → (r ≡ 0 → ⊥) → written ≡ 0
       → made r written out ≡ outcome (answer (bucketTests (d .volume) (freedsIn s requests)) bytes room) out
@@ -140,4 +135,4 @@ zeros-first (suc n) (x ∷ l) h z = λ k. z 0 (omega arith) k ∷ zeros-first n 
 
 -- a scratch that is cleared already
 pub cleared-is : (sums : List ℕ) → Cleared sums → sums ≡ replicate 65536 0 ++ drop 65536 sums
-cleared-is sums c = zeros-first 65536 sums (c .long) (c .zero)
+cleared-is sums c = zeros-first 65536 sums (c .long) (λ b h. c .zero (bucket b) (lt-ltb b 65536 h))

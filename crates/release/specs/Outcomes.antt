@@ -4,6 +4,7 @@ use mathlib.Core.Bool.{true}
 use Prim.Native.Nat.{ℕ, _≤_, _<_}
 use mathlib.Core.List.{List, [], _∷_, map}
 use lib.ListN.{length}
+use Rattle.wire.specs.Kinds.{bucketsIn}
 use Rattle.wire.specs.Keys.{Key}
 use Rattle.calls.specs.CallList.{Head, Volume, Freed}
 use Rattle.calls.specs.Lists.{allOf, those}
@@ -11,7 +12,6 @@ use Rattle.calls.specs.Refusals.{verdict}
 use Rattle.calls.specs.Release.{freedOk, freedBuckets, freedIn, isEmptied, bucketRefusal, emptiedGen}
 use Rattle.release_sums.specs.Freeds.{freedsIn, Requested}
 use Rattle.gens.specs.Records.{RecordsFound}
-use Rattle.release_keys.specs.Buckets.{bucketsIn}
 use Rattle.release_keys.specs.Tables.{FreedTables}
 
 -- what a release reads of a volume: its head, its alloc keys and its generation records

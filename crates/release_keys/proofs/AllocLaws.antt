@@ -10,7 +10,7 @@ use lib.ListN.{length, getD, set, take, drop, drop-of-length-le, length-set}
 use lib.Seq.{getD-set-same, getD-set-other, getD-take, length-take-le}
 use Rattle.wire.specs.Keys.{Key}
 use Rattle.wire.specs.Order.{cmp, isLess, posLess, posSame}
-use Rattle.wire.specs.Kinds.{bucketBelow}
+use Rattle.wire.specs.Kinds.{bucketBelow, bucketsIn}
 use Rattle.wire.specs.Positions.{allocAt}
 use Rattle.wire.specs.declared.bpos.Bpos.{Bpos}
 use Rattle.wire.proofs.OrderLaws.{pos-cmp, same-equal, offset-more, snapshot-less}
@@ -25,10 +25,10 @@ use Rattle.calls.proofs.View.{bucket}
 use Rattle.reader.specs.KeyHere.{keysHere}
 use Rattle.reader.specs.Located.{noKey}
 use Rattle.release_keys.specs.Places.{Keyed, PlaceOf, missing, found}
-use Rattle.release_keys.specs.Buckets.{bucketsIn}
 use Rattle.release_keys.specs.Skipping.{Skipped}
 use Rattle.release_keys.specs.Tables.{PlacesOf}
 use Rattle.release_keys.proofs.PlaceLaws.{keyed-next}
+use Rattle.release_keys.proofs.FreedBucketLaws.{bucket-at}
 
 -- a key that stands before p is not at q, which does not
 pub look-past : (q p : Bpos) (k : Key) (ks : List Key) → posLess (k .pos) p ≡ true → posLess q p ≡ false → lookup q (k ∷ ks) ≡ lookup q ks
@@ -113,7 +113,7 @@ module _ {s offsets : List ℕ} (keyed : Keyed s offsets) (i : ℕ) (p : Bpos) w
 
 -- ---- ascending buckets
 pub order-at : (ns : List ℕ) → inOrder bucketBelow (bucketsIn ns) ≡ true → (i j : ℕ) → i ≤ j → j < length ns → getD ns i 0 ≤ getD ns j 0
-unfolding inOrder
+unfolding inOrder bucketsIn
 order-at [] o i j h l = absurd (omega arith)
 order-at (n ∷ []) o i j h l = let a : i ≡ 0 = omega arith in let b : j ≡ 0 = omega arith in rw (a, b) (omega arith)
 order-at (n ∷ m ∷ ns) o zero zero h l = omega arith
@@ -182,5 +182,5 @@ pub walk-ends : {s buckets places₀ places : List ℕ} {ks : List Key} {i k : �
 walk-ends {buckets = buckets} {places = places} c w h =
     record {
       count = length-take-le (length buckets) places (omega (arith, w .size));
-      at = λ j l. rw (getD-take (length buckets) places j 0 l) (w .done j (omega arith));
+      at = λ j l. rw (getD-take (length buckets) places j 0 l, bucket-at buckets j) (w .done j (omega arith));
     }

@@ -11,7 +11,7 @@ use borrow.Author.Tests.{eqb-true, eqb-false, eq-eqb, ne-eqb}
 use Rattle.wire.specs.Keys.{Key}
 use Rattle.wire.specs.Order.{cmp}
 use Rattle.wire.specs.Held.{keyIn}
-use Rattle.wire.specs.Kinds.{bucketBelow}
+use Rattle.wire.specs.Kinds.{bucketBelow, bucketsIn}
 use Rattle.wire.specs.Encode.{encodeField, keyField}
 use Rattle.wire.specs.Positions.{gensAt, gensByte}
 use Rattle.wire.specs.declared.kinds.Bucket.{Bucket}
@@ -32,12 +32,11 @@ use Rattle.calls.proofs.View.{bucket}
 use Rattle.reader.specs.KeyHere.{keyHere}
 use Rattle.gens.specs.Records.{recordAt}
 use Rattle.change_fields.specs.FieldBytes.{keysBytes}
-use Rattle.release_keys.specs.Buckets.{bucketsIn}
 use Rattle.release_keys.specs.GenRecords.{GenerationsKnown, continued, Next}
 use Rattle.release_keys.specs.declared.gen_records.Queued.{Queued}
 use Rattle.change_fields.proofs.FieldLists.{fields-next, fields-none}
 use Rattle.release_keys.proofs.AllocLaws.{order-at}
-use Rattle.release_keys.proofs.FreedBucketLaws.{buckets-next, buckets-none}
+use Rattle.release_keys.proofs.FreedBucketLaws.{buckets-length, buckets-next, buckets-none}
 
 -- ---- a bucket's record in the tree, by its entry
 module _ (s : List ℕ) (gens : List Key) (b : Bucket) (at : ℕ) (e : recordAt s at ≡ genRecord gens b) where
@@ -142,10 +141,11 @@ module _ {gens : List Key} {generationOf : Bucket → ℕ} {emptied out₀ out :
 
 -- as many generations as buckets
 pub generations-count : {generations emptied : List ℕ} → GenerationsKnown generations emptied → length generations ≡ length emptied
-generations-count {emptied = emptied} a = ap length (a .are) ∙ length-map (bucketsIn emptied) (a .generationOf) ∙ length-map emptied bucket
+generations-count {emptied = emptied} a = ap length (a .are) ∙ length-map (bucketsIn emptied) (a .generationOf) ∙ buckets-length emptied
 
 -- the generation at an index
 pub generation-at : (generations emptied : List ℕ) (generationOf : Bucket → ℕ) (k : ℕ) → k < length emptied → generations ≡ map generationOf (bucketsIn emptied) → getD generations k 0 ≡ generationOf (bucket (getD emptied k 0))
+unfolding bucketsIn
 generation-at generations emptied generationOf k h e = ap (λ (l : List ℕ). getD l k 0) e ∙ go emptied k h
   where
     go : (ns : List ℕ) (k : ℕ) → k < length ns → getD (map generationOf (bucketsIn ns)) k 0 ≡ generationOf (bucket (getD ns k 0))

@@ -38,30 +38,30 @@ pub emptied-is : (v : Volume) (rs : List Freed) (b : Bucket) (x : FreedBucket) �
 unfolding isEmptied freedBucketOf
 emptied-is v rs b x e = ap (λ (y : FreedBucket). eqb (y .freed) (y .dirty)) (sym e)
 
-module _ {s : List ℕ} {v : Volume} {rs : List Freed} {b sum place sectors : ℕ} (a : FreedEntry s v rs b sum place) (r : AllocHeld s sectors b sum place) where
-  its-key : lookup (allocAt (bucket b)) (v .trees .alloc) ≡ some (keyHere s place)
+module _ {s : List ℕ} {v : Volume} {rs : List Freed} {b : Bucket} {sum place sectors : ℕ} (a : FreedEntry s v rs b sum place) (r : AllocHeld s sectors sum place) where
+  its-key : lookup (allocAt b) (v .trees .alloc) ≡ some (keyHere s place)
   its-key = place-some (a .key) (omega (arith, r .there .after)) .0
 
   -- its alloc key
-  pub released-is : (x : FreedBucket) → x ≡ freedBucketOf v rs (bucket b)
-      → releasedKey v rs (bucket b) ≡ withValue (keyHere s place) (cond (eqb (x .freed) (x .dirty)) (emptied (v .head .journal) (keyHere s place .value)) (withDirty (x .dirty - x .freed) (keyHere s place .value)))
+  pub released-is : (x : FreedBucket) → x ≡ freedBucketOf v rs b
+      → releasedKey v rs b ≡ withValue (keyHere s place) (cond (eqb (x .freed) (x .dirty)) (emptied (v .head .journal) (keyHere s place .value)) (withDirty (x .dirty - x .freed) (keyHere s place .value)))
   unfolding releasedKey freedBucketOf isEmptied
-  released-is x e = rw (its-key, value-is v rs (bucket b) (keyHere s place) its-key, ap (λ (y : FreedBucket). y .freed) e, ap (λ (y : FreedBucket). y .dirty) e)
+  released-is x e = rw (its-key, value-is v rs b (keyHere s place) its-key, ap (λ (y : FreedBucket). y .freed) e, ap (λ (y : FreedBucket). y .dirty) e)
 
   -- the key that the code makes
-  pub released-key : {journal : ℕ} {k : Key} → v .head .journal ≡ journal → (x : FreedBucket) → x ≡ freedBucketOf v rs (bucket b)
+  pub released-key : {journal : ℕ} {k : Key} → v .head .journal ≡ journal → (x : FreedBucket) → x ≡ freedBucketOf v rs b
       → k ≡ withValue (keyHere s place) (cond (eqb (x .freed) (x .dirty)) (emptied journal (keyHere s place .value)) (withDirty (x .dirty - x .freed) (keyHere s place .value)))
-      → k ≡ releasedKey v rs (bucket b)
+      → k ≡ releasedKey v rs b
   released-key e x i f =
       f
       ∙ ap (λ (j : ℕ). withValue (keyHere s place) (cond (eqb (x .freed) (x .dirty)) (emptied j (keyHere s place .value)) (withDirty (x .dirty - x .freed) (keyHere s place .value)))) (sym e)
       ∙ sym (released-is x i)
 
   -- its generation
-  pub emptied-gen-is : (n p : ℕ) → p ≡ valueAt place → n ≡ get gen (drop p s) → nextGen n ≡ emptiedGen (v .trees) (bucket b)
+  pub emptied-gen-is : (n p : ℕ) → p ≡ valueAt place → n ≡ get gen (drop p s) → nextGen n ≡ emptiedGen (v .trees) b
   unfolding emptiedGen
   emptied-gen-is n p f e =
-      rw (value-is v rs (bucket b) (keyHere s place) its-key)
+      rw (value-is v rs b (keyHere s place) its-key)
       (ap nextGen (e ∙ member-there (r .there) gen (omega (arith, r .long)) p f))
 
 -- its LRU keys

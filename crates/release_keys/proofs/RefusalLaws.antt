@@ -72,7 +72,7 @@ module _ (v : Volume) (rs : List Freed) (b : Bucket) where
   refuses k e = rw (value-is k e, dirty-is k e, e)
 
 -- at the tables
-module _ {s : List ℕ} {v : Volume} {rs : List Freed} {b : Bucket} {sum place : ℕ} (a : FreedEntry s v rs (b .0) sum place) where
+module _ {s : List ℕ} {v : Volume} {rs : List Freed} {b : Bucket} {sum place : ℕ} (a : FreedEntry s v rs b sum place) where
   pub table-15 : place ≡ 0 → bucketRefusal v rs b ≡ 15
   table-15 e = refuses-15 v rs b (place-none (a .key) e)
 

@@ -4,6 +4,7 @@ use Prim.Native.Nat.{ℕ, _+_}
 use mathlib.Core.Bool.{cond}
 use mathlib.Core.List.{List, map}
 use lib.Dec.{eqb}
+use Rattle.wire.specs.Kinds.{bucketsIn}
 use Rattle.wire.specs.Keys.{Key}
 use Rattle.wire.specs.Held.{keyIn}
 use Rattle.wire.specs.Positions.{gensAt}
@@ -11,7 +12,6 @@ use Rattle.wire.specs.declared.kinds.Bucket.{Bucket}
 use Rattle.format.specs.Gens.{withGen}
 use Rattle.calls.specs.Generations.{genKey}
 use Rattle.calls.specs.Trees.{withValue}
-use Rattle.release_keys.specs.Buckets.{bucketsIn}
 use Rattle.release_keys.specs.declared.gen_records.Queued.{Queued}
 
 -- the record that a bucket's continues: the last one queued, or the one of the tree

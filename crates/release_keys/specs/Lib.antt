@@ -1,5 +1,4 @@
 pub mod Places
-pub mod Buckets
 pub mod Skipping
 pub mod Tables
 pub mod FreedBuckets

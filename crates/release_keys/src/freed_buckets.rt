@@ -3,11 +3,11 @@ ghost use mathlib.Core.Path.{_≡_};
 ghost use mathlib.Core.List.{List};
 ghost use Prim.Native.Nat.{_≤_, _<_};
 ghost use lib.ListN.{length, getD};
+ghost use Rattle.wire.specs.Kinds.{noBucket, bucketsIn};
 ghost use Rattle.calls.specs.CallList.{Volume, Freed};
 ghost use Rattle.calls.specs.Lists.{those};
 ghost use Rattle.calls.specs.Release.{isEmptied, emptiedGen};
 ghost use Rattle.release_sums.specs.Summing.{BucketsListed};
-ghost use Rattle.release_keys.specs.Buckets.{bucketsIn};
 ghost use Rattle.release_keys.specs.FreedBuckets.{freedBucketOf};
 ghost use Rattle.release_keys.specs.Tables.{FreedTables, Unrefused};
 use format::alloc;
@@ -29,7 +29,7 @@ pub fn freed_bucket(
     k: usize,
 ) -> FreedBucket
     requires { ⌜ Unrefused (now s) (now buckets) (now freed) (now places) × (k < length (now buckets)) ⌝ }
-    ensures { λ r. ⌜ ((v : Volume) (rs : List Freed) → FreedTables (now (s .entry)) v rs (now (buckets .entry)) (now (freed .entry)) (now (places .entry)) → r ≡ freedBucketOf v rs (record { 0 = getD (now (buckets .entry)) k 0 })) ⌝ }
+    ensures { λ r. ⌜ ((v : Volume) (rs : List Freed) → FreedTables (now (s .entry)) v rs (now (buckets .entry)) (now (freed .entry)) (now (places .entry)) → r ≡ freedBucketOf v rs (getD (bucketsIn (now (buckets .entry))) k noBucket)) ⌝ }
 {
     let place = places[k] as usize;
     FreedBucket {
@@ -42,7 +42,7 @@ pub fn freed_bucket(
 // The generation of the bucket at an index after it is emptied.
 fn emptied_gen(s: &[u8], buckets: &[u32], freed: &[u32], places: &[u32], k: usize) -> u8
     requires { ⌜ Unrefused (now s) (now buckets) (now freed) (now places) × (k < length (now buckets)) ⌝ }
-    ensures { λ r. ⌜ ((v : Volume) (rs : List Freed) → FreedTables (now (s .entry)) v rs (now (buckets .entry)) (now (freed .entry)) (now (places .entry)) → r ≡ emptiedGen (v .trees) (record { 0 = getD (now (buckets .entry)) k 0 })) ⌝ }
+    ensures { λ r. ⌜ ((v : Volume) (rs : List Freed) → FreedTables (now (s .entry)) v rs (now (buckets .entry)) (now (freed .entry)) (now (places .entry)) → r ≡ emptiedGen (v .trees) (getD (bucketsIn (now (buckets .entry))) k noBucket)) ⌝ }
 {
     let place = places[k] as usize;
     alloc::next_gen(alloc::generation(s, key::value_at(s, place)))

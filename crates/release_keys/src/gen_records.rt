@@ -3,21 +3,19 @@ ghost use mathlib.Core.Path.{_≡_};
 ghost use mathlib.Core.Bool.{true};
 ghost use mathlib.Core.List.{List, map};
 ghost use Prim.Native.Nat.{ℕ, _≤_, _<_};
-ghost use lib.ListN.{length, getD};
 ghost use Rattle.wire.specs.Keys.{Key};
 ghost use Rattle.wire.specs.Held.{valueIn, keyIn};
-ghost use Rattle.wire.specs.Kinds.{bucketBelow};
+ghost use Rattle.wire.specs.Kinds.{bucketBelow, bucketInRange, bucketsIn};
 ghost use Rattle.wire.specs.declared.kinds.Bucket as kinds;
 ghost use Rattle.wire.specs.Positions.{gensAt};
 ghost use Rattle.wire.specs.Output.{Emitted};
 ghost use Rattle.format.specs.Gens.{withGen, noGens};
-ghost use Rattle.calls.specs.Lists.{inOrder};
+ghost use Rattle.calls.specs.Lists.{allOf, inOrder};
 ghost use Rattle.calls.specs.Generations.{genKey};
 ghost use Rattle.calls.specs.Release.{gensQueued};
 ghost use Rattle.calls.specs.Trees.{newKey, withValue};
 ghost use Rattle.gens.specs.Records.{Recorded, RecordsFound};
 ghost use Rattle.change_fields.specs.FieldBytes.{keysBytes};
-ghost use Rattle.release_keys.specs.Buckets.{bucketsIn};
 ghost use Rattle.release_keys.specs.GenRecords.{GenerationsKnown, Next};
 use change_fields::keys;
 use gens::records;
@@ -49,7 +47,7 @@ fn new_record(b: Bucket) -> Bkey
 
 // A bucket's record before this release. The tables show what is required, here and below.
 fn old_record(s: &[u8], records: &[u32], b: Bucket) -> Bkey
-    requires { ⌜ Recorded (now s) (now records) × (b .0 < 65536) ⌝ }
+    requires { ⌜ Recorded (now s) (now records) × (bucketInRange b ≡ true) ⌝ }
     ensures { λ r. ⌜ (r .value .len ≤ 256) × ((gens : List Key) → RecordsFound (now (s .entry)) gens (now (records .entry)) → keyIn r ≡ genKey gens b) ⌝ }
 {
     let at = records::record_of(records, b);
@@ -73,7 +71,7 @@ fn with_generation(k: Bkey, b: Bucket, generation: u8) -> Bkey
 
 // The record of the next emptied bucket: the last one continued, or the one before this release.
 fn next_record(s: &[u8], records: &[u32], last: Queued, b: Bucket, generation: u8) -> Queued
-    requires { ⌜ Recorded (now s) (now records) × (b .0 < 65536) × (last .key .value .len ≤ 256) ⌝ }
+    requires { ⌜ Recorded (now s) (now records) × (bucketInRange b ≡ true) × (last .key .value .len ≤ 256) ⌝ }
     ensures { λ r. ⌜ (r .key .value .len ≤ 256) × ((gens : List Key) → RecordsFound (now (s .entry)) gens (now (records .entry)) → Next gens last b generation r) ⌝ }
 {
     let p = positions::gens_at(b);
@@ -100,7 +98,7 @@ pub fn put_gens(
     out: &mut [u8],
     at: usize,
 ) -> usize
-    requires { ⌜ Recorded (now s) (now records) × GenerationsKnown (now generations) (now emptied) × ((j : ℕ) → j < length (now emptied) → getD (now emptied) j 0 < 65536) × (inOrder bucketBelow (bucketsIn (now emptied)) ≡ true) ⌝ }
+    requires { ⌜ Recorded (now s) (now records) × GenerationsKnown (now generations) (now emptied) × (allOf bucketInRange (bucketsIn (now emptied)) ≡ true) × (inOrder bucketBelow (bucketsIn (now emptied)) ≡ true) ⌝ }
     ensures { λ r. ⌜ ((gens : List Key) (generationOf : kinds.Bucket → ℕ) → RecordsFound (now (s .entry)) gens (now (records .entry)) → now (generations .entry) ≡ map generationOf (bucketsIn (now (emptied .entry))) → Emitted (now (out .entry)) at (keysBytes 14 (gensQueued generationOf gens (bucketsIn (now (emptied .entry))))) (now (out .exit)) r) ⌝ }
 {
     let mut p = at;

@@ -1,9 +1,9 @@
 // The need-discard keys of emptied buckets.
 ghost use mathlib.Core.List.{map};
 ghost use Prim.Native.Nat.{_<_};
+ghost use Rattle.wire.specs.Kinds.{bucketsIn};
 ghost use Rattle.wire.specs.Output.{Emitted};
 ghost use Rattle.calls.specs.Lru.{needDiscardKey};
-ghost use Rattle.release_keys.specs.Buckets.{bucketsIn};
 ghost use Rattle.change_fields.specs.FieldBytes.{keysBytes};
 use change_fields::keys;
 use wire::kinds::Bucket;

@@ -21,8 +21,8 @@ fn bucket_refusal(
     freed: u32,
     place: usize,
 ) -> u32
-    requires { ⌜ FreedEntryKnown (now s) sectors (b .0) freed place (now records) ⌝ }
-    ensures { λ r. ⌜ ((v : Volume) (rs : List Freed) → FreedEntry (now (s .entry)) v rs (b .0) freed place → RecordsFound (now (s .entry)) (v .trees .gens) (now (records .entry)) → v .head .bucketSectors ≡ sectors → r ≡ bucketRefusal v rs b) ⌝ }
+    requires { ⌜ FreedEntryKnown (now s) sectors b freed place (now records) ⌝ }
+    ensures { λ r. ⌜ ((v : Volume) (rs : List Freed) → FreedEntry (now (s .entry)) v rs b freed place → RecordsFound (now (s .entry)) (v .trees .gens) (now (records .entry)) → v .head .bucketSectors ≡ sectors → r ≡ bucketRefusal v rs b) ⌝ }
 {
     if place == 0 {
         return 15;

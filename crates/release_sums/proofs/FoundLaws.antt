@@ -9,7 +9,7 @@ use lib.ListN.{length, set, take, length-append}
 use lib.Seq.{take-suc-set, append-snoc}
 use lib.Dec.{ltb, eqb}
 use borrow.Author.Tests.{lt-ltb, ltb-true, ltb-false, eqb-true, eqb-false, eq-eqb, ne-eqb}
-use Rattle.wire.specs.Kinds.{sameBucket, bucketOf, bucketsFrom, noBucket}
+use Rattle.wire.specs.Kinds.{sameBucket, bucketOf, bucketsIn, bucketsFrom, noBucket}
 use Rattle.wire.specs.declared.kinds.Bucket.{Bucket}
 use Rattle.wire.proofs.OrderLaws.{use-lt, use-eq, use-gt}
 use Rattle.calls.specs.CallList.{Freed}
@@ -22,7 +22,7 @@ use Rattle.calls.proofs.BoolLaws.{clash}
 use Rattle.calls.proofs.BucketLaws.{isIn-those}
 use Rattle.calls.proofs.ReleaseLaws.{named-freed, named-range}
 use Rattle.calls.proofs.View.{bucket}
-use Rattle.release_sums.specs.Summing.{Sums, sumOf, summedBuckets, BucketsListed, Appended}
+use Rattle.release_sums.specs.Summing.{Sums, sumOf, summedBuckets, summedFrom, BucketsListed, Appended}
 
 -- ---- ascending lists with the same buckets are the same
 up-below : (n : ℕ) (l : List Bucket) → Up n l → (b : Bucket) → b .0 < n → isIn l b ≡ false
@@ -94,7 +94,7 @@ freed-up sectors rs = inserts-up (map (λ (r : Freed). bucketOf (r .first) secto
 
 module _ (sectors : ℕ) (rs : List Freed) (sums : List ℕ) (s : Sums sectors rs sums) (ok : allOf (freedOk sectors) rs ≡ true) where
   same-in : (b : Bucket) → isIn (summedBuckets sums) b ≡ isIn (freedBuckets sectors rs) b
-  unfolding summedBuckets
+  unfolding summedBuckets summedFrom
   same-in b = isIn-those (λ (c : Bucket). ltb 0 (sumOf sums c)) (bucketsFrom 65536 noBucket) b ∙ go (ltb (b .0) 65536) refl
     where
       high : (t : Bool) → isIn (freedBuckets sectors rs) b ≡ t → ltb (b .0) 65536 ≡ false → isIn (freedBuckets sectors rs) b ≡ false
@@ -113,7 +113,7 @@ module _ (sectors : ℕ) (rs : List Freed) (sums : List ℕ) (s : Sums sectors r
       go true e =
           let h = ltb-true (b .0) 65536 e in
           and-yes (ltb 0 (sumOf sums b)) (isIn (bucketsFrom 65536 noBucket) b) (in-from 65536 0 b (omega arith) (omega arith))
-          ∙ ap (ltb 0) (s .at (b .0) h)
+          ∙ ap (ltb 0) (s .at b e)
           ∙ sym (named-freed sectors rs ok b)
       go false e =
           and-no (ltb 0 (sumOf sums b)) (isIn (bucketsFrom 65536 noBucket) b) (from-high 65536 0 b (omega (arith, ltb-false (b .0) 65536 e)))
@@ -121,13 +121,19 @@ module _ (sectors : ℕ) (rs : List Freed) (sums : List ℕ) (s : Sums sectors r
 
   -- the buckets that were found are those that requests name
   pub found-freed : summedBuckets sums ≡ freedBuckets sectors rs
-  unfolding summedBuckets
+  unfolding summedBuckets summedFrom
   found-freed =
       up-same 0 (summedBuckets sums) (freedBuckets sectors rs)
       (up-those (λ (c : Bucket). ltb 0 (sumOf sums c)) 0 (bucketsFrom 65536 noBucket) (up-from 65536 0)) (freed-up sectors rs) same-in
 
 -- ---- buckets of a list are picked out, with a value each
 -- one more is listed
+named-more : (xs : List ℕ) (n : ℕ) (b : Bucket) (bs : List Bucket) {all : List Bucket} → n < length xs → bucketsIn (take n xs) ++ (b ∷ bs) ≡ all
+    → bucketsIn (take (n + 1) (set xs n (b .0))) ++ bs ≡ all
+unfolding bucketsIn
+named-more xs n b bs h e =
+    rw (add-one, take-suc-set xs n (b .0) h, map-append bucket (take n xs) (b .0 ∷ []), append-snoc (bucketsIn (take n xs)) b bs) e
+
 listed-more : {A : Type 0} (xs : List A) (n : ℕ) (x : A) (ys : List A) {all : List A} → n < length xs → take n xs ++ (x ∷ ys) ≡ all
     → take (n + 1) (set xs n x) ++ ys ≡ all
 listed-more xs n x ys h e = rw (add-one, take-suc-set xs n x h, append-snoc (take n xs) x ys) e
@@ -140,7 +146,7 @@ listed-many xs n xs′ r ys zs h e = rw (h, append-assoc (take n xs) ys zs) e
 -- On the way: after the first n₀, n are listed, and `rest` is left.
 pub record Appending (all rest : List Bucket) (value : Bucket → ℕ) (buckets₀ values₀ : List ℕ) (n₀ : ℕ) (buckets values : List ℕ) (n : ℕ) : Type 0 where
   pub count : n + length rest ≡ n₀ + length all
-  pub named : take n buckets ++ map (λ b. b .0) rest ≡ take n₀ buckets₀ ++ map (λ b. b .0) all
+  pub named : bucketsIn (take n buckets) ++ rest ≡ bucketsIn (take n₀ buckets₀) ++ all
   pub valued : take n values ++ map value rest ≡ take n₀ values₀ ++ map value all
 
 -- the same from the first one on
@@ -156,7 +162,7 @@ module _ {all rest : List Bucket} {value : Bucket → ℕ} {buckets₀ values₀
   pick-hit {b} {next} e l m =
       record {
         count = omega (arith, p .count, ap length e);
-        named = listed-more buckets n (b .0) (map (λ (c : Bucket). c .0) next) l (rw e at (p .named));
+        named = named-more buckets n b next l (rw e at (p .named));
         valued = listed-more values n (value b) (map value next) m (rw e at (p .valued));
       }
 
@@ -168,7 +174,7 @@ module _ {all rest : List Bucket} {value : Bucket → ℕ} {buckets₀ values₀
   pick-many {bs} {next} {buckets′} {values′} {r} e a =
       record {
         count = omega (arith, p .count, ap length e, length-append bs next, a .count);
-        named = listed-many buckets n buckets′ r (map (λ (c : Bucket). c .0) bs) (map (λ (c : Bucket). c .0) next) (a .named) (rw (e, map-append (λ (c : Bucket). c .0) bs next) at (p .named));
+        named = rw (a .named, append-assoc (bucketsIn (take n buckets)) bs next) (rw e at (p .named));
         valued = listed-many values n values′ r (map value bs) (map value next) (a .valued) (rw (e, map-append value bs next) at (p .valued));
       }
 
@@ -176,10 +182,11 @@ module _ {all rest : List Bucket} {value : Bucket → ℕ} {buckets₀ values₀
   pick-appends e =
       record {
         count = omega (arith, p .count, ap length e);
-        named = sym (append-nil (take n buckets)) ∙ (rw e at (p .named));
+        named = sym (append-nil (bucketsIn (take n buckets))) ∙ (rw e at (p .named));
         valued = sym (append-nil (take n values)) ∙ (rw e at (p .valued));
       }
 
 pub pick-ends : {all rest : List Bucket} {value : Bucket → ℕ} {buckets values : List ℕ} {n : ℕ} → Picking all rest value buckets values n → rest ≡ []
     → BucketsListed all value buckets values n
+unfolding bucketsIn
 pick-ends p e = let a = pick-appends p e in record { count = omega (arith, a .count); named = a .named; valued = a .valued }

@@ -6,8 +6,8 @@ use native.Mathlib.Omega.{arith}
 use mathlib.Core.List.{List, [], _∷_, _++_}
 use lib.ListN.{length, getD, set, drop, replicate, length-set, length-replicate, replicate-append-replicate}
 use lib.Seq.{getD-set-same, getD-set-other, drop-set-lt, set-at, append-snoc}
-use lib.Dec.{eqb}
-use borrow.Author.Tests.{eqb-true, eqb-false}
+use lib.Dec.{eqb, ltb}
+use borrow.Author.Tests.{eqb-true, eqb-false, lt-ltb, ltb-true}
 use Rattle.wire.specs.Kinds.{sameBucket, bucketOf}
 use Rattle.wire.specs.declared.kinds.Bucket.{Bucket}
 use Rattle.wire.proofs.OutputLaws.{drop-next}
@@ -56,7 +56,7 @@ pub record Adding (sectors : ℕ) (rs rest : List Freed) (before sums : List ℕ
   pub kept : drop 65536 sums ≡ drop 65536 before
 
 pub add-starts : (sectors : ℕ) (rs : List Freed) (sums : List ℕ) → Cleared sums → Adding sectors rs rs sums sums
-add-starts sectors rs sums z = record { size = refl; at = λ b h. omega (arith, z .zero b h); kept = refl }
+add-starts sectors rs sums z = record { size = refl; at = λ b h. omega (arith, z .zero (bucket b) (lt-ltb b 65536 h)); kept = refl }
 
 module _ {sectors : ℕ} {rs rest : List Freed} {before sums : List ℕ} (a : Adding sectors rs rest before sums) where
   -- the sum at a bucket, with what is left to be added to it
@@ -92,7 +92,7 @@ module _ {sectors : ℕ} {rs rest : List Freed} {before sums : List ℕ} (a : Ad
 
   pub add-ends : 65536 ≤ length before → rest ≡ [] → Sums sectors rs sums × (drop 65536 sums ≡ drop 65536 before)
   add-ends l e =
-      (record { long = omega (arith, a .size); at = λ b h. omega (arith, a .at b h, freed-none sectors (bucket b) e) }, a .kept)
+      (record { long = omega (arith, a .size); at = λ b h. omega (arith, a .at (b .0) (ltb-true (b .0) 65536 h), freed-none sectors b e) }, a .kept)
 
 -- ---- the marks of the groups
 pub marked-starts : (sums marks : List ℕ) → Cleared sums → Marked sums marks
@@ -100,13 +100,13 @@ marked-starts sums marks z = record { zero = λ b h e. z .zero b h }
 
 -- a group is marked whose bucket gets a new sum
 pub marked-turn : {sums marks : List ℕ} → Marked sums marks → (k x : ℕ) → k / 64 < length marks → Marked (set sums k x) (set marks (k / 64) 1)
-marked-turn {sums} {marks} m k x l = record { zero = λ b h e. go b h e (eqb (b / 64) (k / 64)) refl }
+marked-turn {sums} {marks} m k x l = record { zero = λ b h e. go (b .0) h e (eqb (b .0 / 64) (k / 64)) refl }
   where
-    go : (b : ℕ) → b < 65536 → getD (set marks (k / 64) 1) (b / 64) 0 ≡ 0 → (t : Bool) → eqb (b / 64) (k / 64) ≡ t → getD (set sums k x) b 0 ≡ 0
+    go : (b : ℕ) → ltb b 65536 ≡ true → getD (set marks (k / 64) 1) (b / 64) 0 ≡ 0 → (t : Bool) → eqb (b / 64) (k / 64) ≡ t → getD (set sums k x) b 0 ≡ 0
     go b h e true u =
         let q : getD (set marks (k / 64) 1) (k / 64) 0 ≡ 0 = ap (λ (i : ℕ). getD (set marks (k / 64) 1) i 0) (sym (eqb-true (b / 64) (k / 64) u)) ∙ e in
         absurd (omega (arith, q, getD-set-same marks (k / 64) 1 0 l))
     go b h e false u =
         let d : b / 64 ≡ k / 64 → ⊥ = eqb-false (b / 64) (k / 64) u in
         let c : b ≡ k → ⊥ = λ z. d (ap (λ (i : ℕ). i / 64) z) in
-        getD-set-other sums k b x 0 c ∙ m .zero b h (sym (getD-set-other marks (k / 64) (b / 64) 1 0 d) ∙ e)
+        getD-set-other sums k b x 0 c ∙ m .zero (bucket b) h (sym (getD-set-other marks (k / 64) (b / 64) 1 0 d) ∙ e)

@@ -9,7 +9,7 @@ use lib.ListN.{length, getD, set, take, drop, replicate, length-append, length-r
 use lib.Seq.{getD-append-add, getD-drop, drop-append-add, drop-drop, take-at, append-snoc}
 use lib.Dec.{ltb}
 use borrow.Author.Tests.{lt-ltb, le-ltb}
-use Rattle.wire.specs.Kinds.{bucketsFrom}
+use Rattle.wire.specs.Kinds.{bucketsIn, bucketsFrom}
 use Rattle.wire.specs.declared.kinds.Bucket.{Bucket}
 use Rattle.wire.proofs.OutputLaws.{drop-next}
 use Rattle.calls.specs.Lists.{those}
@@ -19,57 +19,57 @@ use Rattle.release_sums.proofs.SumLaws.{clear-next}
 use Rattle.release_sums.proofs.FoundLaws.{Appending, pick-hit, pick-miss, pick-many, pick-appends, pick-ends}
 
 -- ---- the buckets whose sum is not 0
-summed-next : (sums : List ℕ) (n i : ℕ) → summedFrom (suc n) i sums ≡ cond (ltb 0 (getD sums i 0)) (bucket i ∷ summedFrom n (i + 1) sums) (summedFrom n (i + 1) sums)
+summed-next : (sums : List ℕ) (n i : ℕ) → summedFrom (suc n) (bucket i) sums ≡ cond (ltb 0 (getD sums i 0)) (bucket i ∷ summedFrom n (bucket (i + 1)) sums) (summedFrom n (bucket (i + 1)) sums)
 unfolding summedFrom bucketsFrom those
 summed-next sums n i = refl
 
-summed-none : (sums : List ℕ) (n i : ℕ) → n ≡ 0 → summedFrom n i sums ≡ []
+summed-none : (sums : List ℕ) (n i : ℕ) → n ≡ 0 → summedFrom n (bucket i) sums ≡ []
 unfolding summedFrom bucketsFrom those
 summed-none sums n i e = rw e
 
-summed-hit : (sums : List ℕ) (n i : ℕ) → 0 < getD sums i 0 → summedFrom (suc n) i sums ≡ bucket i ∷ summedFrom n (i + 1) sums
+summed-hit : (sums : List ℕ) (n i : ℕ) → 0 < getD sums i 0 → summedFrom (suc n) (bucket i) sums ≡ bucket i ∷ summedFrom n (bucket (i + 1)) sums
 summed-hit sums n i h = rw (summed-next sums n i, lt-ltb 0 (getD sums i 0) h)
 
-summed-miss : (sums : List ℕ) (n i : ℕ) → getD sums i 0 ≤ 0 → summedFrom (suc n) i sums ≡ summedFrom n (i + 1) sums
+summed-miss : (sums : List ℕ) (n i : ℕ) → getD sums i 0 ≤ 0 → summedFrom (suc n) (bucket i) sums ≡ summedFrom n (bucket (i + 1)) sums
 summed-miss sums n i h = rw (summed-next sums n i, le-ltb 0 (getD sums i 0) h)
 
 -- m, and n after them
-summed-append : (sums : List ℕ) (m n i : ℕ) → summedFrom (m + n) i sums ≡ summedFrom m i sums ++ summedFrom n (i + m) sums
+summed-append : (sums : List ℕ) (m n i : ℕ) → summedFrom (m + n) (bucket i) sums ≡ summedFrom m (bucket i) sums ++ summedFrom n (bucket (i + m)) sums
 summed-append sums zero n i = rw (summed-none sums 0 i refl, zero-add n, add-zero i)
 summed-append sums (suc m) n i =
     let e : suc m + n ≡ suc (m + n) = omega arith in
     let f : i + suc m ≡ i + 1 + m = omega arith in
     rw (e, f, summed-next sums (m + n) i, summed-next sums m i) (go (ltb 0 (getD sums i 0)) (summed-append sums m n (i + 1)))
   where
-    go : (t : Bool) → summedFrom (m + n) (i + 1) sums ≡ summedFrom m (i + 1) sums ++ summedFrom n (i + 1 + m) sums
-        → cond t (bucket i ∷ summedFrom (m + n) (i + 1) sums) (summedFrom (m + n) (i + 1) sums)
-        ≡ cond t (bucket i ∷ summedFrom m (i + 1) sums) (summedFrom m (i + 1) sums) ++ summedFrom n (i + 1 + m) sums
+    go : (t : Bool) → summedFrom (m + n) (bucket (i + 1)) sums ≡ summedFrom m (bucket (i + 1)) sums ++ summedFrom n (bucket (i + 1 + m)) sums
+        → cond t (bucket i ∷ summedFrom (m + n) (bucket (i + 1)) sums) (summedFrom (m + n) (bucket (i + 1)) sums)
+        ≡ cond t (bucket i ∷ summedFrom m (bucket (i + 1)) sums) (summedFrom m (bucket (i + 1)) sums) ++ summedFrom n (bucket (i + 1 + m)) sums
     go true q = ap (λ (l : List Bucket). bucket i ∷ l) q
     go false q = q
 
 -- sums that agree from a first one on name the same buckets, with the same sums
 module _ (s t : List ℕ) where
-  summed-same : (n i : ℕ) → ((j : ℕ) → i ≤ j → getD s j 0 ≡ getD t j 0) → summedFrom n i s ≡ summedFrom n i t
+  summed-same : (n i : ℕ) → ((j : ℕ) → i ≤ j → getD s j 0 ≡ getD t j 0) → summedFrom n (bucket i) s ≡ summedFrom n (bucket i) t
   summed-same zero i h = summed-none s 0 i refl ∙ sym (summed-none t 0 i refl)
   summed-same (suc n) i h =
       rw (summed-next s n i, summed-next t n i, h i (omega arith), summed-same n (i + 1) (λ j l. h j (omega arith)))
 
-  freed-same : (n i : ℕ) → ((j : ℕ) → i ≤ j → getD s j 0 ≡ getD t j 0) → map (sumOf s) (summedFrom n i t) ≡ map (sumOf t) (summedFrom n i t)
+  freed-same : (n i : ℕ) → ((j : ℕ) → i ≤ j → getD s j 0 ≡ getD t j 0) → map (sumOf s) (summedFrom n (bucket i) t) ≡ map (sumOf t) (summedFrom n (bucket i) t)
   freed-same zero i h = rw (summed-none t 0 i refl)
   freed-same (suc n) i h = rw (summed-next t n i) (go (ltb 0 (getD t i 0)) (freed-same n (i + 1) (λ j l. h j (omega arith))))
     where
-      go : (u : Bool) → map (sumOf s) (summedFrom n (i + 1) t) ≡ map (sumOf t) (summedFrom n (i + 1) t)
-          → map (sumOf s) (cond u (bucket i ∷ summedFrom n (i + 1) t) (summedFrom n (i + 1) t)) ≡ map (sumOf t) (cond u (bucket i ∷ summedFrom n (i + 1) t) (summedFrom n (i + 1) t))
+      go : (u : Bool) → map (sumOf s) (summedFrom n (bucket (i + 1)) t) ≡ map (sumOf t) (summedFrom n (bucket (i + 1)) t)
+          → map (sumOf s) (cond u (bucket i ∷ summedFrom n (bucket (i + 1)) t) (summedFrom n (bucket (i + 1)) t)) ≡ map (sumOf t) (cond u (bucket i ∷ summedFrom n (bucket (i + 1)) t) (summedFrom n (bucket (i + 1)) t))
       go true q = rw (h i (omega arith), q)
       go false q = q
 
   appended-same : (n i : ℕ) {buckets freed : List ℕ} {m : ℕ} {buckets′ freed′ : List ℕ} {r : ℕ} → ((j : ℕ) → i ≤ j → getD s j 0 ≡ getD t j 0)
-      → Appended (summedFrom n i s) (sumOf s) buckets freed m buckets′ freed′ r → Appended (summedFrom n i t) (sumOf t) buckets freed m buckets′ freed′ r
+      → Appended (summedFrom n (bucket i) s) (sumOf s) buckets freed m buckets′ freed′ r → Appended (summedFrom n (bucket i) t) (sumOf t) buckets freed m buckets′ freed′ r
   appended-same n i {buckets} {freed} {m} h a =
       let e = summed-same n i h in
       record {
         count = a .count ∙ ap (λ (l : List Bucket). m + length l) e;
-        named = a .named ∙ ap (λ (l : List Bucket). take m buckets ++ map (λ (c : Bucket). c .0) l) e;
+        named = a .named ∙ ap (λ (l : List Bucket). bucketsIn (take m buckets) ++ l) e;
         valued = a .valued ∙ ap (λ (l : List Bucket). take m freed ++ map (sumOf s) l) e ∙ ap (λ (l : List ℕ). take m freed ++ l) (freed-same n i h);
       }
 
@@ -105,11 +105,11 @@ cut-length s i h = omega (arith, length-append (replicate i 0) (drop i s), zeros
 pub record Taking (all : List Bucket) (end : ℕ) (before buckets₀ freed₀ : List ℕ) (n₀ : ℕ) (sums buckets freed : List ℕ) (n b : ℕ) : Type 0 where
   pub low : b ≤ end
   pub cut : sums ≡ replicate b 0 ++ drop b before
-  pub listing : Appending all (summedFrom (end - b) b before) (sumOf before) buckets₀ freed₀ n₀ buckets freed n
+  pub listing : Appending all (summedFrom (end - b) (bucket b) before) (sumOf before) buckets₀ freed₀ n₀ buckets freed n
 
 -- a group
 pub taking-starts : (s buckets freed : List ℕ) (n from m : ℕ) → take from s ≡ replicate from 0
-    → Taking (summedFrom m from s) (from + m) s buckets freed n s buckets freed n from
+    → Taking (summedFrom m (bucket from) s) (from + m) s buckets freed n s buckets freed n from
 taking-starts s buckets freed n from m e =
     let d : from + m - from ≡ m = omega arith in
     record {
@@ -133,7 +133,7 @@ module _ {all : List Bucket} {end : ℕ} {before buckets₀ freed₀ : List ℕ}
   next : b < end → end - b ≡ suc (end - (b + 1))
   next h = omega arith
 
-  hit : b < end → 0 < getD sums b 0 → summedFrom (end - b) b before ≡ bucket b ∷ summedFrom (end - (b + 1)) (b + 1) before
+  hit : b < end → 0 < getD sums b 0 → summedFrom (end - b) (bucket b) before ≡ bucket b ∷ summedFrom (end - (b + 1)) (bucket (b + 1)) before
   hit h k = rw (next h) (summed-hit before (end - (b + 1)) b (omega (arith, left b (omega arith))))
 
   -- there is room for one more
@@ -158,17 +158,17 @@ module _ {all : List Bucket} {end : ℕ} {before buckets₀ freed₀ : List ℕ}
         listing = pick-miss (t .listing) (rw (next h) (summed-miss before (end - (b + 1)) b z));
       }
 
-  split : (m : ℕ) → b + m ≤ end → summedFrom (end - b) b before ≡ summedFrom m b before ++ summedFrom (end - (b + m)) (b + m) before
+  split : (m : ℕ) → b + m ≤ end → summedFrom (end - b) (bucket b) before ≡ summedFrom m (bucket b) before ++ summedFrom (end - (b + m)) (bucket (b + m)) before
   split m h = let e : end - b ≡ m + (end - (b + m)) = omega arith in rw e (summed-append before m (end - (b + m)) b)
 
   -- there is room for those of the next m
-  pub taking-room-of : (m : ℕ) → b + m ≤ end → n + length (summedFrom m b sums) ≤ n₀ + length all
+  pub taking-room-of : (m : ℕ) → b + m ≤ end → n + length (summedFrom m (bucket b) sums) ≤ n₀ + length all
   taking-room-of m h =
       omega (
         arith,
         t .listing .count,
         ap length (split m h),
-        length-append (summedFrom m b before) (summedFrom (end - (b + m)) (b + m) before),
+        length-append (summedFrom m (bucket b) before) (summedFrom (end - (b + m)) (bucket (b + m)) before),
         ap length (summed-same sums before m b left),
       )
 
@@ -177,7 +177,7 @@ module _ {all : List Bucket} {end : ℕ} {before buckets₀ freed₀ : List ℕ}
 
   -- the next m are taken out
   pub taking-group : (m : ℕ) {sums′ buckets′ freed′ : List ℕ} {r : ℕ} → b + m ≤ end
-      → Appended (summedFrom m b sums) (sumOf sums) buckets freed n buckets′ freed′ r → sums′ ≡ replicate (b + m) 0 ++ drop (b + m) sums
+      → Appended (summedFrom m (bucket b) sums) (sumOf sums) buckets freed n buckets′ freed′ r → sums′ ≡ replicate (b + m) 0 ++ drop (b + m) sums
       → Taking all end before buckets₀ freed₀ n₀ sums′ buckets′ freed′ r (b + m)
   taking-group m h a e =
       record {
@@ -209,4 +209,4 @@ taking-skip {b = b} t long (suc m) h z =
 pub unmarked : {sums marks : List ℕ} → Marked sums marks → (g : ℕ) → g < 1024 → getD marks g 0 ≡ 0 → (j : ℕ) → g * 64 ≤ j → j < g * 64 + 64 → getD sums j 0 ≡ 0
 unmarked {sums} {marks} m g h e j l k =
     let d : j / 64 ≡ g = omega arith in
-    m .zero j (omega arith) (ap (λ (i : ℕ). getD marks i 0) d ∙ e)
+    m .zero (bucket j) (lt-ltb j 65536 (omega arith)) (ap (λ (i : ℕ). getD marks i 0) d ∙ e)

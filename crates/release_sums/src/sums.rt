@@ -4,6 +4,7 @@ ghost use mathlib.Core.Bool.{true};
 ghost use Prim.Native.Nat.{_+_, _≤_, _<_};
 ghost use mathlib.Core.List.{_++_};
 ghost use lib.ListN.{length, take, drop, replicate};
+ghost use Rattle.wire.specs.Kinds.{bucketIs};
 ghost use Rattle.calls.specs.Lists.{allOf};
 ghost use Rattle.calls.specs.Release.{freedOk};
 ghost use Rattle.release_sums.specs.Freeds.{freedsIn, Requested};
@@ -52,8 +53,8 @@ fn take_group(
     n: usize,
 ) -> usize
     requires { ⌜ (from + 64 ≤ 65536) × (65536 ≤ length (now sums)) × (take from (now sums) ≡ replicate from 0) ⌝ }
-    requires { ⌜ (n + length (summedFrom 64 from (now sums)) ≤ length (now buckets)) × (length (now freed) ≡ length (now buckets)) ⌝ }
-    ensures { λ r. ⌜ Appended (summedFrom 64 from (now (sums .entry))) (sumOf (now (sums .entry))) (now (buckets .entry)) (now (freed .entry)) n (now (buckets .exit)) (now (freed .exit)) r × (now (sums .exit) ≡ replicate (from + 64) 0 ++ drop (from + 64) (now (sums .entry))) ⌝ }
+    requires { ⌜ (n + length (summedFrom 64 (bucketIs from) (now sums)) ≤ length (now buckets)) × (length (now freed) ≡ length (now buckets)) ⌝ }
+    ensures { λ r. ⌜ Appended (summedFrom 64 (bucketIs from) (now (sums .entry))) (sumOf (now (sums .entry))) (now (buckets .entry)) (now (freed .entry)) n (now (buckets .exit)) (now (freed .exit)) r × (now (sums .exit) ≡ replicate (from + 64) 0 ++ drop (from + 64) (now (sums .entry))) ⌝ }
 {
     let end = from + 64;
     let mut n = n;

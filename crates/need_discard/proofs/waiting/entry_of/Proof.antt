@@ -1,5 +1,6 @@
 -- `waiting::entry_of` meets its contract. Assumes nothing.
 use native.Mathlib.Omega.{arith}
+use borrow.Author.Tests.{ltb-true}
 use borrow.Author.Needs.{needs}
 use Rattle.need_discard.proofs.waiting.entry_of.Statement.{statement}
 use Rattle.need_discard.proofs.waiting.entry_of.Tie as tie
@@ -11,10 +12,10 @@ returns : tie.Need-returns
 returns c = search needs
 
 mul-result : tie.Need-mul-result
-mul-result c = search needs
+mul-result c = let a = c .before .before .before .before in omega (arith, ltb-true (a .args .b .0) 65536 (a .pre .1))
 
 shared-slice-read-result : tie.Need-shared-slice-read-result
-shared-slice-read-result c = search needs
+shared-slice-read-result c = let a = c .before .before .before .before .before in omega (arith, ltb-true (a .args .b .0) 65536 (a .pre .1))
 
 cast-result : tie.Need-cast-result
 cast-result c = omega (arith, c .shared-slice-known4 .given (c .before .before .before .before .before .args .b .0))

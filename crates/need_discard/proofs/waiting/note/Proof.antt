@@ -5,6 +5,7 @@ use denote.Ref.{now}
 use Rattle.reader.specs.KeyHere.{keyHere}
 use Prim.Native.Nat.{_<_}
 use Rattle.need_discard.proofs.TableLaws.{noted-other, noted-this}
+use borrow.Author.Tests.{ltb-true}
 use borrow.Author.Needs.{needs}
 use Rattle.need_discard.proofs.waiting.note.Statement.{statement}
 use Rattle.need_discard.proofs.waiting.note.Tie as tie
@@ -29,7 +30,7 @@ typed : (c : tie.After-bucket-at) → keyHere (now (c .before .before .before .b
 typed c = sym (c .before .before .type-at .ensures) ∙ c .before .if1 .left
 
 below : (c : tie.After-bucket-at) → c .bucket-at .result .0 < 65536
-below c = rw (c .bucket-at .ensures) (c .before .before .before .before .pre .0 .below (typed c))
+below c = ltb-true _ _ (rw (c .bucket-at .ensures) (c .before .before .before .before .pre .0 .below (typed c)))
 
 mul-table : tie.Need-mul-table
 mul-table c = omega (arith, below c)

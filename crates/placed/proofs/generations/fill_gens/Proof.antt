@@ -3,6 +3,7 @@ use native.Mathlib.Omega.{arith}
 use mathlib.Core.Path.{_≡_, refl}
 use Prim.Native.Nat.{_-_, _≤_}
 use lib.ListN.{length, length-set}
+use borrow.Author.Tests.{lt-ltb}
 use Rattle.calls.specs.Answers.{readVolume}
 use Rattle.calls.specs.Generations.{genOf}
 use Rattle.placed.proofs.FillLaws.{Filled, filled-next, filled-end}
@@ -28,7 +29,7 @@ shared-slice-read-t10 : tie.Need-shared-slice-read-t10 Inv-loop μ-loop
 shared-slice-read-t10 c = omega arith
 
 bucket-gen-requires : tie.Need-bucket-gen-requires Inv-loop μ-loop
-bucket-gen-requires c κs = let l = c .before .before in let a = start l in (record { gens = _; are = a .pre .0 }, a .pre .1 .1 (l .loop .i))
+bucket-gen-requires c κs = let l = c .before .before in let a = start l in (record { gens = _; are = a .pre .0 }, lt-ltb _ _ (a .pre .1 .1 (l .loop .i)))
 
 slice-write-out : tie.Need-slice-write-out Inv-loop μ-loop
 slice-write-out c =

@@ -5,8 +5,9 @@ use mathlib.Core.List.{map, flatMap}
 use mathlib.Core.Bool.{not, _&&_}
 use mathlib.Core.List.{_++_}
 use Prim.Native.Nat.{ℕ, _<_}
-use lib.ListN.{length, length-map}
+use lib.ListN.{length}
 use lib.Dec.{eqb}
+use Rattle.wire.specs.Kinds.{bucketsIn}
 use Rattle.wire.specs.Encode.{encode}
 use Rattle.wire.specs.Rows.{rowField}
 use Rattle.wire.proofs.OutputLaws.{wrote-length}
@@ -16,11 +17,10 @@ use Rattle.calls.specs.Release.{freedBuckets, releasedLru}
 use Rattle.calls.specs.CallList.{Head}
 use Rattle.calls.specs.Lists.{total}
 use Rattle.calls.specs.Lru.{needDiscardKey}
-use Rattle.calls.proofs.View.{bucket}
 use Rattle.release_sums.specs.Freeds.{freedsIn}
 use Rattle.change_fields.specs.FieldBytes.{keysBytes, rootsBytes}
-use Rattle.release_keys.specs.Buckets.{bucketsIn}
 use Rattle.release_keys.specs.Counting.{keptOf, lostOf}
+use Rattle.release_keys.proofs.FreedBucketLaws.{buckets-length}
 use Rattle.release.proofs.BatchLaws.{batch-bytes, rows-are, sectors-are, tables-at, tables-in, tables-bounded, tables-few, emptied-few, emptied-are, emptied-up, emptied-low}
 use borrow.Author.Needs.{needs}
 use Rattle.release.proofs.lists.free_and_cut.Statement.{statement}
@@ -39,7 +39,7 @@ whole c d =
     let emptied = bucketsIn (a .args .emptied .now) in
     let size = sectors-are d in
     let journal = ap (λ (h : Head). h .journal) (d .tables .head) in
-    let many = sym (length-map (a .args .emptied .now) bucket) in
+    let many = sym (buckets-length (a .args .emptied .now)) in
     let u = c .before .before .before .before .before .before .before .before .before .before .before .before .before .before .before .before .before .before .before .before .before .before .before .before .before .before .before .before .before .before .before .before .unused-in .ensures .2 v rs t size in
     let n = t .named in
     let ones = emitted (ap (λ (k : ℕ). keysBytes 10 (flatMap (releasedLru v rs) (freedBuckets k rs))) (sym size)) (c .before .before .before .before .before .before .before .before .before .before .before .before .before .before .before .before .before .before .before .before .before .before .before .before .before .before .put-lrus .ensures v rs t size) in

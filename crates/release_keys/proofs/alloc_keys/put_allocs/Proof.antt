@@ -4,6 +4,7 @@ use mathlib.Core.Path.{_≡_, refl, ap, _∙_}
 use mathlib.Core.List.{List, map}
 use Prim.Native.Nat.{_-_, _≤_}
 use lib.ListN.{length, getD, drop}
+use Rattle.wire.specs.Kinds.{bucketsIn}
 use Rattle.wire.specs.Encode.{keyField}
 use Rattle.wire.specs.declared.kinds.Bucket.{Bucket}
 use Rattle.wire.proofs.OutputLaws.{Part, begin, turn, wrote-length}
@@ -11,10 +12,9 @@ use Rattle.wire.proofs.EmitLaws.{emitted, done}
 use Rattle.calls.specs.CallList.{Volume, Freed}
 use Rattle.calls.specs.Release.{releasedKey}
 use Rattle.change_fields.specs.FieldBytes.{keysBytes}
-use Rattle.release_keys.specs.Buckets.{bucketsIn}
 use Rattle.release_keys.specs.Tables.{FreedTables}
 use Rattle.change_fields.proofs.FieldLists.{fields-next, fields-none, emitted-key}
-use Rattle.release_keys.proofs.FreedBucketLaws.{AllocHeld, ready, freed-held, buckets-next, buckets-none}
+use Rattle.release_keys.proofs.FreedBucketLaws.{AllocHeld, ready, entry-at, by-number, freed-held, buckets-next, buckets-none}
 use Rattle.release_keys.proofs.KeyLaws.{released-key}
 use Rattle.release_keys.proofs.alloc_keys.put_allocs.Statement.{statement}
 use Rattle.release_keys.proofs.alloc_keys.put_allocs.Tie as tie
@@ -26,7 +26,7 @@ abbrev μ-loop : tie.MeasureT-loop
 μ-loop s journal buckets freed places out₀ at p₀ k₀ out p k = length buckets - k
 
 -- what the refusals show of the bucket
-its : (c : tie.In-loop Inv-loop μ-loop) → AllocHeld (c .before .before .before .before .before .before .before .args .s .now) (c .before .before .before .before .before .before .before .pre .unrefused .volume .head .bucketSectors) (getD (c .before .before .before .before .before .before .before .args .buckets .now) (c .before .loop .k) 0) (getD (c .before .before .before .before .before .before .before .args .freed .now) (c .before .loop .k) 0) (getD (c .before .before .before .before .before .before .before .args .places .now) (c .before .loop .k) 0)
+its : (c : tie.In-loop Inv-loop μ-loop) → AllocHeld (c .before .before .before .before .before .before .before .args .s .now) (c .before .before .before .before .before .before .before .pre .unrefused .volume .head .bucketSectors) (getD (c .before .before .before .before .before .before .before .args .freed .now) (c .before .loop .k) 0) (getD (c .before .before .before .before .before .before .before .args .places .now) (c .before .loop .k) 0)
 its c = ready (c .before .before .before .before .before .before .before .pre .unrefused) (c .before .loop .k) (c .loop-test .taken)
 
 loop-holds : tie.Need-loop-holds Inv-loop μ-loop
@@ -65,7 +65,7 @@ loop-again c =
       omega arith,
       wrote-length w ∙ l .loop .inv .1,
       λ v rs t e.
-          let r = released-key (t .at k (c .before .before .before .before .before .before .before .loop-test .taken)) (its (c .before .before .before .before .before .before .before)) e (c .before .before .before .before .before .before .freed-bucket .result) (c .before .before .before .before .before .before .freed-bucket .ensures v rs t) (c .before .before .before .before .freed-key .ensures .1) in
+          let r = released-key (entry-at t k (c .before .before .before .before .before .before .before .loop-test .taken)) (its (c .before .before .before .before .before .before .before)) e (c .before .before .before .before .before .before .freed-bucket .result) (by-number v rs (a .args .buckets .now) k (c .before .before .before .before .before .before .freed-bucket .ensures v rs t)) (c .before .before .before .before .freed-key .ensures .1) in
           turn _ (l .loop .inv .2 v rs t e) (fields-next (keyField 4) (ap (map (releasedKey v rs)) (buckets-next (a .args .buckets .now) k (omega arith)))) (emitted-key 4 r w),
     )
 

@@ -5,15 +5,15 @@ use mathlib.Core.List.{List}
 use Prim.Native.Nat.{_+_, _-_, _*_, _≤_}
 use lib.ListN.{length, getD, drop}
 use lib.Dec.{eqb}
+use Rattle.wire.specs.Kinds.{bucketsIn}
 use Rattle.calls.specs.CallList.{Volume, Freed}
 use Rattle.calls.specs.Lists.{total}
 use Rattle.calls.proofs.View.{bucket}
 use Rattle.calls.proofs.BoolLaws.{cond-most}
 use Rattle.release_keys.specs.Counting.{keptOf, lostOf}
-use Rattle.release_keys.specs.Buckets.{bucketsIn}
 use Rattle.release_keys.specs.Tables.{FreedTables}
 use Rattle.release_keys.proofs.CountLaws.{total-next, total-none, kept-is, lost-is}
-use Rattle.release_keys.proofs.FreedBucketLaws.{freed-held, freed-small, buckets-next, buckets-none}
+use Rattle.release_keys.proofs.FreedBucketLaws.{by-number, freed-held, freed-small, buckets-next, buckets-none}
 use Rattle.release_keys.proofs.counts.unused_in.Statement.{statement}
 use Rattle.release_keys.proofs.counts.unused_in.Tie as tie
 
@@ -61,7 +61,7 @@ loop-again c =
       omega (arith, r .1, l .loop .inv .2, cond-most t {a = a .args .sectors - x .dirty} {b = 0} {m = 65535} o (omega arith)),
       λ v rs d e.
           let b = bucket (getD (a .args .buckets .now) (l .loop .k) 0) in
-          let i = c .before .freed-bucket .ensures v rs d in
+          let i = by-number v rs (a .args .buckets .now) (l .loop .k) (c .before .freed-bucket .ensures v rs d) in
           let n = buckets-next (a .args .buckets .now) (l .loop .k) (c .before .before .loop-test .taken) in
           let h = l .loop .inv .3 v rs d e in (
             omega (arith, r .0, h .0, total-next (keptOf v rs) n, kept-is v rs b x i),

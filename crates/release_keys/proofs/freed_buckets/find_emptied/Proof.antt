@@ -6,14 +6,14 @@ use mathlib.Core.List.{List}
 use Prim.Native.Nat.{_-_, _≤_}
 use lib.ListN.{length, getD, drop, length-set}
 use borrow.Author.Tests.{eq-eqb, ne-eqb}
+use Rattle.wire.specs.Kinds.{bucketsIn}
 use Rattle.calls.specs.CallList.{Volume, Freed}
 use Rattle.calls.specs.Lists.{those}
 use Rattle.calls.specs.Release.{isEmptied, emptiedGen}
 use Rattle.calls.proofs.View.{bucket}
 use Rattle.release_sums.proofs.FoundLaws.{Picking, pick-starts, pick-hit, pick-miss, pick-ends}
-use Rattle.release_keys.specs.Buckets.{bucketsIn}
 use Rattle.release_keys.specs.Tables.{FreedTables}
-use Rattle.release_keys.proofs.FreedBucketLaws.{buckets-next, buckets-none}
+use Rattle.release_keys.proofs.FreedBucketLaws.{bucket-at, buckets-next, buckets-none, by-number}
 use Rattle.release_keys.proofs.KeyLaws.{emptied-is, those-hit, those-miss, those-none}
 use Rattle.release_keys.proofs.freed_buckets.find_emptied.Statement.{statement}
 use Rattle.release_keys.proofs.freed_buckets.find_emptied.Tie as tie
@@ -71,8 +71,8 @@ loop-again c =
       rw (w .4) (simp length-set (l .loop .inv .3)),
       λ v rs t.
           let b = bucket (getD (a .args .buckets .now) k 0) in
-          let e = emptied-is v rs b x (c .before .before .freed-bucket .ensures v rs t) ∙ eq-eqb (x .freed) (x .dirty) (w .0 .taken) in
-          rw (w .3, w .4, w .5, w .2 .ensures v rs t)
+          let e = emptied-is v rs b x (by-number v rs (a .args .buckets .now) k (c .before .before .freed-bucket .ensures v rs t)) ∙ eq-eqb (x .freed) (x .dirty) (w .0 .taken) in
+          rw (w .3, w .4, w .5, w .2 .ensures v rs t, bucket-at (a .args .buckets .now) k)
           (pick-hit (l .loop .inv .4 v rs t) (those-hit (isEmptied v rs) (buckets-next (a .args .buckets .now) k (omega arith)) e) (omega (arith, a .pre .1, l .loop .inv .2)) (omega (arith, a .pre .2, l .loop .inv .3))),
     ))
     (λ w. (
@@ -82,7 +82,7 @@ loop-again c =
       rw (w .2) (l .loop .inv .3),
       λ v rs t.
           let b = bucket (getD (a .args .buckets .now) k 0) in
-          let e = emptied-is v rs b x (c .before .before .freed-bucket .ensures v rs t) ∙ ne-eqb (x .freed) (x .dirty) (w .0 .left) in
+          let e = emptied-is v rs b x (by-number v rs (a .args .buckets .now) k (c .before .before .freed-bucket .ensures v rs t)) ∙ ne-eqb (x .freed) (x .dirty) (w .0 .left) in
           rw (w .1, w .2, w .3) (pick-miss (l .loop .inv .4 v rs t) (those-miss (isEmptied v rs) (buckets-next (a .args .buckets .now) k (omega arith)) e)),
     ))
     (c .if1 .came)

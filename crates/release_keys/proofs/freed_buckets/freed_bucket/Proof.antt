@@ -5,13 +5,13 @@ use lib.ListN.{getD}
 use Rattle.format.specs.AllocV4.{dirtySectors}
 use Rattle.reader.proofs.KeyHereLaws.{value-within}
 use Rattle.release_keys.proofs.PlaceLaws.{member-there}
-use Rattle.release_keys.proofs.FreedBucketLaws.{AllocHeld, ready, freed-bucket-is}
+use Rattle.release_keys.proofs.FreedBucketLaws.{AllocHeld, bucket-at, entry-at, ready, freed-bucket-is}
 use borrow.Author.Needs.{needs}
 use Rattle.release_keys.proofs.freed_buckets.freed_bucket.Statement.{statement}
 use Rattle.release_keys.proofs.freed_buckets.freed_bucket.Tie as tie
 
 -- what the refusals show of the bucket
-its : (c : tie.Start) → AllocHeld (c .args .s .now) (c .pre .0 .volume .head .bucketSectors) (getD (c .args .buckets .now) (c .args .k) 0) (getD (c .args .freed .now) (c .args .k) 0) (getD (c .args .places .now) (c .args .k) 0)
+its : (c : tie.Start) → AllocHeld (c .args .s .now) (c .pre .0 .volume .head .bucketSectors) (getD (c .args .freed .now) (c .args .k) 0) (getD (c .args .places .now) (c .args .k) 0)
 its c = ready (c .pre .0) (c .args .k) (c .pre .1)
 
 mul-place : tie.Need-mul-place
@@ -47,7 +47,7 @@ shared-slice-read-t17 : tie.Need-shared-slice-read-t17
 shared-slice-read-t17 c = omega (arith, c .before .before .before .before .before .before .before .before .before .pre .0 .tabled .sums)
 
 returns : tie.Need-returns
-returns c = λ v rs t. let a = c .before .before .before .before .before .before .before .before .before in freed-bucket-is (t .at (a .args .k) (a .pre .1)) (its a) (c .before .dirty-sectors .ensures ∙ member-there (its a .there) dirtySectors (omega (arith, its a .long)) _ (c .before .before .value-at .ensures))
+returns c = λ v rs t. let a = c .before .before .before .before .before .before .before .before .before in rw (bucket-at (a .args .buckets .now) (a .args .k)) (freed-bucket-is (entry-at t (a .args .k) (a .pre .1)) (its a) (c .before .dirty-sectors .ensures ∙ member-there (its a .there) dirtySectors (omega (arith, its a .long)) _ (c .before .before .value-at .ensures)))
 
 pub freed-bucket-spec : {M : Type 1} → statement M
 freed-bucket-spec =

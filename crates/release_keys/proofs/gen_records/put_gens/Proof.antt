@@ -4,11 +4,12 @@ use mathlib.Core.Path.{_≡_, refl, _∙_}
 use mathlib.Core.List.{List, map}
 use Prim.Native.Nat.{ℕ, _-_, _≤_}
 use lib.ListN.{length}
+use Rattle.wire.specs.Kinds.{bucketsIn}
 use Rattle.wire.specs.Keys.{Key}
 use Rattle.wire.specs.declared.kinds.Bucket.{Bucket}
 use Rattle.wire.proofs.OutputLaws.{wrote-length}
 use Rattle.gens.specs.Records.{RecordsFound}
-use Rattle.release_keys.specs.Buckets.{bucketsIn}
+use Rattle.release_keys.proofs.FreedBucketLaws.{range-at}
 use Rattle.release_keys.proofs.GenRecordLaws.{Queue, queue-starts, queue-turn, queue-ends, generation-at, generations-count}
 use Rattle.release_keys.proofs.gen_records.put_gens.Statement.{statement}
 use Rattle.release_keys.proofs.gen_records.put_gens.Tie as tie
@@ -38,7 +39,7 @@ shared-slice-read-next-record : tie.Need-shared-slice-read-next-record Inv-loop 
 shared-slice-read-next-record c = omega (arith, generations-count (c .before .before .before .before .before .before .before .before .before .before .pre .1))
 
 next-record-requires : tie.Need-next-record-requires Inv-loop μ-loop
-next-record-requires c κs = let l = c .before .before .before in let a = l .before .before .before .before .before .before .before in (a .pre .0, a .pre .2 (l .loop .k) (omega arith), l .loop .inv .1)
+next-record-requires c κs = let l = c .before .before .before in let a = l .before .before .before .before .before .before .before in (a .pre .0, range-at (a .args .emptied .now) (a .pre .2) (l .loop .k) (omega arith), l .loop .inv .1)
 
 put-key-requires : tie.Need-put-key-requires Inv-loop μ-loop
 put-key-requires c κs = c .before .before .next-record .ensures .0

@@ -4,6 +4,7 @@ use mathlib.Core.Path.{_≡_, refl, ap, _∙_}
 use mathlib.Core.List.{List, flatMap}
 use Prim.Native.Nat.{ℕ, _-_, _≤_}
 use lib.ListN.{length, drop, getD}
+use Rattle.wire.specs.Kinds.{bucketsIn}
 use Rattle.wire.specs.Encode.{keyField}
 use Rattle.wire.specs.declared.kinds.Bucket.{Bucket}
 use Rattle.wire.proofs.OutputLaws.{Part, begin, turn, wrote-length}
@@ -12,10 +13,9 @@ use Rattle.calls.specs.CallList.{Volume, Freed}
 use Rattle.calls.specs.Release.{freedBuckets, releasedLru}
 use Rattle.calls.proofs.View.{bucket}
 use Rattle.change_fields.specs.FieldBytes.{keysBytes}
-use Rattle.release_keys.specs.Buckets.{bucketsIn}
 use Rattle.release_keys.specs.Tables.{FreedTables}
 use Rattle.change_fields.proofs.FieldLists.{flat-next, flat-none}
-use Rattle.release_keys.proofs.FreedBucketLaws.{freed-held, buckets-next, buckets-none}
+use Rattle.release_keys.proofs.FreedBucketLaws.{by-number, freed-held, buckets-next, buckets-none}
 use Rattle.release_keys.proofs.KeyLaws.{lru-is}
 use Rattle.release_keys.proofs.lru_keys.put_lrus.Statement.{statement}
 use Rattle.release_keys.proofs.lru_keys.put_lrus.Tie as tie
@@ -50,7 +50,7 @@ loop-again c =
       omega arith,
       wrote-length w ∙ l .loop .inv .1,
       λ v rs t e.
-          let r = lru-is v rs (bucket (getD (a .args .buckets .now) k 0)) (c .before .before .before .before .freed-bucket .result) (c .before .before .before .before .freed-bucket .ensures v rs t) (a .args .sectors) e in
+          let r = lru-is v rs (bucket (getD (a .args .buckets .now) k 0)) (c .before .before .before .before .freed-bucket .result) (by-number v rs (a .args .buckets .now) k (c .before .before .before .before .freed-bucket .ensures v rs t)) (a .args .sectors) e in
           turn _ (l .loop .inv .2 v rs t e) (flat-next (keyField 10) (releasedLru v rs) (buckets-next (a .args .buckets .now) k (omega arith))) (emitted (ap (keysBytes 10) r) w),
     )
 

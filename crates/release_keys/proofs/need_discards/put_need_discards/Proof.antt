@@ -4,11 +4,11 @@ use Prim.Native.Nat.{_-_}
 use lib.ListN.{length, drop}
 use mathlib.Core.Path.{ap}
 use mathlib.Core.List.{map}
+use Rattle.wire.specs.Kinds.{bucketsIn}
 use Rattle.wire.specs.Encode.{keyField}
 use Rattle.wire.proofs.OutputLaws.{Part, begin, turn, part-length}
 use Rattle.wire.proofs.EmitLaws.{done}
 use Rattle.calls.specs.Lru.{needDiscardKey}
-use Rattle.release_keys.specs.Buckets.{bucketsIn}
 use Rattle.change_fields.specs.FieldBytes.{keysBytes}
 use Rattle.change_fields.proofs.FieldLists.{fields-next, fields-none, emitted-key}
 use Rattle.release_keys.proofs.FreedBucketLaws.{buckets-next, buckets-none}

@@ -4,13 +4,13 @@ use mathlib.Core.Path.{_≡_, refl, sym, _∙_}
 use mathlib.Core.List.{List, map}
 use Prim.Native.Nat.{_-_, _≤_}
 use lib.ListN.{length, drop}
+use Rattle.wire.specs.Kinds.{bucketsIn}
 use Rattle.calls.specs.CallList.{Volume, Freed}
 use Rattle.calls.specs.Refusals.{verdict}
 use Rattle.calls.specs.Release.{bucketRefusal}
 use Rattle.gens.specs.Records.{RecordsFound}
-use Rattle.release_keys.specs.Buckets.{bucketsIn}
 use Rattle.release_keys.specs.Tables.{FreedTables}
-use Rattle.release_keys.proofs.FreedBucketLaws.{buckets-next, buckets-none, tabled-verdict}
+use Rattle.release_keys.proofs.FreedBucketLaws.{entry-at, buckets-next, buckets-none, tabled-verdict}
 use Rattle.release_keys.proofs.RefusalLaws.{verdict-next, verdict-stops, verdict-none}
 use Rattle.release_keys.proofs.refusals.refuse.Statement.{statement}
 use Rattle.release_keys.proofs.refusals.refuse.Tie as tie
@@ -52,7 +52,7 @@ bucket-refusal-requires : tie.Need-bucket-refusal-requires Inv-loop μ-loop
 bucket-refusal-requires c κs =
     let l = c .before .before .before .before in
     let a = l .before .before .before .before .before .before in
-    record { volume = a .pre .volume; requests = a .pre .requests; entry = a .pre .tabled .at (l .loop .k) (omega arith); recorded = a .pre .recorded; size = a .pre .size }
+    record { volume = a .pre .volume; requests = a .pre .requests; entry = entry-at (a .pre .tabled) (l .loop .k) (omega arith); recorded = a .pre .recorded; size = a .pre .size }
 
 returns : tie.Need-returns Inv-loop μ-loop
 returns c =
@@ -61,7 +61,7 @@ returns c =
     let a = l .before .before .before .before .before .before in
     let f = bucketRefusal v rs in
     let k = l .loop .k in
-    let h = c .before .bucket-refusal .ensures v rs (t .at k (omega arith)) r e in
+    let h = c .before .bucket-refusal .ensures v rs (entry-at t k (omega arith)) r e in
     h ∙ sym (verdict-stops f (buckets-next (a .args .buckets .now) k (omega arith)) (λ z. omega (arith, c .if1 .taken, h ∙ z))) ∙ l .loop .inv .1 v rs t r e ∙ tabled-verdict t e
 
 add-k : tie.Need-add-k Inv-loop μ-loop
@@ -77,7 +77,7 @@ loop-again c =
     let k = l .loop .k in (
       omega arith,
       λ v rs t r e.
-          let h = c .before .bucket-refusal .ensures v rs (t .at k (omega arith)) r e in
+          let h = c .before .bucket-refusal .ensures v rs (entry-at t k (omega arith)) r e in
           sym (verdict-next (bucketRefusal v rs) (buckets-next (a .args .buckets .now) k (omega arith)) (omega (arith, h, c .if1 .left))) ∙ l .loop .inv .1 v rs t r e,
     )
 

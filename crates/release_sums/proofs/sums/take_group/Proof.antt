@@ -4,13 +4,14 @@ use mathlib.Core.Path.{_≡_, refl}
 use mathlib.Core.Logic.{⊎-elim}
 use Prim.Native.Nat.{_+_, _-_, _≤_, _<_}
 use lib.ListN.{length, length-set}
+use Rattle.wire.specs.Kinds.{bucketIs}
 use Rattle.release_sums.specs.Summing.{summedFrom}
 use Rattle.release_sums.proofs.TakeLaws.{Taking, taking-starts, taking-length, taking-room, taking-hit, taking-miss, taking-appends}
 use Rattle.release_sums.proofs.sums.take_group.Statement.{statement}
 use Rattle.release_sums.proofs.sums.take_group.Tie as tie
 
 abbrev Inv-loop : tie.InvT-loop
-Inv-loop sums₀ from buckets₀ freed₀ n end n₀ b₀ sums buckets freed n' b = Taking (summedFrom 64 from sums₀) (from + 64) sums₀ buckets₀ freed₀ n sums buckets freed n' b × (length buckets ≡ length buckets₀) × (length freed ≡ length freed₀)
+Inv-loop sums₀ from buckets₀ freed₀ n end n₀ b₀ sums buckets freed n' b = Taking (summedFrom 64 (bucketIs from) sums₀) (from + 64) sums₀ buckets₀ freed₀ n sums buckets freed n' b × (length buckets ≡ length buckets₀) × (length freed ≡ length freed₀)
 
 abbrev μ-loop : tie.MeasureT-loop
 μ-loop sums₀ from buckets₀ freed₀ n end n₀ b₀ sums buckets freed n' b = from + 64 - b
