@@ -3,7 +3,7 @@ use mathlib.Core.List.{List, [], _∷_}
 use Prim.Native.Nat.{ℕ, _+_, _≤_, _<_}
 use native.Mathlib.Omega.{arith}
 use Rattle.calls.specs.Pieces.{Slot, nextFit, bucketsNeeded}
-use Rattle.layout.proofs.NextFitLaws.{fit-next, fit-low, fit-none, first-slot, first-is}
+use Rattle.next_fit.proofs.NextFitLaws.{fit-next, fit-low, fit-none, first-slot, first-is}
 
 -- as many buckets are needed as the first slot says, or more
 pub needs-first : (B : ℕ) (t : Slot) (u : ℕ) (zs : List ℕ) → t .index < bucketsNeeded (t ∷ nextFit B (t .index) u zs)

@@ -1,4 +1,5 @@
 pub mod BucketLaws
+pub mod ClockLaws
 pub mod FillLaws
 pub mod LayoutLaws
 pub mod QueueLaws

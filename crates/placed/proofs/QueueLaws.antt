@@ -16,7 +16,7 @@ use Rattle.calls.specs.Limits.{isRun}
 use Rattle.calls.specs.Freespace.{shortened}
 use Rattle.calls.specs.Place.{walkOf}
 use Rattle.calls.specs.Answers.{readCall, readVolume}
-use Rattle.choose.specs.Walks.{leftOf, keyQueue, queueOf}
+use Rattle.freespace.specs.Walks.{leftOf, keyQueue, queueOf}
 use Rattle.placed.specs.Queue.{Walk}
 
 -- a run with some buckets left, as the code holds it

@@ -21,14 +21,14 @@ use Rattle.calls.specs.Answers.{readCall, readVolume}
 use Rattle.reader.specs.Located.{noPiece}
 use Rattle.reader.specs.declared.head.Head.{Head}
 use Rattle.reader.specs.Pieces.{pieceIn}
-use Rattle.layout.specs.Fit.{slotIn}
+use Rattle.next_fit.specs.Fit.{slotIn}
 use Rattle.placed.specs.Plan.{Plan, Reached, Stepped, placedFrom}
 use Rattle.reader.specs.declared.piece.Piece.{Piece}
-use Rattle.layout.specs.declared.next_fit.Slot.{Slot}
+use Rattle.next_fit.specs.declared.slot.Slot.{Slot}
 use Rattle.placed.specs.declared.placed.Cursor.{Cursor}
 use Rattle.tally.proofs.PieceLaws.{piece-next, all-at}
-use Rattle.choose.proofs.SizedLaws.{kind-bound, file-low, file-high, stored-low, stored-high}
-use Rattle.layout.proofs.NextFitLaws.{fit-next, fit-high, fit-offset, fit-used}
+use Rattle.place_tests.proofs.SizedLaws.{kind-bound, file-low, file-high, stored-low, stored-high}
+use Rattle.next_fit.proofs.NextFitLaws.{fit-next, fit-high, fit-offset, fit-used}
 use Rattle.placed.proofs.LayoutLaws.{needs-first, enough-next}
 
 -- the buckets taken, by index

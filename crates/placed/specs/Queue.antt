@@ -6,7 +6,7 @@ use lib.ListN.{length}
 use Rattle.calls.specs.Place.{walkOf}
 use Rattle.calls.specs.Answers.{readCall, readVolume}
 use Rattle.reader.specs.Located.{KeysAt}
-use Rattle.choose.specs.Walks.{queueOf}
+use Rattle.freespace.specs.Walks.{queueOf}
 
 pub record Walk (s offsets : List ℕ) (passed left : ℕ) : Type 0 where
   pub runs : KeysAt s offsets (readVolume s .trees .freespace)

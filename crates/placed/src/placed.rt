@@ -3,8 +3,8 @@ ghost use mathlib.Core.Path.{_≡_};
 ghost use Prim.Native.Nat.{_<_};
 ghost use lib.ListN.{length};
 ghost use Rattle.placed.specs.Plan.{Plan, Reached, Stepped};
-use layout::next_fit;
-use layout::next_fit::Open;
+use next_fit::slot;
+use next_fit::slot::Open;
 use reader::head::Head;
 use reader::piece;
 use reader::piece::Piece;
@@ -67,7 +67,7 @@ pub fn place_piece(
         index: o.index,
         used: o.used,
     };
-    let slot = next_fit::next_fit(open, stored, sectors);
+    let slot = slot::next_fit(open, stored, sectors);
     let index = slot.index;
     let bucket = Bucket(taken[index]);
     let end = kinds::extent_end(o.end, piece.file as u64);

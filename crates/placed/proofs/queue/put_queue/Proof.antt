@@ -8,7 +8,7 @@ use Rattle.wire.specs.Encode.{keyField}
 use Rattle.wire.proofs.OutputLaws.{Part, begin, turn, wrote-length, part-length}
 use Rattle.calls.specs.Answers.{readVolume}
 use Rattle.reader.proofs.KeyHereLaws.{whole-at, keys-next}
-use Rattle.choose.specs.Walks.{queueOf}
+use Rattle.freespace.specs.Walks.{queueOf}
 use Rattle.wire.proofs.EmitLaws.{emitted, nothing, done}
 use Rattle.tally.proofs.FieldLists.{fields-none}
 use Rattle.placed.proofs.QueueLaws.{queueBytes, queue-next, queue-end, passed-none}
