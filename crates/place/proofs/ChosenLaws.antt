@@ -34,7 +34,7 @@ use Rattle.place_tests.proofs.RefusalLaws.{Accepted, accepted}
 use Rattle.place_tests.proofs.SizedLaws.{needed-short}
 use Rattle.freespace.proofs.TakeLaws.{queue-take}
 use Rattle.freespace.proofs.TakenLaws.{walk-in-range}
-use Rattle.placed.specs.Queue.{Walk}
+use Rattle.place_keys.specs.Queue.{Walk}
 use Rattle.place.specs.Planned.{PlanFor}
 
 -- ---- buckets by their numbers

@@ -29,11 +29,11 @@ use Rattle.reader.specs.Located.{KeysAt, FreedAt, noFreed, FreedsAt}
 use Rattle.reader.specs.Readings.{callRefusal, ListRead}
 use Rattle.reader.specs.declared.head.Head.{Head}
 use Rattle.reader.specs.declared.table.Ends.{Ends}
-use Rattle.reader.proofs.KeyHereLaws.{keys-here}
+use Rattle.reader.proofs.KeyHereLaws.{keyed, keys-here}
 use Rattle.reader.proofs.PartsLaws.{passed, read-on, read-refused, between, Part, alloc-part, gens-part, freeds-part}
-use Rattle.freed.specs.Freeds.{freedsIn, Requested}
-use Rattle.freed.specs.Summing.{Cleared}
-use Rattle.shares.specs.Places.{Keyed}
+use Rattle.release_sums.specs.Freeds.{freedsIn, Requested}
+use Rattle.release_sums.specs.Summing.{Cleared}
+use Rattle.release_keys.specs.Places.{Keyed}
 use Rattle.release.specs.Outcomes.{volumeOf}
 use Rattle.release.proofs.TopLaws.{zeros-at}
 
@@ -45,13 +45,9 @@ freeds-map s [] (r ∷ rs) e h = absurd (omega arith)
 freeds-map s (o ∷ os) [] e h = absurd (omega arith)
 freeds-map s (o ∷ os) (r ∷ rs) e h = λ x. h 0 (omega arith) .is x ∷ freeds-map s os rs (omega arith) (λ i l. h (suc i) (omega arith)) x
 
-module _ {s os : List ℕ} {ks : List Key} (q : KeysAt s os ks) where
-  keyed : Keyed s os
-  keyed = subst (λ (l : List Key). KeysAt s os l) (keys-here q) q
-
-  -- keys that ascend
-  pub keyed-ok : keysOk ks ≡ true → Keyed s os × (keysOk (keysHere s os) ≡ true)
-  keyed-ok h = (keyed, ap keysOk (sym (keys-here q)) ∙ h)
+-- keys that ascend
+pub keyed-ok : {s os : List ℕ} {ks : List Key} → KeysAt s os ks → keysOk ks ≡ true → Keyed s os × (keysOk (keysHere s os) ≡ true)
+keyed-ok q h = (keyed q, ap keysOk (sym (keys-here q)) ∙ h)
 
 module _ {s os : List ℕ} {rs : List Freed} (q : FreedsAt s os rs) where
   freeds-found : freedsIn s os ≡ rs
@@ -128,7 +124,7 @@ trees-laid call s h =
     parts (treesOk (v .trees)) (inOrder bucketBelow (v .reserved)) (e .1) .0
 
 trees-ok : (s : List ℕ) → 0 ≡ callRefusal 2 s → EachTree (λ ks. keysOk ks ≡ true) (readVolume s .trees)
-trees-ok s z = trees-each (readVolume s .trees) (trees-laid 2 s (passed 2 s z .laid))
+trees-ok s z = trees-each (readVolume s .trees) (trees-laid 2 s (passed 2 s z .tables))
 
 -- ---- the scratch
 pub scratch-short : (l : List ℕ) → length l < 65536 → l ≡ scratchAfter l

@@ -1,0 +1,7 @@
+pub mod Places
+pub mod Buckets
+pub mod Skipping
+pub mod Tables
+pub mod FreedBuckets
+pub mod GenRecords
+pub mod Counting
