@@ -22,13 +22,13 @@ use Rattle.reader.specs.Heads.{headIn}
 use Rattle.reader.specs.declared.head.Head.{Head}
 use Rattle.change_fields.specs.FieldBytes.{rootsBytes}
 use Rattle.wire.specs.Kinds.{bucketsIn}
-use Rattle.placed.specs.Plan.{Plan}
+use Rattle.place_keys.specs.Plan.{Plan}
 use Rattle.place.specs.Change.{placement, keyFields, otherFields}
 use Rattle.accounting.specs.Tally.{talliesOf}
 use Rattle.accounting.specs.declared.tally.Tally.{Tally}
 use Rattle.accounting.specs.declared.tally.Tallies.{Tallies}
 use Rattle.wire.proofs.EncodeLaws.{encode-append, encode-next, encode-none}
-use Rattle.placed.proofs.StepLaws.{bucket-sectors}
+use Rattle.place_keys.proofs.StepLaws.{bucket-sectors}
 use Rattle.accounting.proofs.PlaceRowLaws.{all-tally, placed-pieces}
 
 nine : (a b c d e f g h i : List Field) → a ++ b ++ c ++ d ++ e ++ f ++ g ++ h ++ i ++ [] ≡ (a ++ b) ++ (c ++ d ++ e ++ f ++ g ++ h ++ i)

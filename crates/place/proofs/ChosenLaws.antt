@@ -25,16 +25,16 @@ use Rattle.calls.proofs.RunLaws.{covered, walk-gives}
 use Rattle.calls.proofs.SortedLaws.{Sorted}
 use Rattle.calls.proofs.View.{bucket, covers, coverOf}
 use Rattle.reader.specs.declared.head.Head.{Head}
-use Rattle.choose.specs.Called.{Called}
-use Rattle.choose.specs.Choice.{ChosenIs}
-use Rattle.choose.specs.Walks.{unwalked, queueOf, WalkTook}
-use Rattle.choose.specs.declared.take.Walked.{Walked}
-use Rattle.choose.proofs.CheckedLaws.{trees-in-order}
-use Rattle.choose.proofs.RefusalLaws.{Accepted, accepted}
-use Rattle.choose.proofs.SizedLaws.{needed-short}
-use Rattle.choose.proofs.TakeLaws.{queue-take}
-use Rattle.choose.proofs.TakenLaws.{walk-in-range}
-use Rattle.placed.specs.Queue.{Walk}
+use Rattle.place_tests.specs.Called.{Called}
+use Rattle.place_tests.specs.Choice.{ChosenIs}
+use Rattle.freespace.specs.Walks.{unwalked, queueOf, WalkTook}
+use Rattle.freespace.specs.declared.take.Walked.{Walked}
+use Rattle.reader.proofs.CheckedLaws.{trees-in-order}
+use Rattle.place_tests.proofs.RefusalLaws.{Accepted, accepted}
+use Rattle.place_tests.proofs.SizedLaws.{needed-short}
+use Rattle.freespace.proofs.TakeLaws.{queue-take}
+use Rattle.freespace.proofs.TakenLaws.{walk-in-range}
+use Rattle.place_keys.specs.Queue.{Walk}
 use Rattle.place.specs.Planned.{PlanFor}
 
 -- ---- buckets by their numbers

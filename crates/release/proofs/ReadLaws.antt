@@ -124,7 +124,7 @@ trees-laid call s h =
     parts (treesOk (v .trees)) (inOrder bucketBelow (v .reserved)) (e .1) .0
 
 trees-ok : (s : List ℕ) → 0 ≡ callRefusal 2 s → EachTree (λ ks. keysOk ks ≡ true) (readVolume s .trees)
-trees-ok s z = trees-each (readVolume s .trees) (trees-laid 2 s (passed 2 s z .tables))
+trees-ok s z = trees-each (readVolume s .trees) (trees-laid 2 s (passed 2 s z .laid))
 
 -- ---- the scratch
 pub scratch-short : (l : List ℕ) → length l < 65536 → l ≡ scratchAfter l

@@ -7,7 +7,7 @@ use Rattle.calls.specs.Answers.{readCall}
 use Rattle.accounting.specs.Tally.{talliesOf}
 use Rattle.wire.specs.Kinds.{bucketsIn}
 use Rattle.wire.proofs.EmitLaws.{emitted, and-then}
-use Rattle.placed.proofs.StepLaws.{buckets-length}
+use Rattle.place_keys.proofs.StepLaws.{buckets-length}
 use Rattle.accounting.proofs.PlaceRowLaws.{placed-pieces}
 use Rattle.place.proofs.ChangeLaws.{others-of}
 use borrow.Author.Needs.{needs}

@@ -6,7 +6,7 @@ use lib.Seq.{length-take-le}
 use Rattle.wire.specs.Keys.{Key}
 use Rattle.reader.proofs.KeyHereLaws.{keys-here, keyed}
 use Rattle.gens.specs.Records.{RecordsFound}
-use Rattle.placed.specs.Plan.{Plan}
+use Rattle.place_keys.specs.Plan.{Plan}
 use borrow.Author.Needs.{needs}
 use Rattle.place.proofs.place.place_buckets.Statement.{statement}
 use Rattle.place.proofs.place.place_buckets.Tie as tie
