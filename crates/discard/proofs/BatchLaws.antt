@@ -18,7 +18,7 @@ use Rattle.wire.proofs.EncodeLaws.{encode-none, encode-append}
 use Rattle.calls.specs.ChangeList.{Batch, batchFields, changeFields, changeBytes}
 use Rattle.calls.specs.Discard.{chunks, discardBatch}
 use Rattle.reader.specs.KeyHere.{keysHere}
-use Rattle.waiting.specs.Chosen.{needTrees}
+use Rattle.need_discard.specs.Chosen.{needTrees}
 use Rattle.discard.specs.Emitted.{batchBytes, changesFrom, batchEnd}
 
 -- chunks, however many are allowed

@@ -6,7 +6,7 @@ use mathlib.Core.List.{List, [], _∷_, map, map-map}
 use native.Mathlib.Omega.{arith}
 use lib.Dec.{eqb}
 use lib.ListN.{length, take, drop, length-map}
-use borrow.Author.Tests.{eq-eqb, ne-eqb, leb-true, ltb-true}
+use borrow.Author.Tests.{eq-eqb, ne-eqb, leb-true}
 use Rattle.wire.specs.Bytes.{All, none, more}
 use Rattle.wire.specs.Keys.{Key}
 use Rattle.wire.specs.Kinds.{bucketInRange}
@@ -29,10 +29,10 @@ use Rattle.reader.specs.declared.table.Ends.{Ends}
 use Rattle.reader.proofs.KeyHereLaws.{keys-tail, keys-here}
 use Rattle.reader.proofs.PartsLaws.{passed, read-on, read-refused, between, alloc-part, need-discard-part}
 use Rattle.reader.specs.KeyHere.{keyHere, keysHere}
-use Rattle.waiting.specs.Kept.{AllocKept, NeedKept}
-use Rattle.waiting.specs.Chosen.{needTrees, freedFrom}
+use Rattle.need_discard.specs.Kept.{AllocKept, NeedKept}
+use Rattle.need_discard.specs.Chosen.{needTrees, discardedFrom}
 use Rattle.discard.specs.Emitted.{batchesFrom, changesFrom}
-use Rattle.discard.specs.Given.{Ready}
+use Rattle.discard.specs.Given.{DiscardGiven}
 
 -- what the offsets have of a test that each key passes
 found : {P : ℕ → Type 0} {s os : List ℕ} {ks : List Key} (t : Key → Bool) → ((o : ℕ) (k : Key) → KeyAt s o k → t k ≡ true → P o)
@@ -49,14 +49,14 @@ pub alloc-kept : {s os : List ℕ} {ks : List Key} → KeysAt s os ks → allOf 
     → All (AllocKept s) os
 alloc-kept q h =
     found _
-    (λ o k r t. record { kept = r .whole; below = λ z. rw (r .is) (ltb-true (k .pos .offset) 65536 (or-then (atInode0 k) _ t (eq-eqb _ 0 (rw (r .is) at z)))) })
+    (λ o k r t. record { kept = r .whole; below = λ z. rw (r .is) (or-then (atInode0 k) _ t (eq-eqb _ 0 (rw (r .is) at z))) })
     q h
 
 pub needs-kept : {s os : List ℕ} {ks : List Key} → KeysAt s os ks → allOf (λ k. not (isSet k) || bucketInRange (bucketIn (k .pos))) ks ≡ true
     → All (NeedKept s) os
 needs-kept q h =
     found _
-    (λ o k r t. record { kept = r .whole; below = λ z. rw (r .is) (ltb-true (k .pos .offset) 65536 (or-then (isSet k) _ t (eq-eqb _ 25 (rw (r .is) at z)))) })
+    (λ o k r t. record { kept = r .whole; below = λ z. rw (r .is) (or-then (isSet k) _ t (eq-eqb _ 25 (rw (r .is) at z))) })
     q h
 
 -- what the reader shows, as the parts of a discard want it
@@ -66,7 +66,7 @@ pub record Found (s alloc needs : List ℕ) : Type 0 where
   pub fewAllocs : length alloc ≤ 4096
   pub fewWaits : length needs ≤ 4096
 
-pub ready-found : {s alloc needs : List ℕ} {head : Head} → Ready s alloc needs head → Found s alloc needs
+pub ready-found : {s alloc needs : List ℕ} {head : Head} → DiscardGiven s alloc needs head → Found s alloc needs
 unfolding volumeWithin countsOk fewKeys bucketsOk
 ready-found {s} {alloc} {needs} r =
     let v = readVolume s in
@@ -127,19 +127,19 @@ module _ (t : Trees) (s needs : List ℕ) (e : t .needDiscard ≡ keysHere s nee
   unfolding discardBatch
   same-batch = let p : (ks : List Key) → discardBatch t ks ≡ discardBatch (needTrees s needs) ks = λ ks. rw e in λ i ks. p ks i
 
-  keys-chosen : (alloc : List ℕ) → t .alloc ≡ keysHere s alloc → discardedKeys t ≡ keysHere s (freedFrom s needs alloc)
+  keys-chosen : (alloc : List ℕ) → t .alloc ≡ keysHere s alloc → discardedKeys t ≡ keysHere s (discardedFrom s needs alloc)
   unfolding discardedKeys
   keys-chosen alloc f = rw (same-choice, f) (those-map (isDiscarded (needTrees s needs)) (keyHere s) alloc)
 
   batches-are : (alloc : List ℕ) (size : ℕ) → t .alloc ≡ keysHere s alloc
-      → map (discardBatch t) (chunks (length (discardedKeys t)) size (discardedKeys t)) ≡ batchesFrom s needs size (freedFrom s needs alloc)
+      → map (discardBatch t) (chunks (length (discardedKeys t)) size (discardedKeys t)) ≡ batchesFrom s needs size (discardedFrom s needs alloc)
   batches-are alloc size f =
-      let os = freedFrom s needs alloc in
+      let os = discardedFrom s needs alloc in
       rw (keys-chosen alloc f, same-batch, length-map os (keyHere s), chunks-map (keyHere s) (length os) size os)
       (map-map (discardBatch (needTrees s needs)) (map (keyHere s)) (chunks (length os) size os))
 
-pub changes-are : {s alloc needs : List ℕ} {head : Head} → Ready s alloc needs head
-    → changesFrom s needs (head .batch) (freedFrom s needs alloc) ≡ changeBytes (discardBatches (readVolume s))
+pub changes-are : {s alloc needs : List ℕ} {head : Head} → DiscardGiven s alloc needs head
+    → changesFrom s needs (head .batch) (discardedFrom s needs alloc) ≡ changeBytes (discardBatches (readVolume s))
 unfolding discardBatches
 changes-are {s} {alloc} {needs} {head} r =
     let v = readVolume s in
@@ -169,7 +169,7 @@ module _ (s : List ℕ) (room : ℕ) where
 
 -- a list that was read, with a batch that is not 0
 module _ (s index : List ℕ) (h : Head) (e : Ends) (z : 0 ≡ callRefusal 3 s) (q : ListRead 3 s index h e) where
-  pub read-ready : (h .batch ≡ 0 → ⊥) → Ready s (take (e .alloc) index) (between (e .freespace) (e .«need_discard») index) h
+  pub read-ready : (h .batch ≡ 0 → ⊥) → DiscardGiven s (take (e .alloc) index) (between (e .freespace) (e .«need_discard») index) h
   read-ready b =
       record {
         headed = q .head;

@@ -5,23 +5,25 @@ use mathlib.Core.Bool.{Bool, true, false, cond}
 use mathlib.Core.List.{List, [], _∷_, _++_, map, append-nil}
 use native.Mathlib.Omega.{arith}
 use borrow.Author.Tests.{ne-eqb, eq-eqb}
-use lib.ListN.{length, getD, drop, drop-of-length-le, length-map, List·getD-map}
-use Rattle.wire.specs.Numbers.{each}
+use lib.ListN.{length, getD, drop}
+use Rattle.wire.specs.Encode.{encodeField, keyField}
 use Rattle.wire.specs.Output.{top, Wrote, Emitted}
 use Rattle.wire.specs.Positions.{runAt}
 use Rattle.wire.specs.declared.bpos.Bpos.{Bpos}
-use Rattle.wire.proofs.OutputLaws.{Part, begin, turn, drop-next}
+use Rattle.wire.proofs.OutputLaws.{Part, begin, turn}
 use Rattle.wire.proofs.EmitLaws.{done}
-use Rattle.wire.proofs.EncodeLaws.{each-append}
+use Rattle.wire.proofs.EncodeLaws.{encode-none, encode-one}
 use Rattle.calls.specs.Trees.{newKey}
-use Rattle.waiting.specs.Kept.{bucketHere}
-use Rattle.discard.proofs.EmitLaws.{each-one}
+use Rattle.need_discard.specs.Kept.{bucketHere}
+use Rattle.change_fields.specs.FieldBytes.{keysBytes}
+use Rattle.change_fields.proofs.FieldLists.{fields-append}
+use Rattle.discard.proofs.EmitLaws.{at-next, at-none}
 use Rattle.wire.specs.Keys.{Key}
 use Rattle.wire.specs.Kinds.{sameBucket, nextBucket}
 use Rattle.wire.specs.declared.kinds.Bucket.{Bucket}
 use Rattle.calls.specs.Discard.{joinRun, joinedRuns, runKey}
 use Rattle.calls.specs.Discard as calls
-use Rattle.discard.specs.Emitted.{keyBytes, bucketsAt, runsBytes, shownRun, endedRun, withBucket}
+use Rattle.discard.specs.Emitted.{bucketsAt, shownRun, endedRun, withBucket}
 use Rattle.discard.specs.declared.runs.Run.{Run}
 
 -- the runs of some buckets after a run that is not ended
@@ -121,42 +123,37 @@ with-size r b = go (sameBucket (r .end) b)
 
 -- a loop over offsets: what is left are the runs of the buckets from index i on, after the run that is not ended
 abbrev pub Runs : List ℕ → List ℕ → List ℕ → ℕ → List ℕ → ℕ → Run → ℕ → Type 0
-Runs s os xs at ys p r i = Part xs at (runsBytes s os) ys p (each (keyBytes 11) (openRuns r (drop i (bucketsAt s os))))
+Runs s os xs at ys p r i = Part xs at (keysBytes 11 (map runKey (joinedRuns (bucketsAt s os)))) ys p (keysBytes 11 (openRuns r (drop i (bucketsAt s os))))
 
 module _ (s os : List ℕ) {xs : List ℕ} {at : ℕ} where
   pub runs-none : (e : Bucket) → length xs ≤ top → Runs s os xs at xs at (record { end = e; size = 0 }) 0
-  runs-none e h = rw (open-none e (bucketsAt s os)) (begin xs at (runsBytes s os) h)
+  runs-none e h = rw (open-none e (bucketsAt s os)) (begin xs at (keysBytes 11 (map runKey (joinedRuns (bucketsAt s os)))) h)
 
   pub runs-more : {ys : List ℕ} {p m : ℕ} {zs : List ℕ} {q : ℕ} (r : Run) {b : Bucket} (i : ℕ) → Runs s os xs at ys p r i → i < length os
-      → b ≡ bucketHere s (getD os i 0) → Wrote ys p m (each (keyBytes 11) (endedRun r b)) zs q
+      → b ≡ bucketHere s (getD os i 0) → Wrote ys p m (keysBytes 11 (endedRun r b)) zs q
       → Runs s os xs at zs q (withBucket r b) (i + 1)
   runs-more r {b} i q h e w =
-      let d : drop i (bucketsAt s os) ≡ b ∷ drop (i + 1) (bucketsAt s os) =
-      drop-next (bucketHere s 0) (bucketsAt s os) i (omega (arith, length-map os (bucketHere s)))
-      ∙ rw (List·getD-map (bucketHere s) os i 0, e) in
-      turn (each (keyBytes 11) (openRuns (withBucket r b) (drop (i + 1) (bucketsAt s os)))) q
-      (ap (each (keyBytes 11)) (open-more r d) ∙ each-append (keyBytes 11) (endedRun r b) _) w
+      let d : drop i (bucketsAt s os) ≡ b ∷ drop (i + 1) (bucketsAt s os) = at-next (bucketHere s) os i h ∙ ap (λ x. x ∷ drop (i + 1) (bucketsAt s os)) (sym e) in
+      turn (keysBytes 11 (openRuns (withBucket r b) (drop (i + 1) (bucketsAt s os)))) q
+      (ap (keysBytes 11) (open-more r d) ∙ fields-append (keyField 11) (endedRun r b) _) w
 
   pub runs-all : {ys : List ℕ} {p m : ℕ} {zs : List ℕ} {q : ℕ} (r : Run) (i : ℕ) → Runs s os xs at ys p r i → length os ≤ i
-      → Wrote ys p m (each (keyBytes 11) (shownRun r)) zs q
-      → Emitted xs at (runsBytes s os) zs q
+      → Wrote ys p m (keysBytes 11 (shownRun r)) zs q
+      → Emitted xs at (keysBytes 11 (map runKey (joinedRuns (bucketsAt s os)))) zs q
   runs-all r i q h w =
-      let d : drop i (bucketsAt s os) ≡ [] = drop-of-length-le (bucketsAt s os) {i = i} (omega (arith, length-map os (bucketHere s))) in
-      done (turn [] q (ap (each (keyBytes 11)) (open-last r d) ∙ sym (append-nil _)) w) refl
+      done (turn [] q (ap (keysBytes 11) (open-last r (at-none (bucketHere s) os i h)) ∙ sym (append-nil _)) w) refl
 
 -- what the emitters of a run write
 
-pub no-run : (r : Run) → r .size ≡ 0 → each (keyBytes 11) (shownRun r) ≡ []
-unfolding each
-no-run r e = rw (eq-eqb (r .size) 0 e)
+pub no-run : (r : Run) → r .size ≡ 0 → keysBytes 11 (shownRun r) ≡ []
+no-run r e = rw (eq-eqb (r .size) 0 e) encode-none
 
-pub one-run : (r : Run) {x : Bpos} → (r .size ≡ 0 → ⊥) → x ≡ runAt (r .end) → keyBytes 11 (newKey 25 (r .size) x []) ≡ each (keyBytes 11) (shownRun r)
-one-run r e p = rw (ne-eqb (r .size) 0 e, p) (sym (each-one (keyBytes 11) _))
+pub one-run : (r : Run) {x : Bpos} → (r .size ≡ 0 → ⊥) → x ≡ runAt (r .end) → encodeField (keyField 11 (newKey 25 (r .size) x [])) ≡ keysBytes 11 (shownRun r)
+one-run r e p = rw (ne-eqb (r .size) 0 e, p) (sym (encode-one _))
 
-pub joined-run : {t : Bool} (r : Run) (b : Bucket) → t ≡ sameBucket (r .end) b → t ≡ true → each (keyBytes 11) (endedRun r b) ≡ []
-unfolding each
-joined-run r b e z = rw (sym e ∙ z)
+pub joined-run : {t : Bool} (r : Run) (b : Bucket) → t ≡ sameBucket (r .end) b → t ≡ true → keysBytes 11 (endedRun r b) ≡ []
+joined-run r b e z = rw (sym e ∙ z) encode-none
 
 pub ended-run : {t : Bool} (r : Run) (b : Bucket) → t ≡ sameBucket (r .end) b → t ≡ false
-    → each (keyBytes 11) (shownRun r) ≡ each (keyBytes 11) (endedRun r b)
+    → keysBytes 11 (shownRun r) ≡ keysBytes 11 (endedRun r b)
 ended-run r b e z = rw (sym e ∙ z)

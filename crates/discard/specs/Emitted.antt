@@ -1,41 +1,30 @@
--- What is emitted for the alloc keys at some offsets, tree by tree, and for a batch.
+-- What is emitted for the alloc keys at some offsets: runs while they are made, and batches.
 use Prim.Native.Nat.{ℕ, _+_, _-_, min}
 use mathlib.Core.List.{List, [], _∷_, map}
 use mathlib.Core.Bool.{cond}
-use lib.IntN.{pos, negℤ}
 use lib.Dec.{eqb}
 use lib.ListN.{length}
-use Rattle.wire.specs.Numbers.{each}
 use Rattle.wire.specs.Keys.{Key}
 use Rattle.wire.specs.Kinds.{sameBucket, nextBucket}
 use Rattle.wire.specs.Positions.{runAt}
-use Rattle.wire.specs.Encode.{encodeField, encode, keyField}
-use Rattle.wire.specs.Rows.{Counters, rowField}
+use Rattle.wire.specs.Encode.{encode}
 use Rattle.wire.specs.declared.kinds.Bucket.{Bucket}
 use Rattle.format.specs.AllocV4.{discarded}
-use Rattle.calls.specs.Accounting.{countedRows, bucketsRow}
-use Rattle.calls.specs.ChangeList.{Batch, batchFields, changeBytes, discardedField}
-use Rattle.calls.specs.Discard.{chunks, joinedRuns, runKey, waitingDeletions, discardBatch}
+use Rattle.calls.specs.ChangeList.{Batch, batchFields, changeBytes}
+use Rattle.calls.specs.Discard.{chunks, discardBatch}
 use Rattle.calls.specs.Trees.{newKey, withValue}
-use Rattle.reader.specs.KeyHere.{keyHere, keysHere}
-use Rattle.waiting.specs.Kept.{bucketHere}
-use Rattle.waiting.specs.Chosen.{needTrees}
+use Rattle.reader.specs.KeyHere.{keysHere}
+use Rattle.need_discard.specs.Kept.{bucketHere}
+use Rattle.need_discard.specs.Chosen.{needTrees}
 use Rattle.discard.specs.declared.runs.Run.{Run}
 
--- keys of a tree
-abbrev pub keyBytes : ℕ → Key → List ℕ
-keyBytes tree k = encodeField (keyField tree k)
+-- an alloc key with its value discarded
+abbrev pub discardedKey : Key → Key
+discardedKey k = withValue k (discarded (k .value))
 
--- tree 4: the alloc key with its value discarded
-abbrev pub allocBytes : List ℕ → ℕ → List ℕ
-allocBytes s o = keyBytes 4 (withValue (keyHere s o) (discarded (keyHere s o .value)))
-
--- tree 11: the runs of neighbouring buckets
+-- the buckets that the keys at some offsets name
 abbrev pub bucketsAt : List ℕ → List ℕ → List Bucket
 bucketsAt s os = map (bucketHere s) os
-
-abbrev pub runsBytes : List ℕ → List ℕ → List ℕ
-runsBytes s os = each (keyBytes 11) (map runKey (joinedRuns (bucketsAt s os)))
 
 -- a run that is not ended yet, if it has a bucket
 abbrev pub shownRun : Run → List Key
@@ -48,20 +37,6 @@ endedRun r b = cond (sameBucket (r .end) b) [] (shownRun r)
 -- the run that a bucket joins, or begins
 abbrev pub withBucket : Run → Bucket → Run
 withBucket r b = record { end = nextBucket b; size = cond (sameBucket (r .end) b) (r .size + 1) 1 }
-
--- tree 12: the deletion of the need-discard key that stands for the bucket
-abbrev pub deletionBytes : List ℕ → List ℕ → ℕ → List ℕ
-deletionBytes s needs o = each (keyBytes 12) (waitingDeletions (keysHere s needs) (bucketHere s o))
-
--- 73: n buckets more that are free, and n fewer that wait
-abbrev pub rowsBytes : ℕ → List ℕ
-rowsBytes n =
-    each (λ (r : Counters). encodeField (rowField r))
-    (countedRows (bucketsRow 0 (pos n) (pos 0) (pos 0) ∷ bucketsRow 9 (negℤ (pos n)) (pos 0) (pos 0) ∷ []))
-
--- 75: the bucket is unreserved
-abbrev pub unreservedBytes : List ℕ → ℕ → List ℕ
-unreservedBytes s o = encodeField (discardedField (bucketHere s o))
 
 -- the batch of the alloc keys at some offsets
 abbrev pub batchBytes : List ℕ → List ℕ → List ℕ → List ℕ

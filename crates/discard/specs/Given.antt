@@ -10,7 +10,7 @@ use Rattle.reader.specs.Located.{KeysAt}
 use Rattle.reader.specs.declared.head.Head.{Head}
 
 -- The list's head, where its alloc and need-discard keys stand, its limits (refusal 3), and a batch that is not 0 (refusal 20).
-pub record Ready (s alloc needs : List ℕ) (head : Head) : Type 0 where
+pub record DiscardGiven (s alloc needs : List ℕ) (head : Head) : Type 0 where
   pub headed : headIn head ≡ readVolume s .head
   pub allocAt : KeysAt s alloc (readVolume s .trees .alloc)
   pub needsAt : KeysAt s needs (readVolume s .trees .needDiscard)

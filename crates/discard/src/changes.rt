@@ -8,14 +8,14 @@ ghost use Rattle.wire.specs.Output.{Emitted};
 ghost use Rattle.calls.specs.ChangeList.{changeBytes};
 ghost use Rattle.calls.specs.Discard.{discardBatches};
 ghost use Rattle.calls.specs.Answers.{readVolume, answer, made, outcome};
-ghost use Rattle.waiting.specs.Kept.{FreedKept};
-ghost use Rattle.waiting.specs.Table.{Tabled};
+ghost use Rattle.need_discard.specs.Kept.{DiscardedKept};
+ghost use Rattle.need_discard.specs.Table.{WaitingTable};
 ghost use Rattle.discard.specs.Emitted.{batchEnd, changesFrom};
-ghost use Rattle.discard.specs.Given.{Ready};
+ghost use Rattle.discard.specs.Given.{DiscardGiven};
 use crate::batch;
+use need_discard::discarded;
+use need_discard::waiting as waiting_keys;
 use reader::head::Head;
-use waiting::freed;
-use waiting::waiting as waiting_keys;
 
 // Where the batch that begins at a ends, of n keys in all.
 fn batch_end(a: usize, n: usize, size: u32) -> usize
@@ -29,24 +29,24 @@ fn batch_end(a: usize, n: usize, size: u32) -> usize
     a + k
 }
 
-// The batches, in alloc order. Refusal 20 shows that a batch has a key, `freed_keys`, `discard_lists` and the limits the rest.
+// The batches, in alloc order. Refusal 20 shows that a batch has a key, `discarded_keys`, `discard_lists` and the limits the rest.
 pub fn discard_freed(
     out: &mut [u8],
     at: usize,
     s: &[u8],
     size: u32,
-    freed: &[u32],
+    discarded: &[u32],
     needs: &[u32],
     table: &[u16],
 ) -> usize
-    requires { ⌜ (0 < size) × All (FreedKept (now s)) (now freed) × (length (now freed) ≤ 4096) × Tabled (now s) (now needs) (now table) ⌝ }
-    ensures { λ r. ⌜ Emitted (now (out .entry)) at (changesFrom (now (s .entry)) (now (needs .entry)) size (now (freed .entry))) (now (out .exit)) r ⌝ }
+    requires { ⌜ (0 < size) × All (DiscardedKept (now s)) (now discarded) × (length (now discarded) ≤ 4096) × WaitingTable (now s) (now needs) (now table) ⌝ }
+    ensures { λ r. ⌜ Emitted (now (out .entry)) at (changesFrom (now (s .entry)) (now (needs .entry)) size (now (discarded .entry))) (now (out .exit)) r ⌝ }
 {
     let mut p = at;
     let mut a: usize = 0;
-    while a < freed.len() {
-        let e = batch_end(a, freed.len(), size);
-        p = batch::discard_buckets(out, p, s, &freed[a..e], needs, table);
+    while a < discarded.len() {
+        let e = batch_end(a, discarded.len(), size);
+        p = batch::discard_buckets(out, p, s, &discarded[a..e], needs, table);
         a = e;
     }
     p
@@ -58,27 +58,27 @@ fn write_changes(
     written: &mut usize,
     s: &[u8],
     size: u32,
-    freed: &[u32],
+    discarded: &[u32],
     needs: &[u32],
     table: &[u16],
 ) -> u32
-    requires { ⌜ (0 < size) × All (FreedKept (now s)) (now freed) × (length (now freed) ≤ 4096) × Tabled (now s) (now needs) (now table) ⌝ }
-    ensures { λ r. ⌜ made r (now (written .exit)) (now (out .exit)) ≡ outcome (answer [] (changesFrom (now (s .entry)) (now (needs .entry)) size (now (freed .entry))) (length (now (out .entry)))) (now (out .entry)) ⌝ }
+    requires { ⌜ (0 < size) × All (DiscardedKept (now s)) (now discarded) × (length (now discarded) ≤ 4096) × WaitingTable (now s) (now needs) (now table) ⌝ }
+    ensures { λ r. ⌜ made r (now (written .exit)) (now (out .exit)) ≡ outcome (answer [] (changesFrom (now (s .entry)) (now (needs .entry)) size (now (discarded .entry))) (length (now (out .entry)))) (now (out .entry)) ⌝ }
 {
     let mut dry = [0u8; 1];
-    let n = discard_freed(&mut dry, 0, s, size, freed, needs, table);
+    let n = discard_freed(&mut dry, 0, s, size, discarded, needs, table);
     if out.len() < n {
         *written = 0;
         return 21;
     }
-    discard_freed(out, 0, s, size, freed, needs, table);
+    discard_freed(out, 0, s, size, discarded, needs, table);
     *written = n;
     0
 }
 
 // The answer to a discard, with room for the offsets of its alloc keys. `discard_lists` shows what is required, here and below.
 fn discard_into(
-    freed: &mut [u32],
+    discarded: &mut [u32],
     s: &[u8],
     head: Head,
     alloc: &[u32],
@@ -87,11 +87,11 @@ fn discard_into(
     out: &mut [u8],
     written: &mut usize,
 ) -> u32
-    requires { ⌜ Ready (now s) (now alloc) (now needs) head × Tabled (now s) (now needs) (now table) × (length (now alloc) ≤ length (now freed)) ⌝ }
+    requires { ⌜ DiscardGiven (now s) (now alloc) (now needs) head × WaitingTable (now s) (now needs) (now table) × (length (now alloc) ≤ length (now discarded)) ⌝ }
     ensures { λ r. ⌜ made r (now (written .exit)) (now (out .exit)) ≡ outcome (answer [] (changeBytes (discardBatches (readVolume (now (s .entry))))) (length (now (out .entry)))) (now (out .entry)) ⌝ }
 {
-    let n = freed::freed_keys(freed, s, alloc, needs, table);
-    write_changes(out, written, s, head.batch, &freed[..n], needs, table)
+    let n = discarded::discarded_keys(discarded, s, alloc, needs, table);
+    write_changes(out, written, s, head.batch, &discarded[..n], needs, table)
 }
 
 // The answer to a discard, with its table: little room is cleared where the alloc keys are few.
@@ -104,15 +104,15 @@ fn discard_tabled(
     out: &mut [u8],
     written: &mut usize,
 ) -> u32
-    requires { ⌜ Ready (now s) (now alloc) (now needs) head × Tabled (now s) (now needs) (now table) ⌝ }
+    requires { ⌜ DiscardGiven (now s) (now alloc) (now needs) head × WaitingTable (now s) (now needs) (now table) ⌝ }
     ensures { λ r. ⌜ made r (now (written .exit)) (now (out .exit)) ≡ outcome (answer [] (changeBytes (discardBatches (readVolume (now (s .entry))))) (length (now (out .entry)))) (now (out .entry)) ⌝ }
 {
     if alloc.len() <= 64 {
-        let mut freed = [0u32; 64];
-        return discard_into(&mut freed, s, head, alloc, needs, table, out, written);
+        let mut discarded = [0u32; 64];
+        return discard_into(&mut discarded, s, head, alloc, needs, table, out, written);
     }
-    let mut freed = [0u32; 4096];
-    discard_into(&mut freed, s, head, alloc, needs, table, out, written)
+    let mut discarded = [0u32; 4096];
+    discard_into(&mut discarded, s, head, alloc, needs, table, out, written)
 }
 
 // The answer to a discard, with a filled table.
@@ -124,7 +124,7 @@ fn discard_many(
     out: &mut [u8],
     written: &mut usize,
 ) -> u32
-    requires { ⌜ Ready (now s) (now alloc) (now needs) head ⌝ }
+    requires { ⌜ DiscardGiven (now s) (now alloc) (now needs) head ⌝ }
     ensures { λ r. ⌜ made r (now (written .exit)) (now (out .exit)) ≡ outcome (answer [] (changeBytes (discardBatches (readVolume (now (s .entry))))) (length (now (out .entry)))) (now (out .entry)) ⌝ }
 {
     let mut table = [0u16; 65536];
@@ -141,7 +141,7 @@ pub fn discard_lists(
     out: &mut [u8],
     written: &mut usize,
 ) -> u32
-    requires { ⌜ Ready (now s) (now alloc) (now needs) head ⌝ }
+    requires { ⌜ DiscardGiven (now s) (now alloc) (now needs) head ⌝ }
     ensures { λ r. ⌜ made r (now (written .exit)) (now (out .exit)) ≡ outcome (answer [] (changeBytes (discardBatches (readVolume (now (s .entry))))) (length (now (out .entry)))) (now (out .entry)) ⌝ }
 {
     if 64 < alloc.len() {

@@ -4,7 +4,9 @@ use mathlib.Core.List.{List}
 use Prim.Native.Nat.{ℕ, _/_, _≤_, _<_}
 use native.Mathlib.Omega.{arith}
 use lib.ListN.{length, getD}
-use borrow.Author.Tests.{eq-eqb, ne-eqb, lt-ltb, le-ltb}
+use mathlib.Core.Bool.{true}
+use Rattle.wire.specs.Kinds.{bucketInRange}
+use borrow.Author.Tests.{eq-eqb, ne-eqb, lt-ltb, le-ltb, ltb-true}
 use Rattle.wire.specs.Keys.{Key}
 use Rattle.wire.specs.Positions.{gensByte}
 use Rattle.wire.specs.declared.kinds.Bucket.{Bucket}
@@ -12,13 +14,13 @@ use Rattle.format.specs.Gens.{genIn}
 use Rattle.calls.specs.Lists.{fromOption}
 use Rattle.calls.specs.Generations.{found, noRecord, tooShort, genRecord, genLookup, orZero, isShort, genOf, genShort, GenFound}
 use Rattle.reader.specs.KeyHere.{keyHere, Whole}
-use Rattle.gens.specs.Records.{recordAt, Recorded, RecordsFound}
+use Rattle.gens.specs.Records.{recordAt, entryOf, Recorded, RecordsFound}
 
 -- where the entry of a bucket's record stands
-pub stands : {s table : List ℕ} → Recorded s table → (b : Bucket) → b .0 < 65536 → {at : ℕ} → at ≡ getD table (b .0 / 256) 0 → (at ≡ 0 → ⊥) → Whole s at
-stands {s} r b h e n = rw e (r .are .stand .whole (b .0 / 256) (omega arith) (λ z. n (e ∙ z)))
+pub stands : {s table : List ℕ} → Recorded s table → (b : Bucket) → bucketInRange b ≡ true → {at : ℕ} → at ≡ entryOf table b → (at ≡ 0 → ⊥) → Whole s at
+stands {s} r b h e n = rw e (r .are .stand .whole (b .0 / 256) (omega (arith, ltb-true (b .0) 65536 h)) (λ z. n (e ∙ z)))
 
-pub record-is : {s table : List ℕ} {gens : List Key} → RecordsFound s gens table → (b : Bucket) → b .0 < 65536 → {at : ℕ} → at ≡ getD table (b .0 / 256) 0 → recordAt s at ≡ genRecord gens b
+pub record-is : {s table : List ℕ} {gens : List Key} → RecordsFound s gens table → (b : Bucket) → bucketInRange b ≡ true → {at : ℕ} → at ≡ entryOf table b → recordAt s at ≡ genRecord gens b
 record-is {s} f b h e = ap (recordAt s) e ∙ f .is b h
 
 -- what it tells

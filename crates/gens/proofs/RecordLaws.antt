@@ -18,6 +18,7 @@ use Rattle.wire.proofs.OrderLaws.{pos-cmp, mk-eq}
 use Rattle.calls.specs.Trees.{onEq, lookup}
 use Rattle.calls.specs.Generations.{ofType30, genRecord}
 use Rattle.reader.specs.KeyHere.{keyHere, Whole}
+use Rattle.wire.specs.Kinds.{bucketInRange}
 use Rattle.gens.specs.Records.{noted, recordAt, RecordsFound}
 
 -- what the code stores, by its tests
@@ -52,7 +53,7 @@ noting-start s table e =
     let z : (o : ℕ) → o < 256 → getD table o 0 ≡ 0 = λ o h. ap (λ (t : List ℕ). getD t o 0) e ∙ getD-replicate {A = ℕ} 256 o 0 0 h in
     record {
       stand = record { count = ap length e ∙ length-replicate {A = ℕ} 256 0; whole = λ o h n. absurd (n (z o h)) };
-      is = λ b h. ap (recordAt s) (z (b .0 / 256) (omega arith));
+      is = λ b h. ap (recordAt s) (z (b .0 / 256) (omega (arith, ltb-true (b .0) 65536 h)));
     }
 
 -- a key that no bucket's record is
@@ -97,7 +98,7 @@ module _ (s : List ℕ) (at : ℕ) (w : Whole s at) (ks : List Key) (table : Lis
       go true h = w
       go false h = absurd (h refl)
 
-  kept : ((b : Bucket) → b .0 < 65536 → cmp (gensAt b) (k .pos) ≡ Ordering·eq → ⊥) → RecordsFound s (k ∷ ks) table
+  kept : ((b : Bucket) → bucketInRange b ≡ true → cmp (gensAt b) (k .pos) ≡ Ordering·eq → ⊥) → RecordsFound s (k ∷ ks) table
   kept h =
       record { stand = n .stand; is = λ b l. n .is b l ∙ record-same k ks b (h b l) }
 
@@ -127,7 +128,7 @@ module _ (s : List ℕ) (at : ℕ) (w : Whole s at) (ks : List Key) (table : Lis
           let q = getD-set-other table (k .pos .offset) j entry 0 (eqb-false j (k .pos .offset) e) in
           rw q (n .stand .whole j h (λ v. m (q ∙ v)))
 
-      of-bucket : (b : Bucket) → b .0 < 65536 → (t : Bool) → eqb (b .0 / 256) (k .pos .offset) ≡ t
+      of-bucket : (b : Bucket) → bucketInRange b ≡ true → (t : Bool) → eqb (b .0 / 256) (k .pos .offset) ≡ t
           → recordAt s (getD (set table (k .pos .offset) entry) (b .0 / 256) 0) ≡ genRecord (k ∷ ks) b
       of-bucket b h true e =
           let q = eqb-true (b .0 / 256) (k .pos .offset) e in
@@ -147,5 +148,5 @@ module _ (s : List ℕ) (at : ℕ) (w : Whole s at) (ks : List Key) (table : Lis
       go false f u g v h = kept (λ b l c. eqb-false (k .pos .inode) 0 f (sym (ap (λ (p : Bpos). p .inode) (pos-cmp .eq-path (gensAt b) (k .pos) c))))
       go true f false g v h = kept (λ b l c. eqb-false (k .pos .snapshot) 0 g (sym (ap (λ (p : Bpos). p .snapshot) (pos-cmp .eq-path (gensAt b) (k .pos) c))))
       go true f true g false h =
-          kept (λ b l c. omega (arith, ltb-false (k .pos .offset) 256 h, ap (λ (p : Bpos). p .offset) (pos-cmp .eq-path (gensAt b) (k .pos) c)))
+          kept (λ b l c. omega (arith, ltb-true (b .0) 65536 l, ltb-false (k .pos .offset) 256 h, ap (λ (p : Bpos). p .offset) (pos-cmp .eq-path (gensAt b) (k .pos) c)))
       go true f true g true h = stored (eqb-true (k .pos .inode) 0 f) (eqb-true (k .pos .snapshot) 0 g) (ltb-true (k .pos .offset) 256 h)

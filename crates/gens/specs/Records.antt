@@ -1,12 +1,13 @@
 -- The table of the generation records.
 use Prim.Native.Nat.{ℕ, _/_, _<_}
 use mathlib.Core.Path.{_≡_}
-use mathlib.Core.Bool.{_&&_, cond}
+use mathlib.Core.Bool.{true, _&&_, cond}
 use mathlib.Core.List.{List}
 use mathlib.Core.Option.{Option, none, some}
 use lib.Dec.{ltb, eqb}
 use lib.ListN.{length, getD, set}
 use Rattle.wire.specs.Keys.{Key}
+use Rattle.wire.specs.Kinds.{bucketInRange}
 use Rattle.wire.specs.declared.kinds.Bucket.{Bucket}
 use Rattle.calls.specs.Generations.{genRecord}
 use Rattle.reader.specs.KeyHere.{keyHere, Whole}
@@ -26,10 +27,14 @@ pub record RecordsStand (s table : List ℕ) : Type 0 where
   pub count : length table ≡ 256
   pub whole : (o : ℕ) → o < 256 → (getD table o 0 ≡ 0 → ⊥) → Whole s (getD table o 0)
 
+-- the entry of a bucket's record
+abbrev pub entryOf : List ℕ → Bucket → ℕ
+entryOf table b = getD table (b .0 / 256) 0
+
 -- the table finds the record that holds a bucket's generation
 pub record RecordsFound (s : List ℕ) (gens : List Key) (table : List ℕ) : Type 0 where
   pub stand : RecordsStand s table
-  pub is : (b : Bucket) → b .0 < 65536 → recordAt s (getD table (b .0 / 256) 0) ≡ genRecord gens b
+  pub is : (b : Bucket) → bucketInRange b ≡ true → recordAt s (entryOf table b) ≡ genRecord gens b
 
 -- it finds those of some tree
 pub record Recorded (s table : List ℕ) : Type 0 where

@@ -1,8 +1,10 @@
 // The generation of a bucket.
 ghost use mathlib.Core.Path.{_≡_};
+ghost use mathlib.Core.Bool.{true};
 ghost use mathlib.Core.List.{List};
 ghost use Prim.Native.Nat.{_<_};
 ghost use Rattle.wire.specs.Keys.{Key};
+ghost use Rattle.wire.specs.Kinds.{bucketInRange};
 ghost use Rattle.calls.specs.Generations.{genLookup, genOf, genShort};
 ghost use Rattle.gens.specs.Lookups.{lookupIs};
 ghost use Rattle.gens.specs.Records.{Recorded, RecordsFound};
@@ -24,7 +26,7 @@ pub enum Lookup {
 
 // Looks a bucket up. `find_records` makes the table, and the limits show the bound, here and below.
 pub fn find_gen(s: &[u8], table: &[u32], b: Bucket) -> Lookup
-    requires { ⌜ Recorded (now s) (now table) × (b .0 < 65536) ⌝ }
+    requires { ⌜ Recorded (now s) (now table) × (bucketInRange b ≡ true) ⌝ }
     ensures { λ r. ⌜ ((gens : List Key) → RecordsFound (now (s .entry)) gens (now (table .entry)) → lookupIs r ≡ genLookup gens b) ⌝ }
 {
     let at = records::record_of(table, b);
@@ -40,7 +42,7 @@ pub fn find_gen(s: &[u8], table: &[u32], b: Bucket) -> Lookup
 
 // Its generation, and 0 where none is found.
 pub fn bucket_gen(s: &[u8], table: &[u32], b: Bucket) -> u8
-    requires { ⌜ Recorded (now s) (now table) × (b .0 < 65536) ⌝ }
+    requires { ⌜ Recorded (now s) (now table) × (bucketInRange b ≡ true) ⌝ }
     ensures { λ r. ⌜ ((gens : List Key) → RecordsFound (now (s .entry)) gens (now (table .entry)) → r ≡ genOf gens b) ⌝ }
 {
     match find_gen(s, table, b) {
@@ -52,7 +54,7 @@ pub fn bucket_gen(s: &[u8], table: &[u32], b: Bucket) -> u8
 
 // Whether its record is too short.
 pub fn gen_short(s: &[u8], table: &[u32], b: Bucket) -> bool
-    requires { ⌜ Recorded (now s) (now table) × (b .0 < 65536) ⌝ }
+    requires { ⌜ Recorded (now s) (now table) × (bucketInRange b ≡ true) ⌝ }
     ensures { λ r. ⌜ ((gens : List Key) → RecordsFound (now (s .entry)) gens (now (table .entry)) → r ≡ genShort gens b) ⌝ }
 {
     match find_gen(s, table, b) {

@@ -1,10 +1,12 @@
 // The generation records: a table of where each stands.
 ghost use mathlib.Core.Path.{_≡_};
+ghost use mathlib.Core.Bool.{true};
 ghost use Prim.Native.Nat.{_/_, _<_};
-ghost use lib.ListN.{length, getD, replicate};
+ghost use lib.ListN.{length, replicate};
+ghost use Rattle.wire.specs.Kinds.{bucketInRange};
 ghost use Rattle.reader.specs.KeyHere.{Whole, keyHere, keysHere};
 ghost use Rattle.reader.specs.Located.{KeysAt};
-ghost use Rattle.gens.specs.Records.{noted, RecordsFound};
+ghost use Rattle.gens.specs.Records.{noted, entryOf, RecordsFound};
 use reader::key;
 use wire::kinds::Bucket;
 
@@ -45,8 +47,8 @@ pub fn find_records(s: &[u8], gens: &[u32], table: &mut [u32; 256])
 
 // The entry of a bucket's record. `find_records` makes the table, and the limits show the bound.
 pub fn record_of(table: &[u32], b: Bucket) -> usize
-    requires { ⌜ (length (now table) ≡ 256) × (b .0 < 65536) ⌝ }
-    ensures { λ r. ⌜ r ≡ getD (now (table .entry)) (b .0 / 256) 0 ⌝ }
+    requires { ⌜ (length (now table) ≡ 256) × (bucketInRange b ≡ true) ⌝ }
+    ensures { λ r. ⌜ r ≡ entryOf (now (table .entry)) b ⌝ }
 {
     let o = (b.0 / 256) as usize;
     table[o] as usize

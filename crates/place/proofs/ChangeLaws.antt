@@ -1,6 +1,6 @@
 -- Laws of the change list of a placement: its bytes in the order in which they are emitted. Assumes nothing.
 use mathlib.Core.Path.{_≡_, refl, sym, ap, _∙_}
-use mathlib.Core.Bool.{Bool, true, false, _&&_}
+use mathlib.Core.Bool.{_&&_}
 use mathlib.Core.List.{List, [], _∷_, _++_, map, flatMap, append-assoc, append-nil}
 use Prim.Native.Nat.{ℕ, zero, suc, _%_, _/_, _^_}
 use native.Mathlib.Omega.{arith}
@@ -8,7 +8,7 @@ use lib.ListN.{getD, replicate}
 use lib.Dec.{eqb}
 use borrow.Author.Tests.{eq-eqb, ne-eqb}
 use Rattle.wire.specs.Fields.{Field}
-use Rattle.wire.specs.Encode.{headBytes, encode, encodeField, keyField}
+use Rattle.wire.specs.Encode.{encode, encodeField, keyField}
 use Rattle.wire.specs.Rows.{rowField}
 use Rattle.calls.specs.Lists.{total}
 use Rattle.calls.specs.CallList as calls
@@ -20,15 +20,16 @@ use Rattle.calls.specs.Place.{rootMissing, rootsIf, dirtyIn, newAllocKey, spotA
 use Rattle.calls.specs.Answers.{readCall, readVolume}
 use Rattle.reader.specs.Heads.{headIn}
 use Rattle.reader.specs.declared.head.Head.{Head}
-use Rattle.placed.specs.Pieces.{bucketsIn}
-use Rattle.placed.specs.Plan.{Plan}
+use Rattle.change_fields.specs.FieldBytes.{rootsBytes}
+use Rattle.wire.specs.Kinds.{bucketsIn}
+use Rattle.place_keys.specs.Plan.{Plan}
 use Rattle.place.specs.Change.{placement, keyFields, otherFields}
-use Rattle.tally.specs.Tally.{talliesOf}
-use Rattle.tally.specs.declared.tally.Tally.{Tally}
-use Rattle.tally.specs.declared.tally.Tallies.{Tallies}
+use Rattle.accounting.specs.Tally.{talliesOf}
+use Rattle.accounting.specs.declared.tally.Tally.{Tally}
+use Rattle.accounting.specs.declared.tally.Tallies.{Tallies}
 use Rattle.wire.proofs.EncodeLaws.{encode-append, encode-next, encode-none}
-use Rattle.placed.proofs.StepLaws.{bucket-sectors}
-use Rattle.tally.proofs.RowLaws.{all-tally, placed-pieces}
+use Rattle.place_keys.proofs.StepLaws.{bucket-sectors}
+use Rattle.accounting.proofs.PlaceRowLaws.{all-tally, placed-pieces}
 
 nine : (a b c d e f g h i : List Field) → a ++ b ++ c ++ d ++ e ++ f ++ g ++ h ++ i ++ [] ≡ (a ++ b) ++ (c ++ d ++ e ++ f ++ g ++ h ++ i)
 nine a b c d e f g h i = simp (append-assoc, append-nil)
@@ -84,29 +85,16 @@ module _ {s offsets numbers generations : List ℕ} {h : Head} (plan : Plan s of
       (map rowField (placeRows (readVolume s .head) (walkOf (readCall s) .taken) ps (map (extentKey (readVolume s .head)) ps)))
       (sectorsField (total (λ p. p .piece .file) ps)) endField)
 
--- the end of a batch
-pub end-bytes : headBytes 76 0 ≡ encodeField endField
-unfolding encodeField
-end-bytes = sym (append-nil (headBytes 76 0))
-
 -- the root
 
 pub root-full : (sectors stored roots : ℕ) → stored % sectors ≡ 0 → rootsIf (lruWanted sectors stored && rootMissing roots 0) 10 ≡ []
 unfolding lruWanted
 root-full sectors stored roots e = simp (eq-eqb (stored % sectors) 0 e)
 
-pub root-there : (sectors stored roots : ℕ) → (roots % 2 ≡ 0 → ⊥) → rootsIf (lruWanted sectors stored && rootMissing roots 0) 10 ≡ []
-unfolding rootMissing
-root-there sectors stored roots h = go (lruWanted sectors stored) (eqb (roots / 2 ^ 0 % 2) 0) (ne-eqb (roots / 2 ^ 0 % 2) 0 (λ e. h (omega arith)))
-  where
-    go : (a b : Bool) → b ≡ false → rootsIf (a && b) 10 ≡ []
-    go true b e = rw e
-    go false b e = refl
-
-pub root-made : (sectors stored roots : ℕ) → (stored % sectors ≡ 0 → ⊥) → roots % 2 ≡ 0
-    → rootsIf (lruWanted sectors stored && rootMissing roots 0) 10 ≡ 10 ∷ []
+pub root-wanted : (sectors stored roots : ℕ) → (stored % sectors ≡ 0 → ⊥)
+    → rootsBytes (rootsIf (eqb (roots % 2) 0) 10) ≡ rootsBytes (rootsIf (lruWanted sectors stored && rootMissing roots 0) 10)
 unfolding lruWanted rootMissing
-root-made sectors stored roots h e = simp (ne-eqb (stored % sectors) 0 h, eq-eqb (roots / 2 ^ 0 % 2) 0 (omega arith))
+root-wanted sectors stored roots h = let e : roots / 2 ^ 0 ≡ roots = omega arith in rw (ne-eqb (stored % sectors) 0 h, e)
 
 -- counts that are 0
 pub zero-at : (n k : ℕ) → _≡_ {A = ℕ} (getD (replicate n 0) k 0) 0

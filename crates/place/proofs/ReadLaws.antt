@@ -2,7 +2,7 @@
 use mathlib.Core.Path.{_≡_, ap, sym, _∙_}
 use mathlib.Core.Bool.{true}
 use mathlib.Core.List.{List, [], _∷_}
-use Prim.Native.Nat.{ℕ, _+_, _-_, _≤_, _<_}
+use Prim.Native.Nat.{ℕ, _-_, _<_}
 use native.Mathlib.Omega.{arith}
 use lib.Dec.{leb}
 use lib.ListN.{length, take, drop, length-take}
@@ -22,8 +22,8 @@ use Rattle.reader.specs.Readings.{callRefusal, ListRead}
 use Rattle.reader.specs.declared.head.Head.{Head}
 use Rattle.reader.specs.declared.table.Ends.{Ends}
 use Rattle.reader.proofs.PartsLaws.{passed, read-on, read-refused, between, Part, alloc-part, freespace-part, gens-part, reserved-part, pieces-part}
-use Rattle.choose.proofs.CheckedLaws.{checked}
-use Rattle.place.specs.Called.{Called}
+use Rattle.place_tests.specs.Called.{Called}
+use Rattle.reader.proofs.CheckedLaws.{checked}
 use Rattle.place.specs.Change.{placement}
 
 -- refusal 3 shows the base's bound

@@ -1,3 +1,2 @@
-pub mod Called
 pub mod Change
-pub mod Choice
+pub mod Planned

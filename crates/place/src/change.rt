@@ -6,24 +6,27 @@ ghost use mathlib.Core.List.{[], _∷_, map};
 ghost use Rattle.wire.specs.Encode.{encode, encodeField};
 ghost use Rattle.calls.specs.Clock.{clockOf};
 ghost use Rattle.calls.specs.Lru.{lruWanted};
-ghost use Rattle.calls.specs.ChangeList.{rootField, takenField, sectorsField, changeBytes};
+ghost use Rattle.calls.specs.ChangeList.{takenField, sectorsField, changeBytes};
 ghost use Rattle.calls.specs.Place.{rootMissing, rootsIf};
 ghost use Rattle.calls.specs.Answers.{readVolume};
-ghost use Rattle.placed.specs.Pieces.{bucketsIn};
-ghost use Rattle.placed.specs.Plan.{Plan};
-ghost use Rattle.placed.specs.Queue.{Walk};
+ghost use Rattle.change_fields.specs.FieldBytes.{rootsBytes};
+ghost use Rattle.wire.specs.Kinds.{bucketsIn};
+ghost use Rattle.place_keys.specs.Plan.{Plan};
+ghost use Rattle.place_keys.specs.Queue.{Walk};
 ghost use Rattle.wire.specs.Output.{Emitted};
 ghost use Rattle.place.specs.Change.{placement, keyFields, otherFields};
-use placed::allocs;
-use placed::backpointers;
-use placed::dirty;
-use placed::extents;
-use placed::lru;
-use placed::queue;
-use placed::spots;
+use accounting::place_rows;
+use accounting::tally as tallies;
+use change_fields::end;
+use change_fields::roots as root_fields;
+use place_keys::allocs;
+use place_keys::backpointers;
+use place_keys::dirty;
+use place_keys::extents;
+use place_keys::lru;
+use place_keys::queue;
+use place_keys::spots;
 use reader::head::Head;
-use tally::rows;
-use tally::tally as tallies;
 use wire::emit;
 use wire::kinds::Bucket;
 
@@ -56,18 +59,14 @@ pub fn put_keys(
 }
 
 // Field 70: the LRU root, where it is wanted and does not exist. Refusal 4 shows that a bucket has sectors.
-pub fn put_root(out: &mut [u8], at: usize, sectors: u64, stored: u64, roots: u8) -> usize
+pub fn put_lru_root(out: &mut [u8], at: usize, sectors: u64, stored: u64, roots: u8) -> usize
     requires { ⌜ 0 < sectors ⌝ }
-    ensures { λ r. ⌜ Emitted (now (out .entry)) at (encode (map rootField (rootsIf (lruWanted sectors stored && rootMissing roots 0) 10))) (now (out .exit)) r ⌝ }
+    ensures { λ r. ⌜ Emitted (now (out .entry)) at (rootsBytes (rootsIf (lruWanted sectors stored && rootMissing roots 0) 10)) (now (out .exit)) r ⌝ }
 {
     if stored % sectors == 0 {
         return at;
     }
-    if roots % 2 != 0 {
-        return at;
-    }
-    let p = emit::put_head(out, at, 70, 1);
-    emit::put_le(out, p, 1, 10)
+    root_fields::put_root(out, at, roots % 2 == 0, 10)
 }
 
 // Fields 71: the buckets taken.
@@ -106,12 +105,12 @@ pub fn put_others(
 {
     let t = tallies::tally_pieces(s, pieces);
     let all = t.all;
-    let p = put_root(out, at, h.bucket_sectors as u64, all.stored, h.roots);
+    let p = put_lru_root(out, at, h.bucket_sectors as u64, all.stored, h.roots);
     let p = put_taken(out, p, taken);
     let p = spots::put_spots(out, p, s, pieces, taken, gens, h);
-    let p = rows::put_rows(out, p, taken.len() as u64, t, h);
+    let p = place_rows::put_rows(out, p, taken.len() as u64, t, h);
     let p = put_sectors(out, p, all.file);
-    emit::put_head(out, p, 76, 0)
+    end::put_end(out, p)
 }
 
 // The whole change list of a placement, one batch.

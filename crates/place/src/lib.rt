@@ -1,4 +1,3 @@
-// Place: the call, the buckets it takes, and the change list that it writes.
+// Place: the call, and the change list that it writes.
 pub mod change;
-pub mod choice;
 pub mod place;

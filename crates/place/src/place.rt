@@ -10,17 +10,16 @@ ghost use Rattle.calls.specs.Place.{placeTests};
 ghost use Rattle.reader.specs.Located.{KeysAt};
 ghost use Rattle.reader.specs.Readings.{callRefusal, ListRead};
 ghost use Rattle.reader.specs.Table.{Fits};
-ghost use Rattle.place.specs.Called.{Called};
+ghost use Rattle.place_tests.specs.Called.{Called};
 ghost use Rattle.place.specs.Change.{placement};
-ghost use Rattle.place.specs.Choice.{PlanFor};
-ghost use Rattle.placed.specs.Plan.{Plan};
-ghost use Rattle.placed.specs.Queue.{Walk};
+ghost use Rattle.place.specs.Planned.{PlanFor};
+ghost use Rattle.place_keys.specs.Plan.{Plan};
+ghost use Rattle.place_keys.specs.Queue.{Walk};
 use crate::change;
-use crate::choice;
-use choose::clock;
-use choose::take::Taken;
 use gens::records;
-use placed::generations;
+use place_keys::clock;
+use place_keys::generations;
+use place_tests::refusals;
 use reader::call;
 use reader::call::Reading;
 use reader::head::Head;
@@ -120,26 +119,24 @@ fn place_lists(
     ensures { λ r. ⌜ made r (now (written .exit)) (now (out .exit)) ≡ outcome (answer (placeTests (readCall (now (s .entry)))) (changeBytes (placement (now (s .entry)) ∷ [])) (length (now (out .entry)))) (now (out .entry)) ⌝ }
 {
     let mut taken = [0u64; 1024];
-    match choice::choose_buckets(s, h, alloc, runs, reserved, pieces, &mut taken) {
-        Taken::Refused(number) => number,
-        Taken::Took {
-            count,
-            passed,
-            left,
-        } => place_buckets(
-            s,
-            h,
-            alloc,
-            runs,
-            gens,
-            pieces,
-            &taken[..count],
-            passed,
-            left,
-            out,
-            written,
-        ),
+    let w = refusals::choose_buckets(s, h, alloc, runs, reserved, pieces, &mut taken);
+    if w.refusal != 0 {
+        return w.refusal;
     }
+    let n = w.count;
+    place_buckets(
+        s,
+        h,
+        alloc,
+        runs,
+        gens,
+        pieces,
+        &taken[..n],
+        w.passed,
+        w.left,
+        out,
+        written,
+    )
 }
 
 // The answer to a list that was read: its parts by their places. `read_call` shows what is required.

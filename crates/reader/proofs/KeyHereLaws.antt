@@ -1,5 +1,5 @@
 -- A key at a place of a list: each part at its own place, and the keys at the places that the reader gives.
-use mathlib.Core.Path.{_≡_, refl, ap, sym, _∙_}
+use mathlib.Core.Path.{_≡_, refl, ap, sym, _∙_, subst}
 use mathlib.Core.List.{List, [], _∷_}
 use Prim.Native.Nat.{ℕ, suc, _+_, _-_, _≤_, _<_}
 use native.Mathlib.Omega.{arith}
@@ -70,3 +70,7 @@ keys-here {places = at ∷ places} {ks = k ∷ ks} q =
     let e = q .at 0 (omega arith) .is in
     let r = keys-here (keys-tail q) in
     λ i. sym e i ∷ r i
+
+-- so that the places find those at them
+pub keyed : {s places : List ℕ} {ks : List Key} → KeysAt s places ks → KeysAt s places (keysHere s places)
+keyed {s} {places} q = subst (λ (l : List Key). KeysAt s places l) (keys-here q) q

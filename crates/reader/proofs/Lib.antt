@@ -18,3 +18,6 @@ pub mod SlotLaws
 pub mod TableLaws
 pub mod VolumeLaws
 pub mod PartsLaws
+pub mod AllLaws
+pub mod NextLaws
+pub mod CheckedLaws

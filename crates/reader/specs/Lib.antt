@@ -6,3 +6,4 @@ pub mod Readings
 pub mod KeyHere
 pub mod Located
 pub mod Pieces
+pub mod Checked

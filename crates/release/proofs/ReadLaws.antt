@@ -7,7 +7,7 @@ use native.Mathlib.Omega.{arith}
 use lib.ListN.{length, getD, take, drop, replicate, length-append, length-take, length-drop, length-replicate, List·getD-append}
 use lib.Seq.{drop-at}
 use lib.Dec.{eqb}
-use borrow.Author.Tests.{le-leb, lt-leb, lt-ltb, le-ltb}
+use borrow.Author.Tests.{le-leb, lt-leb, lt-ltb, le-ltb, ltb-true}
 use Rattle.wire.specs.Fields.{fields, whole}
 use Rattle.wire.specs.Keys.{Key}
 use Rattle.wire.specs.Kinds.{bucketBelow}
@@ -29,11 +29,11 @@ use Rattle.reader.specs.Located.{KeysAt, FreedAt, noFreed, FreedsAt}
 use Rattle.reader.specs.Readings.{callRefusal, ListRead}
 use Rattle.reader.specs.declared.head.Head.{Head}
 use Rattle.reader.specs.declared.table.Ends.{Ends}
-use Rattle.reader.proofs.KeyHereLaws.{keys-here}
+use Rattle.reader.proofs.KeyHereLaws.{keyed, keys-here}
 use Rattle.reader.proofs.PartsLaws.{passed, read-on, read-refused, between, Part, alloc-part, gens-part, freeds-part}
-use Rattle.freed.specs.Freeds.{freedsIn, Requested}
-use Rattle.freed.specs.Summing.{Cleared}
-use Rattle.shares.specs.Places.{Keyed}
+use Rattle.release_sums.specs.Freeds.{freedsIn, Requested}
+use Rattle.release_sums.specs.Summing.{Cleared}
+use Rattle.release_keys.specs.Places.{Keyed}
 use Rattle.release.specs.Outcomes.{volumeOf}
 use Rattle.release.proofs.TopLaws.{zeros-at}
 
@@ -45,13 +45,9 @@ freeds-map s [] (r ∷ rs) e h = absurd (omega arith)
 freeds-map s (o ∷ os) [] e h = absurd (omega arith)
 freeds-map s (o ∷ os) (r ∷ rs) e h = λ x. h 0 (omega arith) .is x ∷ freeds-map s os rs (omega arith) (λ i l. h (suc i) (omega arith)) x
 
-module _ {s os : List ℕ} {ks : List Key} (q : KeysAt s os ks) where
-  keyed : Keyed s os
-  keyed = subst (λ (l : List Key). KeysAt s os l) (keys-here q) q
-
-  -- keys that ascend
-  pub keyed-ok : keysOk ks ≡ true → Keyed s os × (keysOk (keysHere s os) ≡ true)
-  keyed-ok h = (keyed, ap keysOk (sym (keys-here q)) ∙ h)
+-- keys that ascend
+pub keyed-ok : {s os : List ℕ} {ks : List Key} → KeysAt s os ks → keysOk ks ≡ true → Keyed s os × (keysOk (keysHere s os) ≡ true)
+keyed-ok q h = (keyed q, ap keysOk (sym (keys-here q)) ∙ h)
 
 module _ {s os : List ℕ} {rs : List Freed} (q : FreedsAt s os rs) where
   freeds-found : freedsIn s os ≡ rs
@@ -151,7 +147,7 @@ module _ (l m : List ℕ) (h : 65536 ≤ length l) (e : m ≡ replicate 65536 0 
   cleared-length = ap length e ∙ front-length 65536 l h
 
   pub cleared : Cleared m
-  cleared = record { long = omega (arith, cleared-length); zero = λ b k. ap (λ (x : List ℕ). getD x b 0) e ∙ front-zero 65536 (drop 65536 l) b k }
+  cleared = record { long = omega (arith, cleared-length); zero = λ b k. ap (λ (x : List ℕ). getD x (b .0) 0) e ∙ front-zero 65536 (drop 65536 l) (b .0) (ltb-true (b .0) 65536 k) }
 
   pub cleared-after : scratchAfter m ≡ scratchAfter l
   cleared-after =

@@ -5,8 +5,8 @@ use mathlib.Core.List.{List, [], _∷_, _++_, map}
 use Prim.Native.Nat.{ℕ, zero, suc, _+_, _≤_, _<_}
 use native.Mathlib.Omega.{arith}
 use lib.ListN.{length, getD, take, drop, replicate, length-map}
-use borrow.Author.Tests.{eq-eqb, ne-eqb}
-use Rattle.wire.specs.Kinds.{bucketBelow}
+use borrow.Author.Tests.{eq-eqb, ne-eqb, lt-ltb}
+use Rattle.wire.specs.Kinds.{bucketBelow, bucketsIn}
 use Rattle.wire.specs.declared.kinds.Bucket.{Bucket}
 use Rattle.calls.specs.Answers.{Answer, answer, made, outcome}
 use Rattle.calls.specs.CallList.{Head, Volume, Freed}
@@ -19,76 +19,71 @@ use Rattle.calls.proofs.OutcomeLaws.{answer-next, answer-stops, refused}
 use Rattle.calls.proofs.ReleaseFits.{named-few}
 use Rattle.calls.proofs.ReleaseLaws.{named-range}
 use Rattle.calls.proofs.View.{bucket}
-use Rattle.freed.specs.Freeds.{freedsIn, Requested}
-use Rattle.freed.specs.Summing.{Cleared, Listed}
-use Rattle.freed.proofs.FoundLaws.{freed-up}
-use Rattle.shares.specs.Buckets.{bucketsIn}
-use Rattle.shares.specs.Tables.{PlacesOf, Tabled, Passed}
-use Rattle.shares.proofs.QueueLaws.{age-at}
-use Rattle.release.specs.Outcomes.{Summed, Laid, Drafted, bucketTests}
+use Rattle.release_sums.specs.Freeds.{freedsIn, Requested}
+use Rattle.release_sums.specs.Summing.{Cleared, BucketsListed}
+use Rattle.release_sums.proofs.FoundLaws.{freed-up}
+use Rattle.release_keys.specs.Tables.{PlacesOf, FreedTables, Unrefused}
+use Rattle.release_keys.proofs.FreedBucketLaws.{bucket-at, buckets-length}
+use Rattle.release_keys.proofs.GenRecordLaws.{generation-at}
+use Rattle.release.specs.Outcomes.{Summed, VolumeTables, BatchTables, bucketTests}
 use Rattle.release.proofs.BatchLaws.{in-at}
 
--- numbers of buckets, and the buckets again
-pub buckets-back : (bs : List Bucket) → bucketsIn (map (λ (b : Bucket). b .0) bs) ≡ bs
-buckets-back [] = refl
-buckets-back (b ∷ bs) = ap (λ (l : List Bucket). b ∷ l) (buckets-back bs)
-
 -- ---- the freed buckets, listed
-pub summed-made : {s : List ℕ} {sectors : ℕ} {requests buckets amounts : List ℕ} {n : ℕ} → Requested s requests → length requests ≤ 1024 → 0 < sectors
+pub summed-made : {s : List ℕ} {sectors : ℕ} {requests buckets freed : List ℕ} {n : ℕ} → Requested s requests → length requests ≤ 1024 → 0 < sectors
     → allOf (freedOk sectors) (freedsIn s requests) ≡ true
-    → Listed (freedBuckets sectors (freedsIn s requests)) (freedIn sectors (freedsIn s requests)) buckets amounts n
-    → Summed s sectors requests (take n buckets) (take n amounts)
+    → BucketsListed (freedBuckets sectors (freedsIn s requests)) (freedIn sectors (freedsIn s requests)) buckets freed n
+    → Summed s sectors requests (take n buckets) (take n freed)
 summed-made {s} {sectors} {requests} q f h ok l =
     record {
       requested = q;
       few = f;
       some-sectors = h;
       checked = ok;
-      named = ap bucketsIn (l .named) ∙ buckets-back (freedBuckets sectors (freedsIn s requests));
-      sums = l .summed;
+      named = l .named;
+      sums = l .valued;
     }
 
-module _ {s : List ℕ} {sectors : ℕ} {requests buckets amounts : List ℕ} (m : Summed s sectors requests buckets amounts) where
+module _ {s : List ℕ} {sectors : ℕ} {requests buckets freed : List ℕ} (m : Summed s sectors requests buckets freed) where
   abbrev pieces : List Freed
   pieces = freedsIn s requests
 
   pub summed-few : length buckets ≤ 1024
   summed-few =
-      omega (arith, length-map buckets bucket, ap length (m .named), named-few sectors pieces, m .requested .count, m .few)
+      omega (arith, buckets-length buckets, ap length (m .named), named-few sectors pieces, m .requested .count, m .few)
 
   pub summed-up : inOrder bucketBelow (bucketsIn buckets) ≡ true
   summed-up = rw (m .named) (up-order 0 (freedBuckets sectors pieces) (freed-up sectors pieces))
 
   -- the tables
-  pub tables-made : {places : List ℕ} (v : Volume) → v .head .bucketSectors ≡ sectors → PlacesOf s buckets places (v .trees .alloc) → Tabled s v pieces buckets amounts places
+  pub tables-made : {places : List ℕ} (v : Volume) → v .head .bucketSectors ≡ sectors → PlacesOf s buckets places (v .trees .alloc) → FreedTables s v pieces buckets freed places
   tables-made v e p =
-      let a : amounts ≡ map (freedIn sectors pieces) (bucketsIn buckets) = m .sums ∙ ap (map (freedIn sectors pieces)) (sym (m .named)) in
+      let a : freed ≡ map (freedIn sectors pieces) (bucketsIn buckets) = m .sums ∙ ap (map (freedIn sectors pieces)) (sym (m .named)) in
       record {
         named = m .named ∙ ap (λ (n : ℕ). freedBuckets n pieces) (sym e);
-        sums = ap length a ∙ length-map (bucketsIn buckets) (freedIn sectors pieces) ∙ length-map buckets bucket;
+        sums = ap length a ∙ length-map (bucketsIn buckets) (freedIn sectors pieces) ∙ buckets-length buckets;
         keys = p .count;
         at = λ i h.
-            record {
-              low = named-range sectors pieces (m .checked) (bucket (getD buckets i 0)) (ap (λ (l : List Bucket). isIn l (bucket (getD buckets i 0))) (sym (m .named)) ∙ in-at buckets i h);
-              freed = age-at amounts buckets (freedIn sectors pieces) i h a ∙ ap (λ (n : ℕ). freedIn n pieces (bucket (getD buckets i 0))) (sym e);
-              key = p .at i h;
-            };
+            rw (bucket-at buckets i)
+            (record {
+              low = lt-ltb (getD buckets i 0) 65536 (named-range sectors pieces (m .checked) (bucket (getD buckets i 0)) (ap (λ (l : List Bucket). isIn l (bucket (getD buckets i 0))) (sym (m .named)) ∙ in-at buckets i h));
+              freed = generation-at freed buckets (freedIn sectors pieces) i h a ∙ ap (λ (n : ℕ). freedIn n pieces (bucket (getD buckets i 0))) (sym e);
+              key = rw (bucket-at buckets i) at (p .at i h);
+            });
       }
 
 -- ---- refusals 15 to 19, and what follows
-module _ {s : List ℕ} {h : Head} {requests buckets amounts places records : List ℕ} (d : Laid s h requests buckets amounts places records) {r : ℕ}
+module _ {s : List ℕ} {h : Head} {requests buckets freed places records : List ℕ} (d : VolumeTables s h requests buckets freed places records) {r : ℕ}
     (e : r ≡ verdict (map (bucketRefusal (d .volume) (freedsIn s requests)) (freedBuckets (h .bucketSectors) (freedsIn s requests)))) where
   pub same : verdict (map (bucketRefusal (d .volume) (freedsIn s requests)) (freedBuckets (d .volume .head .bucketSectors) (freedsIn s requests))) ≡ r
   same = ap (λ (x : Head). verdict (map (bucketRefusal (d .volume) (freedsIn s requests)) (freedBuckets (x .bucketSectors) (freedsIn s requests)))) (d .head) ∙ sym e
 
-  pub laid-pass : r ≡ 0 → Passed s buckets amounts places
-  laid-pass z = record { volume = d .volume; requests = freedsIn s requests; tabled = d .tabled; passed = same ∙ z }
+  pub volume-pass : r ≡ 0 → Unrefused s buckets freed places
+  volume-pass z = record { volume = d .volume; requests = freedsIn s requests; tabled = d .tabled; none-refuses = same ∙ z }
 
-  abbrev pub laid-draft : {gone ages : List ℕ} {m : ℕ} → r ≡ 0 → Listed (those (isEmptied (d .volume) (freedsIn s requests)) (bucketsIn buckets)) (emptiedGen (d .volume .trees)) gone ages m
-      → Drafted s h requests buckets amounts places records (take m gone) (take m ages)
-  laid-draft {gone} {ages} {m} z l =
-      let b = ap bucketsIn (l .named) ∙ buckets-back (those (isEmptied (d .volume) (freedsIn s requests)) (bucketsIn buckets)) in
-      record { laid = d; passed = same ∙ z; emptied = b; aged = l .summed ∙ ap (map (emptiedGen (d .volume .trees))) (sym b) }
+  abbrev pub batch-tables : {emptied generations : List ℕ} {m : ℕ} → r ≡ 0 → BucketsListed (those (isEmptied (d .volume) (freedsIn s requests)) (bucketsIn buckets)) (emptiedGen (d .volume .trees)) emptied generations m
+      → BatchTables s h requests buckets freed places records (take m emptied) (take m generations)
+  batch-tables {emptied} {generations} {m} z l =
+      record { tables = d; none-refuses = same ∙ z; chosen = l .named; generations-are = l .valued ∙ ap (map (emptiedGen (d .volume .trees))) (sym (l .named)) }
 
   pub tables-stop : (bytes : List ℕ) (room : ℕ) (out : List ℕ) {written : ℕ} → (r ≡ 0 → ⊥) → written ≡ 0
       → made r written out ≡ outcome (answer (bucketTests (d .volume) (freedsIn s requests)) bytes room) out
@@ -140,4 +135,4 @@ zeros-first (suc n) (x ∷ l) h z = λ k. z 0 (omega arith) k ∷ zeros-first n 
 
 -- a scratch that is cleared already
 pub cleared-is : (sums : List ℕ) → Cleared sums → sums ≡ replicate 65536 0 ++ drop 65536 sums
-cleared-is sums c = zeros-first 65536 sums (c .long) (c .zero)
+cleared-is sums c = zeros-first 65536 sums (c .long) (λ b h. c .zero (bucket b) (lt-ltb b 65536 h))

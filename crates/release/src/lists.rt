@@ -13,23 +13,26 @@ ghost use Rattle.calls.specs.Lists.{allOf};
 ghost use Rattle.calls.specs.Release.{freedOk, freedBuckets, freedIn, releaseTests, releaseBatch};
 ghost use Rattle.reader.specs.KeyHere.{keysHere};
 ghost use Rattle.reader.specs.Heads.{headIn};
-ghost use Rattle.freed.specs.Freeds.{freedsIn, Requested};
-ghost use Rattle.freed.specs.Summing.{Cleared, Listed};
-ghost use Rattle.shares.specs.Places.{Keyed};
-ghost use Rattle.release.specs.Outcomes.{volumeOf, Summed, Laid, Drafted, bucketTests};
-use freed::requests;
-use freed::sums;
+ghost use Rattle.release_sums.specs.Freeds.{freedsIn, Requested};
+ghost use Rattle.release_sums.specs.Summing.{Cleared, BucketsListed};
+ghost use Rattle.release_keys.specs.Places.{Keyed};
+ghost use Rattle.release.specs.Outcomes.{volumeOf, Summed, VolumeTables, BatchTables, bucketTests};
+use accounting::release_rows;
+use change_fields::end;
 use gens::records;
 use reader::head::Head;
-use shares::alloc_keys;
-use shares::allocs;
-use shares::bare;
-use shares::counts;
-use shares::lru_keys;
-use shares::queued;
-use shares::refusals;
-use shares::roots;
-use shares::user_rows;
+use release_keys::alloc_keys;
+use release_keys::allocs;
+use release_keys::backpointers;
+use release_keys::counts;
+use release_keys::freed_buckets;
+use release_keys::gen_records;
+use release_keys::lru_keys;
+use release_keys::need_discards;
+use release_keys::refusals;
+use release_keys::roots;
+use release_sums::requests;
+use release_sums::sums;
 
 // The one batch of a release. The refusals and the tables show what is required, here and below.
 fn free_and_cut(
@@ -37,28 +40,28 @@ fn free_and_cut(
     h: Head,
     requests: &[u32],
     buckets: &[u32],
-    sums: &[u32],
+    freed: &[u32],
     places: &[u32],
     records: &[u32],
-    gone: &[u32],
-    ages: &[u8],
+    emptied: &[u32],
+    generations: &[u8],
     out: &mut [u8],
     at: usize,
 ) -> usize
-    requires { ⌜ Drafted (now s) (headIn h) (now requests) (now buckets) (now sums) (now places) (now records) (now gone) (now ages) ⌝ }
-    ensures { λ r. ⌜ ((d : Drafted (now (s .entry)) (headIn h) (now (requests .entry)) (now (buckets .entry)) (now (sums .entry)) (now (places .entry)) (now (records .entry)) (now (gone .entry)) (now (ages .entry))) → Emitted (now (out .entry)) at (encode (batchFields (releaseBatch (d .laid .volume) (freedsIn (now (s .entry)) (now (requests .entry)))))) (now (out .exit)) r) ⌝ }
+    requires { ⌜ BatchTables (now s) (headIn h) (now requests) (now buckets) (now freed) (now places) (now records) (now emptied) (now generations) ⌝ }
+    ensures { λ r. ⌜ ((d : BatchTables (now (s .entry)) (headIn h) (now (requests .entry)) (now (buckets .entry)) (now (freed .entry)) (now (places .entry)) (now (records .entry)) (now (emptied .entry)) (now (generations .entry))) → Emitted (now (out .entry)) at (encode (batchFields (releaseBatch (d .tables .volume) (freedsIn (now (s .entry)) (now (requests .entry)))))) (now (out .exit)) r) ⌝ }
 {
     let sectors = h.bucket_sectors as u64;
     let total = counts::total_freed(s, requests);
-    let u = counts::unused_in(s, sectors, buckets, sums, places);
-    let p = alloc_keys::put_allocs(s, h.journal, buckets, sums, places, out, at);
-    let p = lru_keys::put_lrus(s, sectors, buckets, sums, places, out, p);
-    let p = bare::put_need_discards(h.journal, gone, out, p);
-    let p = bare::put_backpointers(s, requests, out, p);
-    let p = queued::put_gens(s, records, gone, ages, out, p);
-    let p = roots::put_roots(gone.len(), h.roots, out, p);
-    let p = user_rows::put_rows(gone.len() as u64, total, u.kept, u.lost, out, p);
-    roots::put_end(out, p)
+    let u = counts::unused_in(s, sectors, buckets, freed, places);
+    let p = alloc_keys::put_allocs(s, h.journal, buckets, freed, places, out, at);
+    let p = lru_keys::put_lrus(s, sectors, buckets, freed, places, out, p);
+    let p = need_discards::put_need_discards(h.journal, emptied, out, p);
+    let p = backpointers::put_backpointers(s, requests, out, p);
+    let p = gen_records::put_gens(s, records, emptied, generations, out, p);
+    let p = roots::put_roots(emptied.len(), h.roots, out, p);
+    let p = release_rows::put_rows(out, p, emptied.len() as u64, total, u.kept, u.lost);
+    end::put_end(out, p)
 }
 
 // How long it is: a run into one byte tells it.
@@ -67,14 +70,14 @@ fn change_length(
     h: Head,
     requests: &[u32],
     buckets: &[u32],
-    sums: &[u32],
+    freed: &[u32],
     places: &[u32],
     records: &[u32],
-    gone: &[u32],
-    ages: &[u8],
+    emptied: &[u32],
+    generations: &[u8],
 ) -> usize
-    requires { ⌜ Drafted (now s) (headIn h) (now requests) (now buckets) (now sums) (now places) (now records) (now gone) (now ages) ⌝ }
-    ensures { λ r. ⌜ ((d : Drafted (now (s .entry)) (headIn h) (now (requests .entry)) (now (buckets .entry)) (now (sums .entry)) (now (places .entry)) (now (records .entry)) (now (gone .entry)) (now (ages .entry))) → min r top ≡ min (length (encode (batchFields (releaseBatch (d .laid .volume) (freedsIn (now (s .entry)) (now (requests .entry))))))) top) ⌝ }
+    requires { ⌜ BatchTables (now s) (headIn h) (now requests) (now buckets) (now freed) (now places) (now records) (now emptied) (now generations) ⌝ }
+    ensures { λ r. ⌜ ((d : BatchTables (now (s .entry)) (headIn h) (now (requests .entry)) (now (buckets .entry)) (now (freed .entry)) (now (places .entry)) (now (records .entry)) (now (emptied .entry)) (now (generations .entry))) → min r top ≡ min (length (encode (batchFields (releaseBatch (d .tables .volume) (freedsIn (now (s .entry)) (now (requests .entry))))))) top) ⌝ }
 {
     let mut one = [0u8; 1];
     free_and_cut(
@@ -82,11 +85,11 @@ fn change_length(
         h,
         requests,
         buckets,
-        sums,
+        freed,
         places,
         records,
-        gone,
-        ages,
+        emptied,
+        generations,
         &mut one,
         0,
     )
@@ -98,18 +101,28 @@ fn write_change(
     h: Head,
     requests: &[u32],
     buckets: &[u32],
-    sums: &[u32],
+    freed: &[u32],
     places: &[u32],
     records: &[u32],
-    gone: &[u32],
-    ages: &[u8],
+    emptied: &[u32],
+    generations: &[u8],
     out: &mut [u8],
     written: &mut usize,
 ) -> u32
-    requires { ⌜ Drafted (now s) (headIn h) (now requests) (now buckets) (now sums) (now places) (now records) (now gone) (now ages) × (now written ≡ 0) ⌝ }
-    ensures { λ r. ⌜ ((d : Drafted (now (s .entry)) (headIn h) (now (requests .entry)) (now (buckets .entry)) (now (sums .entry)) (now (places .entry)) (now (records .entry)) (now (gone .entry)) (now (ages .entry))) → made r (now (written .exit)) (now (out .exit)) ≡ outcome (answer [] (changeBytes (releaseBatch (d .laid .volume) (freedsIn (now (s .entry)) (now (requests .entry))) ∷ [])) (length (now (out .entry)))) (now (out .entry))) ⌝ }
+    requires { ⌜ BatchTables (now s) (headIn h) (now requests) (now buckets) (now freed) (now places) (now records) (now emptied) (now generations) × (now written ≡ 0) ⌝ }
+    ensures { λ r. ⌜ ((d : BatchTables (now (s .entry)) (headIn h) (now (requests .entry)) (now (buckets .entry)) (now (freed .entry)) (now (places .entry)) (now (records .entry)) (now (emptied .entry)) (now (generations .entry))) → made r (now (written .exit)) (now (out .exit)) ≡ outcome (answer [] (changeBytes (releaseBatch (d .tables .volume) (freedsIn (now (s .entry)) (now (requests .entry))) ∷ [])) (length (now (out .entry)))) (now (out .entry))) ⌝ }
 {
-    let n = change_length(s, h, requests, buckets, sums, places, records, gone, ages);
+    let n = change_length(
+        s,
+        h,
+        requests,
+        buckets,
+        freed,
+        places,
+        records,
+        emptied,
+        generations,
+    );
     if out.len() < n {
         return 21;
     }
@@ -118,11 +131,11 @@ fn write_change(
         h,
         requests,
         buckets,
-        sums,
+        freed,
         places,
         records,
-        gone,
-        ages,
+        emptied,
+        generations,
         out,
         0,
     );
@@ -135,33 +148,33 @@ fn release_tables(
     head: Head,
     requests: &[u32],
     buckets: &[u32],
-    amounts: &[u32],
+    freed: &[u32],
     places: &[u32],
     records: &[u32],
     out: &mut [u8],
     written: &mut usize,
 ) -> u32
-    requires { ⌜ Laid (now s) (headIn head) (now requests) (now buckets) (now amounts) (now places) (now records) × (now written ≡ 0) ⌝ }
-    ensures { λ r. ⌜ ((d : Laid (now (s .entry)) (headIn head) (now (requests .entry)) (now (buckets .entry)) (now (amounts .entry)) (now (places .entry)) (now (records .entry))) → made r (now (written .exit)) (now (out .exit)) ≡ outcome (answer (bucketTests (d .volume) (freedsIn (now (s .entry)) (now (requests .entry)))) (changeBytes (releaseBatch (d .volume) (freedsIn (now (s .entry)) (now (requests .entry))) ∷ [])) (length (now (out .entry)))) (now (out .entry))) ⌝ }
+    requires { ⌜ VolumeTables (now s) (headIn head) (now requests) (now buckets) (now freed) (now places) (now records) × (now written ≡ 0) ⌝ }
+    ensures { λ r. ⌜ ((d : VolumeTables (now (s .entry)) (headIn head) (now (requests .entry)) (now (buckets .entry)) (now (freed .entry)) (now (places .entry)) (now (records .entry))) → made r (now (written .exit)) (now (out .exit)) ≡ outcome (answer (bucketTests (d .volume) (freedsIn (now (s .entry)) (now (requests .entry)))) (changeBytes (releaseBatch (d .volume) (freedsIn (now (s .entry)) (now (requests .entry))) ∷ [])) (length (now (out .entry)))) (now (out .entry))) ⌝ }
 {
     let sectors = head.bucket_sectors as u64;
-    let n = refusals::refuse(s, sectors, buckets, amounts, places, records);
+    let n = refusals::refuse(s, sectors, buckets, freed, places, records);
     if n != 0 {
         return n;
     }
-    let mut gone = [0u32; 1024];
-    let mut ages = [0u8; 1024];
-    let m = shares::shares::find_emptied(s, buckets, amounts, places, &mut gone, &mut ages);
+    let mut emptied = [0u32; 1024];
+    let mut generations = [0u8; 1024];
+    let m = freed_buckets::find_emptied(s, buckets, freed, places, &mut emptied, &mut generations);
     write_change(
         s,
         head,
         requests,
         buckets,
-        amounts,
+        freed,
         places,
         records,
-        &gone[..m],
-        &ages[..m],
+        &emptied[..m],
+        &generations[..m],
         out,
         written,
     )
@@ -175,12 +188,12 @@ fn release_buckets(
     gens: &[u32],
     requests: &[u32],
     buckets: &[u32],
-    amounts: &[u32],
+    freed: &[u32],
     out: &mut [u8],
     written: &mut usize,
 ) -> u32
     requires { ⌜ Keyed (now s) (now alloc) × (keysOk (keysHere (now s) (now alloc)) ≡ true) × Keyed (now s) (now gens) ⌝ }
-    requires { ⌜ Summed (now s) (headIn head .bucketSectors) (now requests) (now buckets) (now amounts) × (now written ≡ 0) ⌝ }
+    requires { ⌜ Summed (now s) (headIn head .bucketSectors) (now requests) (now buckets) (now freed) × (now written ≡ 0) ⌝ }
     ensures { λ r. ⌜ made r (now (written .exit)) (now (out .exit)) ≡ outcome (answer (bucketTests (volumeOf (headIn head) (keysHere (now (s .entry)) (now (alloc .entry))) (keysHere (now (s .entry)) (now (gens .entry)))) (freedsIn (now (s .entry)) (now (requests .entry)))) (changeBytes (releaseBatch (volumeOf (headIn head) (keysHere (now (s .entry)) (now (alloc .entry))) (keysHere (now (s .entry)) (now (gens .entry)))) (freedsIn (now (s .entry)) (now (requests .entry))) ∷ [])) (length (now (out .entry)))) (now (out .entry)) ⌝ }
 {
     let n = buckets.len();
@@ -193,7 +206,7 @@ fn release_buckets(
         head,
         requests,
         buckets,
-        amounts,
+        freed,
         &places[..n],
         &records,
         out,
@@ -208,15 +221,15 @@ fn sum_up(
     sectors: u64,
     scratch: &mut [u32],
     buckets: &mut [u32],
-    amounts: &mut [u32],
+    freed: &mut [u32],
 ) -> usize
     requires { ⌜ Requested (now s) (now requests) × (0 < sectors) × (length (now requests) ≤ 1024) × Cleared (now scratch) ⌝ }
-    requires { ⌜ (allOf (freedOk sectors) (freedsIn (now s) (now requests)) ≡ true) × (length (now requests) ≤ length (now buckets)) × (length (now amounts) ≡ length (now buckets)) ⌝ }
-    ensures { λ r. ⌜ Listed (freedBuckets sectors (freedsIn (now (s .entry)) (now (requests .entry)))) (freedIn sectors (freedsIn (now (s .entry)) (now (requests .entry)))) (now (buckets .exit)) (now (amounts .exit)) r × (now (scratch .exit) ≡ replicate 65536 0 ++ drop 65536 (now (scratch .entry))) ⌝ }
+    requires { ⌜ (allOf (freedOk sectors) (freedsIn (now s) (now requests)) ≡ true) × (length (now requests) ≤ length (now buckets)) × (length (now freed) ≡ length (now buckets)) ⌝ }
+    ensures { λ r. ⌜ BucketsListed (freedBuckets sectors (freedsIn (now (s .entry)) (now (requests .entry)))) (freedIn sectors (freedsIn (now (s .entry)) (now (requests .entry)))) (now (buckets .exit)) (now (freed .exit)) r × (now (scratch .exit) ≡ replicate 65536 0 ++ drop 65536 (now (scratch .entry))) ⌝ }
 {
     let mut marks = [0u8; 1024];
     sums::add_up(s, requests, sectors, scratch, &mut marks);
-    sums::take_freed(scratch, &marks, buckets, amounts)
+    sums::take_freed(scratch, &marks, buckets, freed)
 }
 
 // The answer after refusals 1 to 3, and the scratch, which comes cleared. The reader shows what is required.
@@ -242,8 +255,8 @@ pub fn release_lists(
         return 14;
     }
     let mut buckets = [0u32; 1024];
-    let mut amounts = [0u32; 1024];
-    let n = sum_up(s, requests, sectors, scratch, &mut buckets, &mut amounts);
+    let mut freed = [0u32; 1024];
+    let n = sum_up(s, requests, sectors, scratch, &mut buckets, &mut freed);
     release_buckets(
         s,
         head,
@@ -251,7 +264,7 @@ pub fn release_lists(
         gens,
         requests,
         &buckets[..n],
-        &amounts[..n],
+        &freed[..n],
         out,
         written,
     )

@@ -4,13 +4,13 @@ ghost use lib.ListN.{length};
 ghost use Rattle.calls.specs.Answers.{release, made, outcome, scratchAfter};
 ghost use Rattle.reader.specs.Readings.{callRefusal, ListRead};
 ghost use Rattle.reader.specs.Table.{Fits};
-ghost use Rattle.freed.specs.Summing.{Cleared};
+ghost use Rattle.release_sums.specs.Summing.{Cleared};
 use crate::lists;
-use freed::sums;
 use reader::call;
 use reader::call::Reading;
 use reader::head::Head;
 use reader::table::Ends;
+use release_sums::sums;
 
 // The answer to a list that was read, by the parts of its table. `read_call` and `clear` show what is required.
 fn release_parts(

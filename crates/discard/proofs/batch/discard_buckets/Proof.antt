@@ -1,7 +1,6 @@
 -- `batch::discard_buckets` meets its contract. Assumes nothing.
 use denote.Ref.{now}
-use Rattle.wire.proofs.OutputLaws.{then}
-use Rattle.wire.proofs.EmitLaws.{emitted}
+use Rattle.wire.proofs.EmitLaws.{emitted, and-then}
 use Rattle.discard.proofs.EmitLaws.{batch-is}
 use borrow.Author.Needs.{needs}
 use Rattle.discard.proofs.batch.discard_buckets.Statement.{statement}
@@ -22,18 +21,25 @@ put-rows-requires c κs = search needs
 put-unreserved-requires : tie.Need-put-unreserved-requires
 put-unreserved-requires c κs = search needs
 
-put-head-requires : tie.Need-put-head-requires
-put-head-requires c κs = search needs
+put-end-requires : tie.Need-put-end-requires
+put-end-requires c κs = search needs
 
 same-length : tie.Need-same-length
 same-length c = search needs
 
 returns : tie.Need-returns
 returns c =
-    let a = c .before .before .before .before .before .before .before .before .before .before .before .before .before .before .before .before .before .before .before .before .before .before .before .before .before .before .before .before .before .args in
-    let w = then (c .before .before .before .before .before .before .before .before .before .before .before .before .before .before .before .before .before .before .before .before .before .before .put-alloc-keys .ensures) (c .before .before .before .before .before .before .before .before .before .before .before .before .before .before .before .before .before .before .put-runs .ensures) in
-    let w = then (then w (c .before .before .before .before .before .before .before .before .before .before .before .before .before .before .put-deletions .ensures)) (c .before .before .before .before .before .before .before .before .before .before .put-rows .ensures) in
-    emitted (batch-is (now (a .s)) (now (a .needs)) (now (a .freed))) (then (then w (c .before .before .before .before .before .before .put-unreserved .ensures)) (c .before .before .put-head .ensures))
+    let z = c .before .before in
+    let u = z .before .before .before .before in
+    let w = u .before .before .before .before in
+    let d = w .before .before .before .before in
+    let r = d .before .before .before .before in
+    let k = r .before .before .before .before in
+    let a = k .before .before .before .before .before .before .before .args in
+    emitted (batch-is (now (a .s)) (now (a .needs)) (now (a .discarded)))
+    (and-then (k .put-alloc-keys .ensures)
+    (and-then (r .put-runs .ensures)
+    (and-then (d .put-deletions .ensures) (and-then (w .put-rows .ensures) (and-then (u .put-unreserved .ensures) (z .put-end .ensures))))))
 
 pub discard-buckets-spec : {M : Type 1} → statement M
 discard-buckets-spec =
@@ -44,6 +50,6 @@ discard-buckets-spec =
     put-deletions-requires
     put-rows-requires
     put-unreserved-requires
-    put-head-requires
+    put-end-requires
     same-length
     returns)

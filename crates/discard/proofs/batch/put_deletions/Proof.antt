@@ -1,22 +1,30 @@
 -- `batch::put_deletions` meets its contract. The invariant: what is left are the keys from index i on. Assumes nothing.
 use native.Mathlib.Omega.{arith}
 use Prim.Native.Nat.{_-_}
-use lib.ListN.{length}
-use Rattle.wire.proofs.OutputLaws.{part-length}
-use Rattle.discard.specs.Emitted.{deletionBytes}
-use Rattle.waiting.proofs.KeptLaws.{all-at}
-use Rattle.discard.proofs.EmitLaws.{Emits, emits-none, emits-more, emits-all}
+use lib.ListN.{length, drop}
+use Rattle.wire.proofs.OutputLaws.{Part, begin, turn, part-length}
+use Rattle.wire.proofs.EmitLaws.{done}
+use mathlib.Core.List.{flatMap}
+use Rattle.wire.specs.Encode.{keyField}
+use Rattle.calls.specs.Discard.{waitingDeletions}
+use Rattle.reader.specs.KeyHere.{keysHere}
+use Rattle.change_fields.specs.FieldBytes.{keysBytes}
+use Rattle.change_fields.proofs.FieldLists.{flat-next, flat-none}
+use Rattle.need_discard.specs.Kept.{bucketHere}
+use Rattle.discard.specs.Emitted.{bucketsAt}
+use Rattle.need_discard.proofs.KeptLaws.{all-at}
+use Rattle.discard.proofs.EmitLaws.{at-next, at-none}
 use Rattle.discard.proofs.batch.put_deletions.Statement.{statement}
 use Rattle.discard.proofs.batch.put_deletions.Tie as tie
 
 abbrev Inv-loop : tie.InvT-loop
-Inv-loop out₀ at s freed needs table p₀ i₀ out p i = Emits (deletionBytes s needs) freed out₀ at out p i
+Inv-loop out₀ at s discarded needs table p₀ i₀ out p i = Part out₀ at (keysBytes 12 (flatMap (waitingDeletions (keysHere s needs)) (bucketsAt s discarded))) out p (keysBytes 12 (flatMap (waitingDeletions (keysHere s needs)) (drop i (bucketsAt s discarded))))
 
 abbrev μ-loop : tie.MeasureT-loop
-μ-loop out₀ at s freed needs table p₀ i₀ out p i = length freed - i
+μ-loop out₀ at s discarded needs table p₀ i₀ out p i = length discarded - i
 
 loop-holds : tie.Need-loop-holds Inv-loop μ-loop
-loop-holds c = emits-none _ _ (omega arith)
+loop-holds c = begin _ _ _ (omega arith)
 
 mul-put-waiting : tie.Need-mul-put-waiting Inv-loop μ-loop
 mul-put-waiting c = omega arith
@@ -34,13 +42,20 @@ loop-less : tie.Need-loop-less Inv-loop μ-loop
 loop-less c = omega arith
 
 loop-again : tie.Need-loop-again Inv-loop μ-loop
-loop-again c = emits-more _ _ (c .before .before .before .before .before .before .loop .i) (c .before .before .before .before .before .before .loop .inv) (omega arith) (c .before .before .put-waiting .ensures)
+loop-again c =
+    let k = c .before .before in
+    let l = k .before .before .before .before in
+    let a = l .before .before .before .before .before .before .args in
+    turn _ (l .loop .inv) (flat-next (keyField 12) (waitingDeletions (keysHere (a .s .now) (a .needs .now))) (at-next (bucketHere (a .s .now)) (a .discarded .now) (l .loop .i) (omega arith))) (k .put-waiting .ensures)
 
 same-length : tie.Need-same-length Inv-loop μ-loop
 same-length c = part-length (c .before .loop .inv)
 
 returns : tie.Need-returns Inv-loop μ-loop
-returns c = emits-all _ _ (c .before .loop .i) (c .before .loop .inv) (omega arith)
+returns c =
+    let l = c .before in
+    let a = l .before .before .before .before .before .before .args in
+    done (l .loop .inv) (flat-none (keyField 12) (waitingDeletions (keysHere (a .s .now) (a .needs .now))) (at-none (bucketHere (a .s .now)) (a .discarded .now) (l .loop .i) (omega arith)))
 
 pub put-deletions-spec : {M : Type 1} → statement M
 put-deletions-spec =

@@ -1,22 +1,28 @@
 -- `batch::put_unreserved` meets its contract. The invariant: what is left are the buckets from index i on. Assumes nothing.
 use native.Mathlib.Omega.{arith}
 use Prim.Native.Nat.{_-_}
-use lib.ListN.{length}
-use Rattle.wire.proofs.OutputLaws.{part-length}
-use Rattle.discard.specs.Emitted.{unreservedBytes}
-use Rattle.waiting.proofs.KeptLaws.{all-at}
-use Rattle.discard.proofs.EmitLaws.{Emits, emits-none, emits-more, emits-all}
+use lib.ListN.{length, drop}
+use Rattle.wire.proofs.OutputLaws.{Part, begin, turn, part-length}
+use Rattle.wire.proofs.EmitLaws.{done}
+use mathlib.Core.List.{map}
+use Rattle.wire.specs.Encode.{encode}
+use Rattle.calls.specs.ChangeList.{discardedField}
+use Rattle.change_fields.proofs.FieldLists.{fields-next, fields-none}
+use Rattle.need_discard.specs.Kept.{bucketHere}
+use Rattle.discard.specs.Emitted.{bucketsAt}
+use Rattle.need_discard.proofs.KeptLaws.{all-at}
+use Rattle.discard.proofs.EmitLaws.{at-next, at-none}
 use Rattle.discard.proofs.batch.put_unreserved.Statement.{statement}
 use Rattle.discard.proofs.batch.put_unreserved.Tie as tie
 
 abbrev Inv-loop : tie.InvT-loop
-Inv-loop out₀ at s freed p₀ i₀ out p i = Emits (unreservedBytes s) freed out₀ at out p i
+Inv-loop out₀ at s discarded p₀ i₀ out p i = Part out₀ at (encode (map discardedField (bucketsAt s discarded))) out p (encode (map discardedField (drop i (bucketsAt s discarded))))
 
 abbrev μ-loop : tie.MeasureT-loop
-μ-loop out₀ at s freed p₀ i₀ out p i = length freed - i
+μ-loop out₀ at s discarded p₀ i₀ out p i = length discarded - i
 
 loop-holds : tie.Need-loop-holds Inv-loop μ-loop
-loop-holds c = emits-none _ _ (omega arith)
+loop-holds c = begin _ _ _ (omega arith)
 
 mul-bucket-at : tie.Need-mul-bucket-at Inv-loop μ-loop
 mul-bucket-at c = omega arith
@@ -40,13 +46,21 @@ loop-less : tie.Need-loop-less Inv-loop μ-loop
 loop-less c = omega arith
 
 loop-again : tie.Need-loop-again Inv-loop μ-loop
-loop-again c = emits-more _ _ (c .before .before .before .before .before .before .before .loop .i) (c .before .before .before .before .before .before .before .loop .inv) (omega arith) (rw (c .before .before .before .bucket-at .ensures) at (c .before .before .put-bucket .ensures))
+loop-again c =
+    let k = c .before .before in
+    let b = k .before in
+    let l = b .before .before .before .before in
+    let a = l .before .before .before .before .args in
+    turn _ (l .loop .inv) (fields-next discardedField (at-next (bucketHere (a .s .now)) (a .discarded .now) (l .loop .i) (omega arith))) (rw (b .bucket-at .ensures) at (k .put-bucket .ensures))
 
 same-length : tie.Need-same-length Inv-loop μ-loop
 same-length c = part-length (c .before .loop .inv)
 
 returns : tie.Need-returns Inv-loop μ-loop
-returns c = emits-all _ _ (c .before .loop .i) (c .before .loop .inv) (omega arith)
+returns c =
+    let l = c .before in
+    let a = l .before .before .before .before .args in
+    done (l .loop .inv) (fields-none discardedField (at-none (bucketHere (a .s .now)) (a .discarded .now) (l .loop .i) (omega arith)))
 
 pub put-unreserved-spec : {M : Type 1} → statement M
 put-unreserved-spec =

@@ -9,13 +9,13 @@ use Rattle.discard.proofs.changes.discard_freed.Statement.{statement}
 use Rattle.discard.proofs.changes.discard_freed.Tie as tie
 
 abbrev Inv-loop : tie.InvT-loop
-Inv-loop out₀ at s size freed needs table p₀ a₀ out p a = (a ≤ length freed) × Batches s needs size freed out₀ at out p a
+Inv-loop out₀ at s size discarded needs table p₀ a₀ out p a = (a ≤ length discarded) × Batches s needs size discarded out₀ at out p a
 
 abbrev μ-loop : tie.MeasureT-loop
-μ-loop out₀ at s size freed needs table p₀ a₀ out p a = length freed - a
+μ-loop out₀ at s size discarded needs table p₀ a₀ out p a = length discarded - a
 
 loop-holds : tie.Need-loop-holds Inv-loop μ-loop
-loop-holds c = let b = c .before .before .before .before .before .args in (omega arith, batches-none (now (b .s)) (now (b .needs)) (b .size) (now (b .freed)) (omega arith))
+loop-holds c = let b = c .before .before .before .before .before .args in (omega arith, batches-none (now (b .s)) (now (b .needs)) (b .size) (now (b .discarded)) (omega arith))
 
 batch-end-requires : tie.Need-batch-end-requires Inv-loop μ-loop
 batch-end-requires c κs = omega arith
@@ -38,7 +38,7 @@ discard-buckets-requires c κs =
     let a = c .before .before .before .before .loop .a in
     let k = c .before .before .batch-end .result - a in
     let e = c .before .before .batch-end .ensures in
-    let n = stretch-length (now (b .args .freed)) a k (omega (arith, e)) in
+    let n = stretch-length (now (b .args .discarded)) a k (omega (arith, e)) in
     (part-all a k (b .pre .1), omega (arith, n, e, b .pre .0), omega (arith, n, e, b .pre .2), b .pre .3)
 
 loop-less : tie.Need-loop-less Inv-loop μ-loop
@@ -49,7 +49,7 @@ loop-again c =
     let b = c .before .before .before .before .before .before .before .before .before .before .before .before .before in
     let l = c .before .before .before .before .before .before .before .loop in
     let e = c .before .before .before .before .before .batch-end .ensures in
-    (omega (arith, e), batches-more (now (b .args .s)) (now (b .args .needs)) (b .args .size) (now (b .args .freed)) (l .a) (l .inv .1) (b .pre .0) (omega arith) e (c .before .before .discard-buckets .ensures))
+    (omega (arith, e), batches-more (now (b .args .s)) (now (b .args .needs)) (b .args .size) (now (b .args .discarded)) (l .a) (l .inv .1) (b .pre .0) (omega arith) e (c .before .before .discard-buckets .ensures))
 
 same-length : tie.Need-same-length Inv-loop μ-loop
 same-length c = part-length (c .before .loop .inv .1)
@@ -58,7 +58,7 @@ returns : tie.Need-returns Inv-loop μ-loop
 returns c =
     let b = c .before .before .before .before .before .before .before .args in
     let l = c .before .loop in
-    batches-all (now (b .s)) (now (b .needs)) (b .size) (now (b .freed)) (l .a) (l .inv .1) (omega arith)
+    batches-all (now (b .s)) (now (b .needs)) (b .size) (now (b .discarded)) (l .a) (l .inv .1) (omega arith)
 
 pub discard-freed-spec : {M : Type 1} → statement M
 discard-freed-spec =

@@ -1,6 +1,6 @@
 -- `changes::discard_lists` meets its contract. Assumes nothing.
 use native.Mathlib.Omega.{arith}
-use Rattle.waiting.proofs.TableLaws.{unfilled}
+use Rattle.need_discard.proofs.TableLaws.{unfilled}
 use Rattle.discard.proofs.OutcomeLaws.{ready-found}
 use borrow.Author.Needs.{needs}
 use Rattle.discard.proofs.changes.discard_lists.Statement.{statement}

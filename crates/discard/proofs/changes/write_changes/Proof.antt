@@ -20,7 +20,7 @@ returns : tie.Need-returns
 returns c =
     let a = c .before .before .before .before .before .before .before .before .before .args in
     let d = c .before .before .discard-freed .ensures in
-    let bytes = changesFrom (now (a .s)) (now (a .needs)) (a .size) (now (a .freed)) in
+    let bytes = changesFrom (now (a .s)) (now (a .needs)) (a .size) (now (a .discarded)) in
     refused 21 (now (a .out)) (answer-short bytes (length (now (a .out))) (short (now (a .out)) d (omega arith) (c .if1 .taken))) refl
 
 discard-freed-requires-2 : tie.Need-discard-freed-requires-2
@@ -34,7 +34,7 @@ returns-2 c =
     let a = c .before .before .before .before .before .before .before .before .before .before .before .before .before .args in
     let d = c .before .before .before .before .before .before .discard-freed .ensures in
     let f = fits (now (a .out)) d (omega arith) (c .before .before .before .before .if1 .left) in
-    let bytes = changesFrom (now (a .s)) (now (a .needs)) (a .size) (now (a .freed)) in
+    let bytes = changesFrom (now (a .s)) (now (a .needs)) (a .size) (now (a .discarded)) in
     accepted bytes (now (a .out)) (answer-fits bytes (length (now (a .out))) (f .1)) (f .0) (wet (c .before .before .discard-freed2 .ensures) (f .1))
 
 pub write-changes-spec : {M : Type 1} → statement M

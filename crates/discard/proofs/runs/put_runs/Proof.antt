@@ -5,19 +5,19 @@ use denote.Ref.{now}
 use Prim.Native.Nat.{_≤_, _-_}
 use lib.ListN.{length}
 use Rattle.wire.proofs.OutputLaws.{part-length, wrote-length}
-use Rattle.waiting.proofs.KeptLaws.{all-at}
+use Rattle.need_discard.proofs.KeptLaws.{all-at}
 use Rattle.discard.proofs.RunLaws.{Runs, runs-none, runs-more, runs-all, with-size}
 use Rattle.discard.proofs.runs.put_runs.Statement.{statement}
 use Rattle.discard.proofs.runs.put_runs.Tie as tie
 
 abbrev Inv-loop : tie.InvT-loop
-Inv-loop out₀ at s freed p₀ r₀ i₀ out p r i = (r .size ≤ i) × Runs s freed out₀ at out p r i
+Inv-loop out₀ at s discarded p₀ r₀ i₀ out p r i = (r .size ≤ i) × Runs s discarded out₀ at out p r i
 
 abbrev μ-loop : tie.MeasureT-loop
-μ-loop out₀ at s freed p₀ r₀ i₀ out p r i = length freed - i
+μ-loop out₀ at s discarded p₀ r₀ i₀ out p r i = length discarded - i
 
 loop-holds : tie.Need-loop-holds Inv-loop μ-loop
-loop-holds c = (omega arith, runs-none (now (c .before .before .before .args .s)) (now (c .before .before .before .args .freed)) _ (omega arith))
+loop-holds c = (omega arith, runs-none (now (c .before .before .before .args .s)) (now (c .before .before .before .args .discarded)) _ (omega arith))
 
 mul-bucket-at : tie.Need-mul-bucket-at Inv-loop μ-loop
 mul-bucket-at c = omega arith
@@ -50,7 +50,7 @@ loop-again c =
     let a = c .before .before .before .before .before .before .before .before .before .before .before .before .args in
     let l = c .before .before .before .before .before .before .before .before .loop in
     let w = c .with-bucket .ensures in
-    (rw w (omega (arith, with-size (l .r) (c .before .before .before .before .before .bucket-at .result), l .inv .0)), rw w (runs-more (now (a .s)) (now (a .freed)) (l .r) (l .i) (l .inv .1) (omega arith) (c .before .before .before .before .before .bucket-at .ensures) (c .before .before .before .put-ended .ensures)))
+    (rw w (omega (arith, with-size (l .r) (c .before .before .before .before .before .bucket-at .result), l .inv .0)), rw w (runs-more (now (a .s)) (now (a .discarded)) (l .r) (l .i) (l .inv .1) (omega arith) (c .before .before .before .before .before .bucket-at .ensures) (c .before .before .before .put-ended .ensures)))
 
 put-run-requires : tie.Need-put-run-requires Inv-loop μ-loop
 put-run-requires c κs = tt
@@ -62,7 +62,7 @@ returns : tie.Need-returns Inv-loop μ-loop
 returns c =
     let a = c .before .before .before .before .before .before .before .before .before .args in
     let l = c .before .before .before .before .before .loop in
-    runs-all (now (a .s)) (now (a .freed)) (l .r) (l .i) (l .inv .1) (omega arith) (c .before .before .put-run .ensures)
+    runs-all (now (a .s)) (now (a .discarded)) (l .r) (l .i) (l .inv .1) (omega arith) (c .before .before .put-run .ensures)
 
 pub put-runs-spec : {M : Type 1} → statement M
 put-runs-spec =

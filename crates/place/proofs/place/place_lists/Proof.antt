@@ -8,34 +8,29 @@ use lib.Seq.{length-take-le}
 use Rattle.calls.specs.Answers.{Answer, outcome, readCall}
 use Rattle.calls.specs.Place.{placeTests}
 use Rattle.calls.proofs.OutcomeLaws.{refused}
-use Rattle.place.specs.Choice.{ChosenIs}
-use Rattle.choose.specs.declared.take.Taken.the-variants.{Refused, Took}
 use Rattle.place.proofs.CallLaws.{answer-past, answer-refused}
+use Rattle.place.proofs.ChosenLaws.{Choice, chosen}
 use borrow.Author.Needs.{needs}
 use Rattle.place.proofs.place.place_lists.Statement.{statement}
 use Rattle.place.proofs.place.place_lists.Tie as tie
 
 abbrev start : tie.After-choose-buckets → tie.Start
-start c = c .before .before .before .before .before .before .before .before .before
+start w = w .before .before .before .before .before .before .before .before .before
 
 abbrev table : tie.After-choose-buckets → List ℕ
-table c = c .choose-buckets .last .1 .1 .1 .1 .1 .1 .0
+table w = w .choose-buckets .last .1 .1 .1 .1 .1 .1 .0
 
-refusing : (k : tie.After-number) →
-    let w = k .before .before .before in
-    let a = start w in
-    ChosenIs (a .args .s .now) (a .args .h) (a .args .runs .now) (a .args .pieces .now) (table w) (Refused (k .number .given .0 .0))
-refusing k = rw (k .number .given .1) at (k .before .before .before .choose-buckets .ensures)
+abbrev call : tie.Else1 → tie.After-choose-buckets
+call e = e .before .before .before
 
-taking : (k : tie.After-count) →
-    let w = k .before .before .before in
-    let a = start w in
-    ChosenIs (a .args .s .now) (a .args .h) (a .args .runs .now) (a .args .pieces .now) (table w) (Took (k .count .given .0 .0) (k .count .given .0 .1 .0) (k .count .given .0 .1 .1 .0))
-taking k = rw (k .count .given .1) at (k .before .before .before .choose-buckets .ensures)
+choice : (e : tie.Else1) →
+    let a = start (call e) .args in
+    Choice (a .s .now) (a .h) (a .runs .now) (a .pieces .now) (table (call e)) (call e .choose-buckets .result)
+choice e = chosen (start (call e) .pre .0) (call e .choose-buckets .ensures) (e .if1 .left)
 
 -- as many are taken as there is room for
-room : (k : tie.After-count) → k .count .given .0 .0 ≤ length (table (k .before .before .before))
-room k = let w = k .before .before .before in omega (arith, taking k .1 .few, w .choose-buckets .kept .1 .1 .1 .1 .1 .1 .0)
+room : (e : tie.Else1) → call e .choose-buckets .result .count ≤ length (table (call e))
+room e = omega (arith, choice e .few, call e .choose-buckets .kept .1 .1 .1 .1 .1 .1 .0)
 
 slice-aggregate-choose-buckets : tie.Need-slice-aggregate-choose-buckets
 slice-aggregate-choose-buckets c = search needs
@@ -43,39 +38,34 @@ slice-aggregate-choose-buckets c = search needs
 choose-buckets-requires : tie.Need-choose-buckets-requires
 choose-buckets-requires c κs = search needs
 
-enum-known-number : tie.Need-enum-known-number
-enum-known-number c = search needs
-
-enum-known-count : tie.Need-enum-known-count
-enum-known-count c = search needs
+returns : tie.Need-returns
+returns c =
+    let w = c .before .before .before in
+    let a = start w in
+    refused _ _ (answer-refused (placeTests (readCall (a .args .s .now))) _ _ (w .choose-buckets .ensures .refusal) (omega (arith, c .if1 .taken))) (a .pre .2)
 
 array-share-prefix-taken : tie.Need-array-share-prefix-taken
-array-share-prefix-taken c = room (c .before)
+array-share-prefix-taken c = room c
 
 slice-aggregate-place-buckets : tie.Need-slice-aggregate-place-buckets
-slice-aggregate-place-buckets c = sym (length-take-le _ _ (room (c .before .before)))
+slice-aggregate-place-buckets c = sym (length-take-le _ _ (room (c .before)))
 
 place-buckets-requires : tie.Need-place-buckets-requires
 place-buckets-requires c κs =
-    let k = c .before .before .before .before in
-    let a = start (k .before .before .before) in
-    (taking k .1 .plan, (taking k .1 .walk, a .pre .0 .alloc, a .pre .1, a .pre .2))
-
-returns : tie.Need-returns
-returns c =
-    let k = c .before in
-    let a = start (k .before .before .before) in
-    refused _ _ (answer-refused (placeTests (readCall (a .args .s .now))) _ _ (refusing k .0) (refusing k .1)) (a .pre .2)
+    let e = c .before .before .before in
+    let a = start (call e) in
+    (choice e .plan, (choice e .walk, a .pre .0 .alloc, a .pre .1, a .pre .2))
 
 same-length : tie.Need-same-length
 same-length c = search needs
 
 returns-2 : tie.Need-returns-2
 returns-2 c =
-    let k = c .before .before .before .before .before .before .before in
-    let a = start (k .before .before .before) in
+    let e = c .before .before .before .before .before .before in
+    let a = start (call e) in
     c .before .before .place-buckets .ensures
-    ∙ ap (λ (x : Answer). outcome x (a .args .out .now)) (sym (answer-past (placeTests (readCall (a .args .s .now))) _ _ (taking k .0)))
+    ∙ ap (λ (x : Answer). outcome x (a .args .out .now))
+    (sym (answer-past (placeTests (readCall (a .args .s .now))) _ _ (sym (e .if1 .left) ∙ call e .choose-buckets .ensures .refusal)))
 
 pub place-lists-spec : {M : Type 1} → statement M
 place-lists-spec =
@@ -83,11 +73,9 @@ place-lists-spec =
     (tie.spec
     slice-aggregate-choose-buckets
     choose-buckets-requires
-    enum-known-number
-    enum-known-count
+    returns
     array-share-prefix-taken
     slice-aggregate-place-buckets
     place-buckets-requires
-    returns
     same-length
     returns-2)

@@ -1,12 +1,15 @@
 -- `lists::free_and_cut` meets its contract. Assumes nothing.
 use native.Mathlib.Omega.{arith}
-use mathlib.Core.Path.{refl, sym, ap, _∙_}
+use mathlib.Core.Path.{sym, ap, _∙_}
 use mathlib.Core.List.{map, flatMap}
 use mathlib.Core.Bool.{not, _&&_}
 use mathlib.Core.List.{_++_}
 use Prim.Native.Nat.{ℕ, _<_}
-use lib.ListN.{length, length-map}
+use lib.ListN.{length}
 use lib.Dec.{eqb}
+use Rattle.wire.specs.Kinds.{bucketsIn}
+use Rattle.wire.specs.Encode.{encode}
+use Rattle.wire.specs.Rows.{rowField}
 use Rattle.wire.proofs.OutputLaws.{wrote-length}
 use Rattle.wire.proofs.EmitLaws.{emitted, and-then}
 use Rattle.calls.specs.Place.{rootMissing, rootsIf}
@@ -14,12 +17,11 @@ use Rattle.calls.specs.Release.{freedBuckets, releasedLru}
 use Rattle.calls.specs.CallList.{Head}
 use Rattle.calls.specs.Lists.{total}
 use Rattle.calls.specs.Lru.{needDiscardKey}
-use Rattle.calls.proofs.View.{bucket}
-use Rattle.freed.specs.Freeds.{freedsIn}
-use Rattle.shares.specs.FieldBytes.{keysBytes, rowsBytes, rootsBytes}
-use Rattle.shares.specs.Buckets.{bucketsIn}
-use Rattle.shares.specs.Counting.{keptOf, lostOf}
-use Rattle.release.proofs.BatchLaws.{batch-bytes, rows-are, sectors-are, draft-pass, draft-in, draft-checked, draft-few, gone-few, gone-aged, gone-are, gone-up, gone-low}
+use Rattle.release_sums.specs.Freeds.{freedsIn}
+use Rattle.change_fields.specs.FieldBytes.{keysBytes, rootsBytes}
+use Rattle.release_keys.specs.Counting.{keptOf, lostOf}
+use Rattle.release_keys.proofs.FreedBucketLaws.{buckets-length}
+use Rattle.release.proofs.BatchLaws.{batch-bytes, rows-are, sectors-are, tables-at, tables-in, tables-bounded, tables-few, emptied-few, emptied-are, emptied-up, emptied-low}
 use borrow.Author.Needs.{needs}
 use Rattle.release.proofs.lists.free_and_cut.Statement.{statement}
 use Rattle.release.proofs.lists.free_and_cut.Tie as tie
@@ -32,62 +34,62 @@ whole : tie.Need-returns
 whole c d =
     let a = c .before .before .before .before .before .before .before .before .before .before .before .before .before .before .before .before .before .before .before .before .before .before .before .before .before .before .before .before .before .before .before .before .before .before .before .before .before .before .before .before .before .before .before .before in
     let rs = freedsIn (a .args .s .now) (a .args .requests .now) in
-    let v = d .laid .volume in
-    let t = d .laid .tabled in
-    let gone = bucketsIn (a .args .gone .now) in
+    let v = d .tables .volume in
+    let t = d .tables .tabled in
+    let emptied = bucketsIn (a .args .emptied .now) in
     let size = sectors-are d in
-    let journal = ap (λ (h : Head). h .journal) (d .laid .head) in
-    let many = sym (length-map (a .args .gone .now) bucket) in
+    let journal = ap (λ (h : Head). h .journal) (d .tables .head) in
+    let many = sym (buckets-length (a .args .emptied .now)) in
     let u = c .before .before .before .before .before .before .before .before .before .before .before .before .before .before .before .before .before .before .before .before .before .before .before .before .before .before .before .before .before .before .before .before .unused-in .ensures .2 v rs t size in
     let n = t .named in
     let ones = emitted (ap (λ (k : ℕ). keysBytes 10 (flatMap (releasedLru v rs) (freedBuckets k rs))) (sym size)) (c .before .before .before .before .before .before .before .before .before .before .before .before .before .before .before .before .before .before .before .before .before .before .before .before .before .before .put-lrus .ensures v rs t size) in
-    let waits = emitted (ap (λ (j : ℕ). keysBytes 12 (map (needDiscardKey j) gone)) (sym journal)) (c .before .before .before .before .before .before .before .before .before .before .before .before .before .before .before .before .before .before .before .before .before .before .put-need-discards .ensures) in
-    let gens = c .before .before .before .before .before .before .before .before .before .before .before .before .before .before .put-gens .ensures (v .trees .gens) _ (d .laid .recorded) (d .aged) in
+    let waits = emitted (ap (λ (j : ℕ). keysBytes 12 (map (needDiscardKey j) emptied)) (sym journal)) (c .before .before .before .before .before .before .before .before .before .before .before .before .before .before .before .before .before .before .before .before .before .before .put-need-discards .ensures) in
+    let gens = c .before .before .before .before .before .before .before .before .before .before .before .before .before .before .put-gens .ensures (v .trees .gens) _ (d .tables .recorded) (d .generations-are) in
     let roots =
     emitted
     (ap (λ (k : ℕ). rootsBytes (rootsIf (not (eqb k 0) && rootMissing (a .args .h .roots) 1) 12 ++ rootsIf (not (eqb k 0) && rootMissing (a .args .h .roots) 2) 14)) many
-    ∙ ap (λ (h : Head). rootsBytes (rootsIf (not (eqb (length gone) 0) && rootMissing (h .roots) 1) 12 ++ rootsIf (not (eqb (length gone) 0) && rootMissing (h .roots) 2) 14)) (sym (d .laid .head)))
+    ∙ ap (λ (h : Head). rootsBytes (rootsIf (not (eqb (length emptied) 0) && rootMissing (h .roots) 1) 12 ++ rootsIf (not (eqb (length emptied) 0) && rootMissing (h .roots) 2) 14)) (sym (d .tables .head)))
     (c .before .before .before .before .before .before .before .before .before .before .put-roots .ensures)
     in
     let rows =
     emitted
-    (ap rowsBytes
-    (rows-are v rs gone _ _ _ _ many (c .before .before .before .before .before .before .before .before .before .before .before .before .before .before .before .before .before .before .before .before .before .before .before .before .before .before .before .before .before .before .before .before .before .total-freed .ensures .1) (u .kept ∙ ap (total (keptOf v rs)) n) (u .lost ∙ ap (total (lostOf v rs)) n)))
+    (ap (λ r. encode (map rowField r))
+    (rows-are v rs emptied _ _ _ _ many (c .before .before .before .before .before .before .before .before .before .before .before .before .before .before .before .before .before .before .before .before .before .before .before .before .before .before .before .before .before .before .before .before .before .total-freed .ensures .1) (u .kept ∙ ap (total (keptOf v rs)) n) (u .lost ∙ ap (total (lostOf v rs)) n)))
     (c .before .before .before .before .before .before .put-rows .ensures)
     in
-    emitted (sym (batch-bytes v rs gone (gone-are d)))
+    emitted (sym (batch-bytes v rs emptied (emptied-are d)))
     (and-then (and-then (and-then (and-then (and-then (and-then (and-then (c .before .before .before .before .before .before .before .before .before .before .before .before .before .before .before .before .before .before .before .before .before .before .before .before .before .before .before .before .before .before .put-allocs .ensures v rs t journal) ones) waits) (c .before .before .before .before .before .before .before .before .before .before .before .before .before .before .before .before .before .before .put-backpointers .ensures)) gens) roots) rows)
-    (emitted refl (c .before .before .put-end .ensures)))
+    (c .before .before .put-end .ensures))
 
 cast-sectors : tie.Need-cast-sectors
 cast-sectors c = search needs
 
 total-freed-requires : tie.Need-total-freed-requires
-total-freed-requires c κs = let a = c .before .before .before .before .before .before .before .before .before .before in (a .pre .laid .summed .requested, draft-checked (a .pre) (small c), a .pre .laid .summed .few)
+total-freed-requires c κs = let a = c .before .before .before .before .before .before .before .before .before .before in (a .pre .tables .summed .requested, tables-bounded (a .pre) (small c), a .pre .tables .summed .few)
 
 unused-in-requires : tie.Need-unused-in-requires
-unused-in-requires c κs = let a = c .before .before .before .before .before .before .before .before .before .before .before in (draft-in (a .pre), draft-few (a .pre), small (c .before))
+unused-in-requires c κs = let a = c .before .before .before .before .before .before .before .before .before .before .before in (tables-in (a .pre), tables-few (a .pre), small (c .before))
 
 put-allocs-requires : tie.Need-put-allocs-requires
-put-allocs-requires c κs = draft-pass (c .before .before .before .before .before .before .before .before .before .before .before .before .before .pre)
+put-allocs-requires c κs = tables-at (c .before .before .before .before .before .before .before .before .before .before .before .before .before .pre)
 
 put-lrus-requires : tie.Need-put-lrus-requires
-put-lrus-requires c κs = (c .before .before .before .before .before .before .before .before .before .before .before .before .before .before .before .before .before .pre .laid .summed .some-sectors, draft-pass (c .before .before .before .before .before .before .before .before .before .before .before .before .before .before .before .before .before .pre))
+put-lrus-requires c κs = (c .before .before .before .before .before .before .before .before .before .before .before .before .before .before .before .before .before .pre .tables .summed .some-sectors, tables-in (c .before .before .before .before .before .before .before .before .before .before .before .before .before .before .before .before .before .pre))
 
 put-need-discards-requires : tie.Need-put-need-discards-requires
 put-need-discards-requires c κs = search needs
 
 put-backpointers-requires : tie.Need-put-backpointers-requires
-put-backpointers-requires c κs = (c .before .before .before .before .before .before .before .before .before .before .before .before .before .before .before .before .before .before .before .before .before .before .before .before .before .pre .laid .summed .requested, draft-checked (c .before .before .before .before .before .before .before .before .before .before .before .before .before .before .before .before .before .before .before .before .before .before .before .before .before .pre) (small (c .before .before .before .before .before .before .before .before .before .before .before .before .before .before .before)))
+put-backpointers-requires c κs = (c .before .before .before .before .before .before .before .before .before .before .before .before .before .before .before .before .before .before .before .before .before .before .before .before .before .pre .tables .summed .requested, tables-bounded (c .before .before .before .before .before .before .before .before .before .before .before .before .before .before .before .before .before .before .before .before .before .before .before .before .before .pre) (small (c .before .before .before .before .before .before .before .before .before .before .before .before .before .before .before)))
 
 put-gens-requires : tie.Need-put-gens-requires
-put-gens-requires c κs = let d = c .before .before .before .before .before .before .before .before .before .before .before .before .before .before .before .before .before .before .before .before .before .before .before .before .before .before .before .before .before .pre in (record { gens = _; are = d .laid .recorded }, gone-aged d, gone-low d, gone-up d)
+put-gens-requires c κs = let d = c .before .before .before .before .before .before .before .before .before .before .before .before .before .before .before .before .before .before .before .before .before .before .before .before .before .before .before .before .before .pre in (record { gens = _; are = d .tables .recorded }, record { generationOf = _; are = d .generations-are }, emptied-low d, emptied-up d)
 
 put-roots-requires : tie.Need-put-roots-requires
 put-roots-requires c κs = search needs
 
 put-rows-requires : tie.Need-put-rows-requires
-put-rows-requires c κs = (omega (arith, gone-few (c .before .before .before .before .before .before .before .before .before .before .before .before .before .before .before .before .before .before .before .before .before .before .before .before .before .before .before .before .before .before .before .before .before .before .before .before .before .pre)), c .before .before .before .before .before .before .before .before .before .before .before .before .before .before .before .before .before .before .before .before .before .before .before .before .before .before .total-freed .ensures .0, c .before .before .before .before .before .before .before .before .before .before .before .before .before .before .before .before .before .before .before .before .before .before .before .before .before .unused-in .ensures .0, c .before .before .before .before .before .before .before .before .before .before .before .before .before .before .before .before .before .before .before .before .before .before .before .before .before .unused-in .ensures .1)
+put-rows-requires c κs = (omega (arith, emptied-few (c .before .before .before .before .before .before .before .before .before .before .before .before .before .before .before .before .before .before .before .before .before .before .before .before .before .before .before .before .before .before .before .before .before .before .before .before .before .pre)), c .before .before .before .before .before .before .before .before .before .before .before .before .before .before .before .before .before .before .before .before .before .before .before .before .before .before .total-freed .ensures .0, c .before .before .before .before .before .before .before .before .before .before .before .before .before .before .before .before .before .before .before .before .before .before .before .before .before .unused-in .ensures .0, c .before .before .before .before .before .before .before .before .before .before .before .before .before .before .before .before .before .before .before .before .before .before .before .before .before .unused-in .ensures .1)
 
 put-end-requires : tie.Need-put-end-requires
 put-end-requires c κs = search needs

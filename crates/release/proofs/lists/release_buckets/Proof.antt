@@ -4,7 +4,7 @@ use mathlib.Core.Path.{refl}
 use lib.ListN.{length, take}
 use Rattle.reader.specs.KeyHere.{keysHere}
 use Rattle.reader.specs.Heads.{headIn}
-use Rattle.release.specs.Outcomes.{volumeOf, Laid}
+use Rattle.release.specs.Outcomes.{volumeOf, VolumeTables}
 use Rattle.release.proofs.TopLaws.{summed-few, summed-up, tables-made}
 use borrow.Author.Needs.{needs}
 use Rattle.release.proofs.lists.release_buckets.Statement.{statement}
@@ -15,7 +15,7 @@ start c = c .before .before .before .before .before .before .before .before .bef
 
 abbrev laid : (c : tie.After-find-records) →
     let a = start c .args in
-    Laid (a .s .now) (headIn (a .head)) (a .requests .now) (a .buckets .now) (a .amounts .now) (take (length (a .buckets .now)) (c .before .before .before .find-allocs .last .1 .1 .1 .0)) (c .find-records .last .1 .1 .0)
+    VolumeTables (a .s .now) (headIn (a .head)) (a .requests .now) (a .buckets .now) (a .freed .now) (take (length (a .buckets .now)) (c .before .before .before .find-allocs .last .1 .1 .1 .0)) (c .find-records .last .1 .1 .0)
 laid c =
     let a = start c in
     let v = volumeOf (headIn (a .args .head)) (keysHere (a .args .s .now) (a .args .alloc .now)) (keysHere (a .args .s .now) (a .args .gens .now)) in

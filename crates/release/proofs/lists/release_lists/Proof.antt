@@ -8,7 +8,7 @@ use borrow.Author.Tests.{not-true, not-false}
 use Rattle.calls.proofs.ReleaseFits.{named-few}
 use Rattle.reader.specs.KeyHere.{keysHere}
 use Rattle.reader.specs.Heads.{headIn}
-use Rattle.freed.specs.Freeds.{freedsIn}
+use Rattle.release_sums.specs.Freeds.{freedsIn}
 use Rattle.release.specs.Outcomes.{volumeOf}
 use Rattle.release.proofs.TopLaws.{summed-made, lists-4, lists-14, lists-go, cleared-is}
 use borrow.Author.Needs.{needs}
@@ -56,8 +56,8 @@ array-share-prefix-buckets c = few (c .before .before .before .before) .0
 slice-aggregate-release-buckets : tie.Need-slice-aggregate-release-buckets
 slice-aggregate-release-buckets c = sym (length-take-le _ _ (few (c .before .before .before .before .before) .0))
 
-array-share-prefix-amounts : tie.Need-array-share-prefix-amounts
-array-share-prefix-amounts c = few (c .before .before .before .before .before) .1
+array-share-prefix-freed : tie.Need-array-share-prefix-freed
+array-share-prefix-freed c = few (c .before .before .before .before .before) .1
 
 slice-aggregate-release-buckets-2 : tie.Need-slice-aggregate-release-buckets-2
 slice-aggregate-release-buckets-2 c = sym (length-take-le _ _ (few (c .before .before .before .before .before .before) .1))
@@ -91,7 +91,7 @@ release-lists-spec =
     sum-up-requires
     array-share-prefix-buckets
     slice-aggregate-release-buckets
-    array-share-prefix-amounts
+    array-share-prefix-freed
     slice-aggregate-release-buckets-2
     release-buckets-requires
     same-length

@@ -6,8 +6,8 @@ use lib.ListN.{length}
 use lib.Seq.{length-take-le}
 use Rattle.calls.specs.CallList.{Head}
 use Rattle.calls.specs.Release.{isEmptied}
-use Rattle.freed.specs.Freeds.{freedsIn}
-use Rattle.release.proofs.TopLaws.{summed-few, laid-pass, laid-draft, tables-stop, tables-go}
+use Rattle.release_sums.specs.Freeds.{freedsIn}
+use Rattle.release.proofs.TopLaws.{summed-few, volume-pass, batch-tables, tables-stop, tables-go}
 use Rattle.release.proofs.BatchLaws.{listed-short}
 use borrow.Author.Needs.{needs}
 use Rattle.release.proofs.lists.release_tables.Statement.{statement}
@@ -30,7 +30,10 @@ cast-sectors : tie.Need-cast-sectors
 cast-sectors c = search needs
 
 refuse-requires : tie.Need-refuse-requires
-refuse-requires c κs = search needs
+refuse-requires c κs =
+    let a = c .before .before .before .before .before .before .before .before in
+    let d = a .pre .0 in
+    record { volume = d .volume; requests = freedsIn (a .args .s .now) (a .args .requests .now); tabled = d .tabled; recorded = d .recorded; size = size a }
 
 returns : tie.Need-returns
 returns c =
@@ -51,16 +54,16 @@ find-emptied-requires c κs =
     let d = a .pre .0 in
     let e = c .before .before .before .refuse .ensures (d .volume) _ (d .tabled) (d .recorded) (size a) in
     let n = summed-few (d .summed) in
-    (laid-pass d e (c .before .before .if1 .left), n, n)
+    (volume-pass d e (c .before .before .if1 .left), n, n)
 
-array-share-prefix-gone : tie.Need-array-share-prefix-gone
-array-share-prefix-gone c = few (c .before .before) .0
+array-share-prefix-emptied : tie.Need-array-share-prefix-emptied
+array-share-prefix-emptied c = few (c .before .before) .0
 
 slice-aggregate-write-change : tie.Need-slice-aggregate-write-change
 slice-aggregate-write-change c = sym (length-take-le _ _ (few (c .before .before .before) .0))
 
-array-share-prefix-ages : tie.Need-array-share-prefix-ages
-array-share-prefix-ages c = few (c .before .before .before) .1
+array-share-prefix-generations : tie.Need-array-share-prefix-generations
+array-share-prefix-generations c = few (c .before .before .before) .1
 
 slice-aggregate-write-change-2 : tie.Need-slice-aggregate-write-change-2
 slice-aggregate-write-change-2 c = sym (length-take-le _ _ (few (c .before .before .before .before) .1))
@@ -70,7 +73,7 @@ write-change-requires c κs =
     let a = c .before .before .before .before .before .before .before .before .before .before .before .before .before .before .before .before .before .before .before in
     let d = a .pre .0 in
     let e = c .before .before .before .before .before .before .before .before .before .before .refuse .ensures (d .volume) _ (d .tabled) (d .recorded) (size a) in
-    (laid-draft d e (c .before .before .before .before .before .before .before .before .before .if1 .left) (c .before .before .before .before .before .before .find-emptied .ensures (d .volume) _ (d .tabled)), a .pre .1)
+    (batch-tables d e (c .before .before .before .before .before .before .before .before .before .if1 .left) (c .before .before .before .before .before .before .find-emptied .ensures (d .volume) _ (d .tabled)), a .pre .1)
 
 same-length : tie.Need-same-length
 same-length c = search needs
@@ -81,7 +84,7 @@ returns-2 c =
     let a = c .before .before .before .before .before .before .before .before .before .before .before .before .before .before .before .before .before .before .before .before .before .before in
     let e = c .before .before .before .before .before .before .before .before .before .before .before .before .before .refuse .ensures (d .volume) _ (d .tabled) (d .recorded) (ap (λ (h : Head). h .bucketSectors) (d .head)) in
     let z = c .before .before .before .before .before .before .before .before .before .before .before .before .if1 .left in
-    tables-go d e _ _ _ z (c .before .before .write-change .ensures (laid-draft d e z (c .before .before .before .before .before .before .before .before .before .find-emptied .ensures (d .volume) _ (d .tabled))))
+    tables-go d e _ _ _ z (c .before .before .write-change .ensures (batch-tables d e z (c .before .before .before .before .before .before .before .before .before .find-emptied .ensures (d .volume) _ (d .tabled))))
 
 pub release-tables-spec : {M : Type 1} → statement M
 release-tables-spec =
@@ -93,9 +96,9 @@ release-tables-spec =
     slice-aggregate-find-emptied
     slice-aggregate-find-emptied-2
     find-emptied-requires
-    array-share-prefix-gone
+    array-share-prefix-emptied
     slice-aggregate-write-change
-    array-share-prefix-ages
+    array-share-prefix-generations
     slice-aggregate-write-change-2
     write-change-requires
     same-length

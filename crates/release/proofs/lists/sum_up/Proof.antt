@@ -5,8 +5,8 @@ use mathlib.Core.List.{List, _++_}
 use Prim.Native.Nat.{ℕ}
 use lib.ListN.{length, replicate}
 use Rattle.calls.proofs.ReleaseFits.{named-few}
-use Rattle.freed.specs.Freeds.{freedsIn}
-use Rattle.freed.proofs.FoundLaws.{found-freed}
+use Rattle.release_sums.specs.Freeds.{freedsIn}
+use Rattle.release_sums.proofs.FoundLaws.{found-freed}
 use Rattle.release.proofs.BatchLaws.{listed-freed}
 use borrow.Author.Needs.{needs}
 use Rattle.release.proofs.lists.sum_up.Statement.{statement}

@@ -9,7 +9,7 @@ use Rattle.wire.proofs.EmitLaws.{emitted}
 use Rattle.calls.specs.ChangeList.{changeBytes}
 use Rattle.calls.specs.Release.{releaseBatch}
 use Rattle.calls.proofs.OutcomeLaws.{answer-short, answer-fits, refused, accepted}
-use Rattle.freed.specs.Freeds.{freedsIn}
+use Rattle.release_sums.specs.Freeds.{freedsIn}
 use Rattle.release.proofs.BatchLaws.{one-batch}
 use borrow.Author.Needs.{needs}
 use Rattle.release.proofs.lists.write_change.Statement.{statement}
@@ -22,7 +22,7 @@ returns : tie.Need-returns
 returns c =
     λ d.
     let a = c .before .before .before .before .before .before .before .before .before .before .before in
-    let b = releaseBatch (d .laid .volume) (freedsIn (a .args .s .now) (a .args .requests .now)) in
+    let b = releaseBatch (d .tables .volume) (freedsIn (a .args .s .now) (a .args .requests .now)) in
     refused 21 _ (answer-short _ _ (omega (arith, a .good, c .before .change-length .ensures d, ap length (one-batch b), c .if1 .taken))) (a .pre .1)
 
 free-and-cut-requires : tie.Need-free-and-cut-requires
@@ -35,7 +35,7 @@ returns-2 : tie.Need-returns-2
 returns-2 c =
     λ d.
     let a = c .before .before .before .before .before .before .before .before .before .before .before .before .before .before .before in
-    let b = releaseBatch (d .laid .volume) (freedsIn (a .args .s .now) (a .args .requests .now)) in
+    let b = releaseBatch (d .tables .volume) (freedsIn (a .args .s .now) (a .args .requests .now)) in
     let w = emitted (sym (one-batch b)) (c .before .before .free-and-cut .ensures d) in
     let f : length (changeBytes (b ∷ [])) ≤ length (a .args .out .now) = omega (arith, a .good, c .before .before .before .before .before .change-length .ensures d, ap length (one-batch b), c .before .before .before .before .if1 .left) in
     let g = fits (a .args .out .now) w (omega (arith, a .good)) (omega (arith, a .good, w .next, f)) in

@@ -1,0 +1,4 @@
+pub mod PieceLaws
+pub mod PlaceRowLaws
+pub mod RowLaws
+pub mod TallyLaws

@@ -1,0 +1,153 @@
+-- Laws of tallies. Assumes nothing.
+use mathlib.Core.Path.{_≡_, refl, sym, ap, _∙_}
+use mathlib.Core.Bool.{Bool, true, false, cond}
+use mathlib.Core.List.{List, [], _∷_, _++_, map}
+use Prim.Native.Nat.{ℕ, _+_, _-_, _*_, _≤_, _<_}
+use native.Mathlib.Omega.{arith}
+use native.Mathlib.Nat.{zero-mul, suc-mul, add-comm}
+use lib.ListN.{length, length-append}
+use lib.Dec.{eqb}
+use borrow.Author.Tests.{eq-eqb, ne-eqb}
+use Rattle.calls.specs.Lists.{those, total}
+use Rattle.calls.specs.CallList.{Piece}
+use Rattle.accounting.specs.Tally.{tallyOf, ofKind, sum, Small}
+use Rattle.accounting.specs.declared.tally.Tally.{Tally}
+use Rattle.accounting.specs.declared.tally.Tallies.{Tallies}
+
+-- lists
+
+pub those-next : {A : Type 0} (t : A → Bool) (x : A) (xs : List A) → those t (x ∷ xs) ≡ those t (x ∷ []) ++ those t xs
+unfolding those
+those-next t x xs = go (t x)
+  where
+    go : (b : Bool) → cond b (x ∷ those t xs) (those t xs) ≡ cond b (x ∷ []) [] ++ those t xs
+    go true = refl
+    go false = refl
+
+pub those-one : {A : Type 0} (t : A → Bool) (x : A) → t x ≡ true → those t (x ∷ []) ≡ x ∷ []
+unfolding those
+those-one t x e = simp e
+
+pub those-other : {A : Type 0} (t : A → Bool) (x : A) → t x ≡ false → those t (x ∷ []) ≡ []
+unfolding those
+those-other t x e = simp e
+
+pub those-map : {A B : Type 0} (g : A → B) (t : B → Bool) (l : List A) → map g (those (λ x. t (g x)) l) ≡ those t (map g l)
+unfolding those
+those-map g t [] = refl
+those-map g t (x ∷ l) = go (t (g x)) (those-map g t l)
+  where
+    go : (b : Bool) → map g (those (λ x. t (g x)) l) ≡ those t (map g l)
+        → map g (cond b (x ∷ those (λ x. t (g x)) l) (those (λ x. t (g x)) l)) ≡ cond b (g x ∷ those t (map g l)) (those t (map g l))
+    go true e = ap (λ r. g x ∷ r) e
+    go false e = e
+
+pub total-map : {A B : Type 0} (g : A → B) (f : B → ℕ) (l : List A) → total (λ x. f (g x)) l ≡ total f (map g l)
+unfolding total
+total-map g f [] = refl
+total-map g f (x ∷ l) = ap (λ (n : ℕ). f (g x) + n) (total-map g f l)
+
+pub total-append : {A : Type 0} (f : A → ℕ) (a b : List A) → total f (a ++ b) ≡ total f a + total f b
+unfolding total
+total-append f [] b = omega arith
+total-append f (x ∷ a) b = rw (total-append f a b) (omega arith)
+
+-- the same number for each
+pub total-same : {A : Type 0} (f : A → ℕ) (n : ℕ) → ((x : A) → f x ≡ n) → (l : List A) → total f l ≡ length l * n
+unfolding total
+total-same f n h [] = sym (zero-mul n)
+total-same f n h (x ∷ l) = rw (h x, total-same f n h l) (add-comm n (length l * n) ∙ sym (suc-mul (length l) n))
+
+-- tallies
+
+pub tally-equal : (a b : Tally) → a .count ≡ b .count → a .file ≡ b .file → a .stored ≡ b .stored → a ≡ b
+tally-equal a b c f s = λ x. record { count = c x; file = f x; stored = s x }
+
+tally-append : (a b : List Piece) → tallyOf (a ++ b) ≡ sum (tallyOf a) (tallyOf b)
+tally-append a b = tally-equal _ _ (length-append a b) (total-append _ a b) (total-append _ a b)
+
+sum-assoc : (a b c : Tally) → sum (sum a b) c ≡ sum a (sum b c)
+sum-assoc a b c = tally-equal _ _ (omega arith) (omega arith) (omega arith)
+
+pub sum-none : (a : Tally) → sum a (tallyOf []) ≡ a
+unfolding total
+sum-none a = tally-equal _ _ (omega arith) (omega arith) (omega arith)
+
+pub tally-none : _≡_ {A = Tally} (record { count = 0; file = 0; stored = 0 }) (tallyOf [])
+unfolding total
+tally-none = refl
+
+pub tally-one : (t : Tally) (p : Piece)
+    → _≡_ {A = Tally} (record { count = t .count + 1; file = t .file + p .file; stored = t .stored + p .stored }) (sum t (tallyOf (p ∷ [])))
+unfolding total
+tally-one t p = tally-equal _ _ refl (omega arith) (omega arith)
+
+pub kind-one : (kind : ℕ) (p : Piece) → p .kind ≡ kind → ofKind kind (p ∷ []) ≡ p ∷ []
+unfolding ofKind
+kind-one kind p e = those-one (λ p. eqb (p .kind) kind) p (eq-eqb (p .kind) kind e)
+
+pub kind-other : (kind : ℕ) (p : Piece) → (p .kind ≡ kind → ⊥) → ofKind kind (p ∷ []) ≡ []
+unfolding ofKind
+kind-other kind p e = those-other (λ p. eqb (p .kind) kind) p (ne-eqb (p .kind) kind e)
+
+pub kind-next : (kind : ℕ) {l : List Piece} {p : Piece} {rest : List Piece} → l ≡ p ∷ rest → ofKind kind l ≡ ofKind kind (p ∷ []) ++ ofKind kind rest
+unfolding ofKind
+kind-next kind {p = p} {rest = rest} e = ap (ofKind kind) e ∙ those-next (λ p. eqb (p .kind) kind) p rest
+
+-- the pass: a tally and what is left are the tally of all
+pub record Tallying (t : Tally) (rest all : List Piece) (i : ℕ) : Type 0 where
+  pub sums : sum t (tallyOf rest) ≡ tallyOf all
+  pub small : Small i t
+
+pub tallying-first : {t : Tally} (all : List Piece) → t ≡ tallyOf [] → Tallying t all all 0
+unfolding total
+tallying-first all e =
+    record {
+      sums = rw e (tally-equal _ _ (omega arith) (omega arith) (omega arith));
+      small = rw e (record { count = omega arith; file = omega arith; stored = omega arith });
+    }
+
+pub tallying-next : {t r : Tally} {rest after all : List Piece} {i : ℕ} (step : List Piece) → Tallying t rest all i → rest ≡ step ++ after → r ≡ sum t (tallyOf step)
+    → Small 1 (tallyOf step) → Tallying r after all (i + 1)
+tallying-next {t = t} {r = r} {after = after} {i = i} step q e f s =
+    let c : r .count ≡ t .count + length step = ap (λ (x : Tally). x .count) f in
+    let g : r .file ≡ t .file + tallyOf step .file = ap (λ (x : Tally). x .file) f in
+    let h : r .stored ≡ t .stored + tallyOf step .stored = ap (λ (x : Tally). x .stored) f in
+    record {
+      sums =
+          ap (λ (x : Tally). sum x (tallyOf after)) f ∙ sum-assoc t (tallyOf step) (tallyOf after) ∙ ap (sum t) (sym (tally-append step after))
+          ∙ ap (λ l. sum t (tallyOf l)) (sym e)
+          ∙ q .sums;
+      small =
+          record {
+            count = omega (arith, q .small .count, s .count);
+            file = omega (arith, q .small .file, s .file);
+            stored = omega (arith, q .small .stored, s .stored);
+          };
+    }
+
+pub tallying-end : {t : Tally} {rest all : List Piece} {i : ℕ} → Tallying t rest all i → rest ≡ [] → t ≡ tallyOf all
+tallying-end {t = t} q e = sym (sum-none t) ∙ ap (λ l. sum t (tallyOf l)) (sym e) ∙ q .sums
+
+pub small-one : (p : Piece) → p .file < 65536 → p .stored < 65536 → Small 1 (tallyOf (p ∷ []))
+unfolding total
+small-one p f s = record { count = omega arith; file = omega arith; stored = omega arith }
+
+pub small-kind : (kind : ℕ) (p : Piece) → p .file < 65536 → p .stored < 65536 → Small 1 (tallyOf (ofKind kind (p ∷ [])))
+unfolding ofKind those total
+small-kind kind p f s = go (eqb (p .kind) kind)
+  where
+    go : (b : Bool) → Small 1 (tallyOf (cond b (p ∷ []) []))
+    go true = small-one p f s
+    go false = record { count = omega arith; file = omega arith; stored = omega arith }
+
+pub small-more : {m n : ℕ} {t : Tally} → m ≤ n → Small m t → Small n t
+small-more h s = record { count = omega (arith, s .count); file = omega (arith, s .file); stored = omega (arith, s .stored) }
+
+pub kind-none : (kind : ℕ) {l : List Piece} → l ≡ [] → ofKind kind l ≡ []
+unfolding ofKind those
+kind-none kind e = ap (ofKind kind) e
+
+pub tallies-equal : (a b : Tallies) → a .all ≡ b .all → a .«kind_2» ≡ b .«kind_2» → a .«kind_3» ≡ b .«kind_3» → a .«kind_4» ≡ b .«kind_4»
+    → a .«kind_5» ≡ b .«kind_5» → a ≡ b
+tallies-equal a b p q r s t = λ x. record { all = p x; «kind_2» = q x; «kind_3» = r x; «kind_4» = s x; «kind_5» = t x }

@@ -1,0 +1,2 @@
+pub mod RowBytes
+pub mod Tally

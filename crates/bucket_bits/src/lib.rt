@@ -1,0 +1,2 @@
+// 65,536 bits, one for each bucket.
+pub mod marks;

@@ -1,0 +1,2 @@
+pub mod FieldLists
+pub mod LruLaws

@@ -1,6 +1,0 @@
-pub mod Bits
-pub mod Checked
-pub mod Requests
-pub mod Runs
-pub mod Times
-pub mod Walks

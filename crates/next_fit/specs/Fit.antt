@@ -1,0 +1,30 @@
+-- Next fit, one piece after the other: which bucket is open, and how much of it is used.
+use Prim.Native.Nat.{ℕ, _+_}
+use mathlib.Core.List.{List, [], _∷_}
+use Rattle.calls.specs.Pieces as layouts
+use Rattle.calls.specs.Pieces.{nextFit}
+use Rattle.reader.specs.declared.piece.Piece.{Piece}
+use Rattle.next_fit.specs.declared.slot.Open.{Open}
+use Rattle.next_fit.specs.declared.slot.Slot.{Slot}
+
+-- a slot as the code holds it
+abbrev pub slotIn : Slot → layouts.Slot
+slotIn s = record { index = s .index; offset = s .offset }
+
+-- at first the first bucket is open, and none of it is used
+abbrev pub unused : Open
+unused = record { index = 0; used = 0 }
+
+-- the bucket that is open once a piece of z sectors is in the first of these slots
+unfoldable pub filled : Open → ℕ → List layouts.Slot → Open
+filled o z [] = o
+filled o z (t ∷ ts) = record { index = t .index; used = t .offset + z }
+
+-- the bucket that is open after a piece: that of its slot by next fit
+unfoldable pub fitPiece : ℕ → Open → Piece → Open
+fitPiece bucket o p = filled o (p .stored) (nextFit bucket (o .index) (o .used) (p .stored ∷ []))
+
+-- the bucket that is open after each of some pieces
+unfoldable pub lay : ℕ → Open → List Piece → Open
+lay bucket o [] = o
+lay bucket o (p ∷ ps) = lay bucket (fitPiece bucket o p) ps

@@ -1,0 +1,73 @@
+-- `extents::put_extents` meets its contract. The invariant is `Placing`. Assumes nothing.
+use native.Mathlib.Omega.{arith}
+use Prim.Native.Nat.{_-_}
+use lib.ListN.{length}
+use Rattle.wire.specs.Encode.{keyField}
+use Rattle.calls.specs.Extents.{extentKey}
+use Rattle.reader.specs.Heads.{headIn}
+use Rattle.wire.proofs.OutputLaws.{part-length}
+use Rattle.place_keys.specs.Plan.{Plan}
+use Rattle.place_keys.proofs.WalkLaws.{Placing, placing-first, placing-next, placing-end}
+use Rattle.place_keys.proofs.extents.put_extents.Statement.{statement}
+use Rattle.place_keys.proofs.extents.put_extents.Tie as tie
+
+abbrev Inv-loop : tie.InvT-loop
+Inv-loop out₀ at s pieces taken gens h p₀ o₀ i₀ out p o i = (plan : Plan s pieces taken gens h) → Placing plan (keyField 0) (extentKey (headIn h)) out₀ at out p o i
+
+abbrev μ-loop : tie.MeasureT-loop
+μ-loop out₀ at s pieces taken gens h p₀ o₀ i₀ out p o i = length pieces - i
+
+start-requires : tie.Need-start-requires Inv-loop μ-loop
+start-requires c κs = tt
+
+loop-holds : tie.Need-loop-holds Inv-loop μ-loop
+loop-holds c = λ plan. rw (c .start .ensures) (placing-first plan _ _ _ _ (omega arith))
+
+place-piece-requires : tie.Need-place-piece-requires Inv-loop μ-loop
+place-piece-requires c κs =
+    let l = c .before in
+    let a = l .before .before .before .before .before .before .before in
+    (a .pre, (omega arith, l .loop .inv (a .pre) .reached))
+
+put-extent-requires : tie.Need-put-extent-requires Inv-loop μ-loop
+put-extent-requires c κs = let k = c .before .before in (c .before .before .before .before .before .before .before .before .before .before .before .pre .option, k .place-piece .ensures .bounded)
+
+add-i : tie.Need-add-i Inv-loop μ-loop
+add-i c = omega arith
+
+loop-less : tie.Need-loop-less Inv-loop μ-loop
+loop-less c = omega arith
+
+loop-again : tie.Need-loop-again Inv-loop μ-loop
+loop-again c =
+    let k = c .before .before .before in
+    let l = k .before .before .before .before .before in
+    λ plan. placing-next plan _ _ (l .loop .inv plan) (k .before .before .before .place-piece .ensures) (k .put-extent .ensures)
+
+same-length : tie.Need-same-length Inv-loop μ-loop
+same-length c =
+    let l = c .before in
+    let a = l .before .before .before .before .before .before .before in
+    part-length (l .loop .inv (a .pre) .part)
+
+returns : tie.Need-returns Inv-loop μ-loop
+returns c =
+    let l = c .before in
+    let a = l .before .before .before .before .before .before .before in
+    placing-end (a .pre) _ _ (l .loop .inv (a .pre)) (omega arith)
+
+pub put-extents-spec : {M : Type 1} → statement M
+put-extents-spec =
+    tie.close
+    (tie.spec
+    Inv-loop
+    μ-loop
+    start-requires
+    loop-holds
+    place-piece-requires
+    put-extent-requires
+    add-i
+    loop-less
+    loop-again
+    same-length
+    returns)

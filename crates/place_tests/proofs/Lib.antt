@@ -1,0 +1,4 @@
+pub mod ChoiceLaws
+pub mod RefusalLaws
+pub mod RequestLaws
+pub mod SizedLaws

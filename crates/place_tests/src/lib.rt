@@ -1,0 +1,3 @@
+// What a placement asks: refusals 4 to 13.
+pub mod refusals;
+pub mod requests;

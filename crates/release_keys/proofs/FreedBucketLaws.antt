@@ -1,0 +1,140 @@
+-- The freed buckets that no refusal stops. Assumes nothing.
+use mathlib.Core.Bool.{true}
+use mathlib.Core.Path.{_≡_, sym, ap, _∙_}
+use mathlib.Core.List.{List, [], _∷_, map}
+use Prim.Native.Nat.{ℕ, zero, suc, _+_, _≤_, _<_}
+use native.Mathlib.Omega.{arith}
+use lib.ListN.{length, getD, drop, length-map, drop-of-length-le, List·getD-map}
+use Rattle.wire.specs.Keys.{Key}
+use Rattle.wire.specs.Kinds.{noBucket, bucketsIn, bucketInRange}
+use Rattle.wire.specs.declared.kinds.Bucket.{Bucket}
+use Rattle.wire.proofs.OutputLaws.{drop-next}
+use Rattle.format.specs.Packing.{get}
+use Rattle.format.specs.AllocV4.{dirtySectors}
+use Rattle.calls.specs.CallList.{Volume, Freed}
+use Rattle.calls.specs.Lists.{allOf}
+use Rattle.calls.specs.Refusals.{verdict}
+use Rattle.calls.specs.Release.{freedBuckets, bucketRefusal}
+use Rattle.calls.proofs.RefusalLaws.{verdict-ok}
+use Rattle.calls.proofs.ReleaseLaws.{Held, held-of}
+use Rattle.calls.proofs.View.{bucket}
+use Rattle.reader.specs.KeyHere.{keyHere, Whole}
+use Rattle.release_sums.proofs.FreedLaws.{all-drop, all-first}
+use Rattle.release_keys.specs.FreedBuckets.{freedBucketOf}
+use Rattle.release_keys.specs.declared.freed_buckets.FreedBucket.{FreedBucket}
+use Rattle.release_keys.specs.Tables.{FreedEntry, FreedTables, Unrefused}
+use Rattle.release_keys.proofs.PlaceLaws.{place-some, place-found}
+use Rattle.release_keys.proofs.RefusalLaws.{dirty-is}
+
+-- the bucket at an index
+pub bucket-at : (ns : List ℕ) (k : ℕ) → getD (bucketsIn ns) k noBucket ≡ bucket (getD ns k 0)
+unfolding bucketsIn
+bucket-at ns k = List·getD-map bucket ns k 0
+
+-- as many as there are numbers
+pub buckets-length : (ns : List ℕ) → length (bucketsIn ns) ≡ length ns
+unfolding bucketsIn
+buckets-length ns = length-map ns bucket
+
+-- what is left from an index on: the bucket there, and the rest
+pub buckets-next : (ns : List ℕ) (k : ℕ) → k < length ns → drop k (bucketsIn ns) ≡ bucket (getD ns k 0) ∷ drop (k + 1) (bucketsIn ns)
+buckets-next ns k h =
+    drop-next noBucket (bucketsIn ns) k (omega (arith, buckets-length ns))
+    ∙ ap (λ (b : Bucket). b ∷ drop (k + 1) (bucketsIn ns)) (bucket-at ns k)
+
+pub buckets-none : (ns : List ℕ) (k : ℕ) → length ns ≤ k → drop k (bucketsIn ns) ≡ []
+buckets-none ns k h = let l : length (bucketsIn ns) ≤ k = omega (arith, buckets-length ns) in drop-of-length-le (bucketsIn ns) l
+
+-- each is within the limit
+pub range-at : (ns : List ℕ) → allOf bucketInRange (bucketsIn ns) ≡ true → (k : ℕ) → k < length ns → bucketInRange (bucket (getD ns k 0)) ≡ true
+range-at ns o k h = all-first bucketInRange (buckets-next ns k h) (all-drop bucketInRange k (bucketsIn ns) o)
+
+-- what the tables say of the bucket at an index
+pub entry-at : {s : List ℕ} {v : Volume} {rs : List Freed} {buckets freed places : List ℕ} → FreedTables s v rs buckets freed places → (k : ℕ) → k < length buckets
+    → FreedEntry s v rs (bucket (getD buckets k 0)) (getD freed k 0) (getD places k 0)
+entry-at {buckets = buckets} t k h = rw (bucket-at buckets k) at (t .at k h)
+
+-- a test over the buckets of tables is one over those that requests name
+pub tabled-verdict : {s : List ℕ} {v : Volume} {rs : List Freed} {buckets freed places : List ℕ} {sectors : ℕ} → FreedTables s v rs buckets freed places
+    → v .head .bucketSectors ≡ sectors
+    → verdict (map (bucketRefusal v rs) (bucketsIn buckets)) ≡ verdict (map (bucketRefusal v rs) (freedBuckets sectors rs))
+tabled-verdict {v = v} {rs} t e =
+    ap (λ (l : List Bucket). verdict (map (bucketRefusal v rs) l)) (t .named ∙ ap (λ (n : ℕ). freedBuckets n rs) e)
+
+-- ---- no bucket refuses
+verdict-drop : (f : Bucket → ℕ) (k : ℕ) (bs : List Bucket) → verdict (map f bs) ≡ 0 → verdict (map f (drop k bs)) ≡ 0
+verdict-drop f zero bs h = h
+verdict-drop f (suc k) [] h = h
+verdict-drop f (suc k) (b ∷ bs) h = verdict-drop f k bs (verdict-ok (f b) (map f bs) h .1)
+
+verdict-first : (f : Bucket → ℕ) {l : List Bucket} {b : Bucket} {rest : List Bucket} → l ≡ b ∷ rest → verdict (map f l) ≡ 0 → f b ≡ 0
+verdict-first f {b = b} {rest = rest} e h = verdict-ok (f b) (map f rest) (sym (ap (λ (l : List Bucket). verdict (map f l)) e) ∙ h) .0
+
+-- what stands at a place that the refusals passed
+pub record AllocHeld (s : List ℕ) (sectors sum place : ℕ) : Type 0 where
+  pub there : Whole s place
+  pub long : 56 ≤ length (keyHere s place .value)
+  pub small : get dirtySectors (keyHere s place .value) ≤ sectors
+  pub held : sum ≤ get dirtySectors (keyHere s place .value)
+
+module _ {s buckets freed places : List ℕ} (p : Unrefused s buckets freed places) (k : ℕ) (h : k < length buckets) where
+  pub held-at : Held (p .volume) (p .requests) (bucket (getD buckets k 0))
+  held-at =
+      let e = ap (drop k) (sym (p .tabled .named)) ∙ buckets-next buckets k h in
+      held-of (p .volume) (p .requests) (bucket (getD buckets k 0))
+      (verdict-first (bucketRefusal (p .volume) (p .requests)) e (verdict-drop (bucketRefusal (p .volume) (p .requests)) k _ (p .none-refuses)))
+
+  pub ready : AllocHeld s (p .volume .head .bucketSectors) (getD freed k 0) (getD places k 0)
+  ready =
+      let t = entry-at (p .tabled) k h in
+      let d = held-at in
+      let a = place-found (t .key) (d .found) in
+      let e = a .is in
+      record {
+        there = a .whole;
+        long = omega (arith, d .long, ap (λ (x : Key). length (x .value)) e);
+        small = omega (arith, d .small, ap (λ (x : Key). get dirtySectors (x .value)) e);
+        held = omega (arith, d .held, t .freed, ap (λ (x : Key). get dirtySectors (x .value)) e);
+      }
+
+-- the freed bucket that any tables of these lists hold
+pub freed-bucket-is : {s : List ℕ} {v : Volume} {rs : List Freed} {b : Bucket} {sum place d sectors : ℕ} → FreedEntry s v rs b sum place → AllocHeld s sectors sum place
+    → d ≡ get dirtySectors (keyHere s place .value) → _≡_ {A = FreedBucket} (record { bucket = b; dirty = d; freed = sum }) (freedBucketOf v rs b)
+unfolding freedBucketOf
+freed-bucket-is {v = v} {rs} {b} {place = place} a r e =
+    let q = place-some (a .key) (omega (arith, r .there .after)) .0 in
+    rw (dirty-is v rs b _ q, ← a .freed, e)
+
+-- the freed bucket at an index, by its number
+pub by-number : (v : Volume) (rs : List Freed) (buckets : List ℕ) (k : ℕ) {x : FreedBucket} → x ≡ freedBucketOf v rs (getD (bucketsIn buckets) k noBucket)
+    → x ≡ freedBucketOf v rs (bucket (getD buckets k 0))
+by-number v rs buckets k e = e ∙ ap (freedBucketOf v rs) (bucket-at buckets k)
+
+-- a bucket holds what is freed of it
+pub freed-held : {s buckets freed places : List ℕ} (p : Unrefused s buckets freed places) (k : ℕ) → k < length buckets → (x : FreedBucket)
+    → ((v : Volume) (rs : List Freed) → FreedTables s v rs buckets freed places → x ≡ freedBucketOf v rs (getD (bucketsIn buckets) k noBucket)) → x .freed ≤ x .dirty
+unfolding freedBucketOf
+freed-held {buckets = buckets} p k h x e =
+    let d = held-at p k h in
+    let i = by-number (p .volume) (p .requests) buckets k (e (p .volume) (p .requests) (p .tabled)) in
+    omega (
+      arith,
+      ap (λ (y : FreedBucket). y .freed) i,
+      ap (λ (y : FreedBucket). y .dirty) i,
+      d .held,
+      dirty-is (p .volume) (p .requests) (bucket (getD buckets k 0)) (d .key) (d .found),
+    )
+
+-- a bucket holds no more than it has
+pub freed-small : {s buckets freed places : List ℕ} (p : Unrefused s buckets freed places) (k : ℕ) → k < length buckets → (x : FreedBucket)
+    → ((v : Volume) (rs : List Freed) → FreedTables s v rs buckets freed places → x ≡ freedBucketOf v rs (getD (bucketsIn buckets) k noBucket))
+    → x .dirty ≤ p .volume .head .bucketSectors
+unfolding freedBucketOf
+freed-small {buckets = buckets} p k h x e =
+    let d = held-at p k h in
+    omega (
+      arith,
+      ap (λ (y : FreedBucket). y .dirty) (by-number (p .volume) (p .requests) buckets k (e (p .volume) (p .requests) (p .tabled))),
+      d .small,
+      dirty-is (p .volume) (p .requests) (bucket (getD buckets k 0)) (d .key) (d .found),
+    )

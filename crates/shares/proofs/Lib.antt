@@ -1,8 +1,0 @@
-pub mod PlaceLaws
-pub mod AllocLaws
-pub mod RefusalLaws
-pub mod ShareLaws
-pub mod FieldBytesLaws
-pub mod KeyLaws
-pub mod QueueLaws
-pub mod CountLaws

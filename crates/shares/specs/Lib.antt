@@ -1,8 +1,0 @@
-pub mod Places
-pub mod Buckets
-pub mod Skipping
-pub mod Tables
-pub mod Shares
-pub mod FieldBytes
-pub mod Queueing
-pub mod Counting

@@ -1,4 +1,0 @@
-pub mod FieldLists
-pub mod PieceLaws
-pub mod RowLaws
-pub mod TallyLaws

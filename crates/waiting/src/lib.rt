@@ -1,3 +1,0 @@
-// Waiting: which buckets that wait are discarded, by their need-discard and alloc keys.
-pub mod freed;
-pub mod waiting;
