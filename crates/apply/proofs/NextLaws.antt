@@ -33,7 +33,7 @@ use Rattle.calls.proofs.Blocks.{field, flat, gather, keeps}
 use Rattle.reader.proofs.BoolLaws.{same}
 use Rattle.merge.specs.Entries.{sections, bucketKey, entries, fieldFor, sectionBytes}
 use Rattle.merge.specs.Weights.{keyFits, sectionWithin}
-use Rattle.apply.specs.Roots.{rootsIn, frontBytes}
+use Rattle.apply.specs.Roots.{rootsAfter, frontBytes}
 use Rattle.apply.proofs.BatchLaws.{tree-changes, bucket-changes, head-changes}
 use Rattle.apply.proofs.VolumeLaws.{entries-bodies, tree-entry, tree-keys, bucket-keys, SectionOf, Parted}
 use Rattle.apply.proofs.RootLaws.{roots-listed}
@@ -142,11 +142,11 @@ unfoldable pub nextBytes : List ℕ → List ℕ → ℕ → List ℕ
 nextBytes vol list t = sectionBytes t (nextOf vol list t)
 
 module _ {vol : List ℕ} (list : List ℕ) (p : Parted vol) (l : changeLaidOut list ≡ true) where
-  next-front : encodeField (field 1 (headBody (nextVolume vol list .head))) ≡ frontBytes (readVolume vol .head) list
+  next-front : encodeField (field 1 (headBody (nextVolume vol list .head))) ≡ frontBytes (readVolume vol .head) (rootsAfter list (readVolume vol .head .roots))
   unfolding frontBytes
   next-front = ap (λ (h : Head). encodeField (field 1 (headBody h))) (head-changes list (readVolume vol))
 
-  pub next-bytes : volumeBytes (nextVolume vol list) ≡ frontBytes (readVolume vol .head) list ++ each (nextBytes vol list) sections
+  pub next-bytes : volumeBytes (nextVolume vol list) ≡ frontBytes (readVolume vol .head) (rootsAfter list (readVolume vol .head .roots)) ++ each (nextBytes vol list) sections
   unfolding each nextBytes
   next-bytes =
       let n = next-is p l in

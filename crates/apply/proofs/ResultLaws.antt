@@ -33,7 +33,7 @@ use Rattle.merge.specs.Places.{entriesAt}
 use Rattle.merge.specs.Weights.{sectionWithin}
 use Rattle.merge.specs.Merging.{Done}
 use Rattle.merge.proofs.WeightLaws.{light-on}
-use Rattle.apply.specs.Roots.{frontBytes}
+use Rattle.apply.specs.Roots.{rootsAfter, frontBytes}
 use Rattle.apply.specs.NextVolume.{endsOf, queueEnd, Ready, nextKeys, SectionDone, VolumeDone}
 use Rattle.apply.specs.declared.lists.Reached.{Reached}
 use Rattle.apply.proofs.VolumeLaws.{Parted, parted}
@@ -97,13 +97,13 @@ module _
       }
 
 pub sections-end :
-    {out₀ out₁ : List ℕ} {q : ℕ} {vol index list out : List ℕ} {h : Head} {e : Ends} {d : Parts} {at : Reached} {from first i : ℕ} → Parted vol → Ready vol index h e list
-    → Wrote out₀ 0 42 (frontBytes (headIn h) list) out₁ q → Sectioning out₁ q vol list e d out at from first i → 7 ≤ i → VolumeDone out₀ vol list out at
+    {out₀ out₁ : List ℕ} {q : ℕ} {vol index list out : List ℕ} {h : Head} {e : Ends} {d : Parts} {at : Reached} {roots from first i : ℕ} → Parted vol → Ready vol index h e list
+    → roots ≡ rootsAfter list (h .roots) → Wrote out₀ 0 42 (frontBytes (headIn h) roots) out₁ q → Sectioning out₁ q vol list e d out at from first i → 7 ≤ i → VolumeDone out₀ vol list out at
 unfolding allOf
-sections-end {vol = vol} {list = list} {at = at} {i = i} p r f c h =
+sections-end {vol = vol} {list = list} {at = at} {i = i} p r b f c h =
     let n : i ≡ 7 = omega (arith, c .most) in
     let z : drop i sections ≡ [] = ap (λ (n : ℕ). drop n sections) n in
-    let w = then (rw (r .read .head) at f) (end _ refl (c .part) (each-none (nextBytes vol list) z)) in
+    let w = then (rw (b, r .read .head) at f) (end _ refl (c .part) (each-none (nextBytes vol list) z)) in
     record {
       wrote = rw (next-bytes list p (r .change)) (resize (sym (w .size)) w);
       light =

@@ -26,6 +26,10 @@ isRoot id = eqb id 10 || (eqb id 12 || eqb id 14)
 unfoldable pub rootsIn : List Field → List ℕ
 rootsIn fs = map (le 1) (bodies 70 fs)
 
+-- the root bits after a change list
+abbrev pub rootsAfter : List ℕ → ℕ → ℕ
+rootsAfter list roots = setRoots (rootsIn (fields list)) roots
+
 -- a field 70 whose body starts at a place names a root
 abbrev pub NamesRoot : List ℕ → ℕ → ℕ → Type 0
 NamesRoot s tag start = tag ≡ 70 → (start < length s) × (isRoot (getD s start 0) ≡ true)
@@ -38,6 +42,6 @@ pub record Rooted (r is : ℕ) : Type 0 where
   pub same : r ≡ is
   pub low : r < 8
 
--- field 1 of a volume with the root bits after a change list
-unfoldable pub frontBytes : Head → List ℕ → List ℕ
-frontBytes h list = encodeField (record { tag = 1; body = headBody (withRoots h (setRoots (rootsIn (fields list)) (h .roots))) })
+-- field 1 of a volume with other root bits
+unfoldable pub frontBytes : Head → ℕ → List ℕ
+frontBytes h roots = encodeField (record { tag = 1; body = headBody (withRoots h roots) })

@@ -2,12 +2,10 @@
 ghost use mathlib.Core.Path.{_≡_};
 ghost use mathlib.Core.Bool.{true};
 ghost use Prim.Native.Nat.{_+_, _<_};
-ghost use Rattle.wire.specs.Fields.{fields};
 ghost use Rattle.wire.specs.Output.{Wrote};
-ghost use Rattle.calls.specs.Apply.{setRoots};
 ghost use Rattle.calls.specs.ChangeList.{changeLaidOut};
 ghost use Rattle.reader.specs.Heads.{headIn};
-ghost use Rattle.apply.specs.Roots.{withBit, withRoot, isRoot, rootsIn, NamesRoot, Rooted, afterField, frontBytes};
+ghost use Rattle.apply.specs.Roots.{withBit, withRoot, isRoot, rootsAfter, NamesRoot, Rooted, afterField, frontBytes};
 use reader::head;
 use reader::head::Head;
 use wire::fields;
@@ -50,9 +48,9 @@ fn after_field(list: &[u8], roots: u8, tag: u8, start: usize) -> u8
 }
 
 // The root bits after a change list, whose layout was tested, as the volume's was.
-fn roots_after(list: &[u8], roots: u8) -> u8
+pub fn roots_after(list: &[u8], roots: u8) -> u8
     requires { ⌜ (roots < 8) × (changeLaidOut (now list) ≡ true) ⌝ }
-    ensures { λ r. ⌜ Rooted r (setRoots (rootsIn (fields (now (list .entry)))) roots) ⌝ }
+    ensures { λ r. ⌜ Rooted r (rootsAfter (now (list .entry)) roots) ⌝ }
 {
     let mut at: usize = 0;
     let mut r = roots;
@@ -65,12 +63,11 @@ fn roots_after(list: &[u8], roots: u8) -> u8
     }
 }
 
-// Field 1: the volume's head with other root bits. The volume's layout shows that its root bits are low.
-pub fn put_front(out: &mut [u8], h: Head, list: &[u8]) -> usize
-    requires { ⌜ (h .roots < 8) × (changeLaidOut (now list) ≡ true) ⌝ }
-    ensures { λ r. ⌜ Wrote (now (out .entry)) 0 42 (frontBytes (headIn h) (now (list .entry))) (now (out .exit)) r ⌝ }
+// Field 1: the volume's head with other root bits.
+pub fn put_front(out: &mut [u8], h: Head, roots: u8) -> usize
+    ensures { λ r. ⌜ Wrote (now (out .entry)) 0 42 (frontBytes (headIn h) roots) (now (out .exit)) r ⌝ }
 {
     let mut next = h;
-    next.roots = roots_after(list, h.roots);
+    next.roots = roots;
     head::put_head(out, 0, next)
 }

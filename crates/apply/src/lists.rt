@@ -7,6 +7,7 @@ ghost use Rattle.calls.specs.Answers.{apply, made, outcome};
 ghost use Rattle.merge.specs.Entries.{sections};
 ghost use Rattle.merge.specs.Merging.{Done};
 ghost use Rattle.merge.specs.QueueTable.{InParts};
+ghost use Rattle.apply.specs.Roots.{rootsAfter};
 ghost use Rattle.apply.specs.NextVolume.{endsOf, queueEnd, Ready, SectionReady, QueueReady, nextKeys, SectionDone, VolumeDone};
 use crate::front;
 use merge::below::Spot;
@@ -114,21 +115,22 @@ fn put_next(
     }
 }
 
-// The next volume. The layouts of both lists were tested, and the tables are theirs.
+// The next volume. The layouts of both lists were tested, and the tables are theirs; `roots_after` gives the root bits.
 fn put_volume(
     out: &mut [u8],
     vol: &[u8],
     index: &[u32],
     h: Head,
+    roots: u8,
     e: Ends,
     list: &[u8],
     table: &[u32],
     q: Parts,
 ) -> Reached
-    requires { ⌜ Ready (now vol) (now index) h e (now list) × InParts (now list) (now table) q ⌝ }
+    requires { ⌜ Ready (now vol) (now index) h e (now list) × InParts (now list) (now table) q × (roots ≡ rootsAfter (now list) (h .roots)) ⌝ }
     ensures { λ r. ⌜ VolumeDone (now (out .entry)) (now (vol .entry)) (now (list .entry)) (now (out .exit)) r ⌝ }
 {
-    let p = front::put_front(out, h, list);
+    let p = front::put_front(out, h, roots);
     let mut at = Reached { p, w: 0 };
     let mut from: usize = 0;
     let mut first: usize = 0;
@@ -169,8 +171,9 @@ fn write_volume(
     ensures { λ r. ⌜ made r (now (written .exit)) (now (out .exit)) ≡ outcome (apply (now (vol .entry)) (now (list .entry)) (length (now (out .entry)))) (now (out .entry)) ⌝ }
 {
     *written = 0;
+    let roots = front::roots_after(list, h.roots);
     let mut dry = [0u8; 1];
-    let d = put_volume(&mut dry, vol, index, h, e, list, table, q);
+    let d = put_volume(&mut dry, vol, index, h, roots, e, list, table, q);
     if 4096 < d.w {
         return 3;
     }
@@ -178,7 +181,7 @@ fn write_volume(
     if out.len() < n {
         return 21;
     }
-    put_volume(out, vol, index, h, e, list, table, q);
+    put_volume(out, vol, index, h, roots, e, list, table, q);
     *written = n;
     0
 }

@@ -10,7 +10,7 @@ use Rattle.merge.proofs.PlaceLaws.{at-all}
 use Rattle.apply.specs.NextVolume.{endsOf, queueEnd}
 use Rattle.apply.proofs.VolumeLaws.{parted}
 use Rattle.apply.proofs.PlacedLaws.{Placed, placed-at, Queued, queued-at, section-ready}
-use Rattle.apply.proofs.ResultLaws.{Sectioning, sections-start, sections-on, sections-end, front-ready}
+use Rattle.apply.proofs.ResultLaws.{Sectioning, sections-start, sections-on, sections-end}
 use Rattle.apply.proofs.lists.put_volume.Statement.{statement}
 use Rattle.apply.proofs.lists.put_volume.Tie as tie
 
@@ -21,7 +21,7 @@ abbrev μ-loop : tie.MeasureT-loop
 μ-loop out₀ vol index e list table q p at₀ from₀ first₀ i₀ out at from first i = 7 - i
 
 put-front-requires : tie.Need-put-front-requires Inv-loop μ-loop
-put-front-requires c κs = front-ready (c .before .before .before .before .before .before .pre .0)
+put-front-requires c κs = tt
 
 loop-holds : tie.Need-loop-holds Inv-loop μ-loop
 loop-holds c = sections-start _ _ _ _ _ _ (omega arith)
@@ -114,7 +114,7 @@ same-length c = part-length (c .before .loop .inv .part) ∙ wrote-length (c .be
 returns : tie.Need-returns Inv-loop μ-loop
 returns c =
     let s = c .before .before .before .before .before .before .before .before .before .before .before in
-    sections-end (parted (s .pre .0 .laid)) (s .pre .0) (c .before .before .before .before .put-front .ensures) (c .before .loop .inv) (c .loop-test .left)
+    sections-end (parted (s .pre .0 .laid)) (s .pre .0) (s .pre .2) (c .before .before .before .before .put-front .ensures) (c .before .loop .inv) (c .loop-test .left)
 
 pub put-volume-spec : {M : Type 1} → statement M
 put-volume-spec =

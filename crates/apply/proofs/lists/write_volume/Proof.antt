@@ -6,6 +6,9 @@ use Rattle.apply.proofs.ResultLaws.{gives-3, gives-21, gives-0}
 use Rattle.apply.proofs.lists.write_volume.Statement.{statement}
 use Rattle.apply.proofs.lists.write_volume.Tie as tie
 
+roots-after-requires : tie.Need-roots-after-requires
+roots-after-requires c κs = ?
+
 slice-aggregate-put-volume : tie.Need-slice-aggregate-put-volume
 slice-aggregate-put-volume c = search needs
 
@@ -46,6 +49,7 @@ pub write-volume-spec : {M : Type 1} → statement M
 write-volume-spec =
     tie.close
     (tie.spec
+    roots-after-requires
     slice-aggregate-put-volume
     put-volume-requires
     returns
