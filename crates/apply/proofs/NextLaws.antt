@@ -32,7 +32,7 @@ use Rattle.calls.proofs.BoolLaws.{both, parts}
 use Rattle.calls.proofs.Blocks.{field, flat, gather, keeps}
 use Rattle.reader.proofs.BoolLaws.{same}
 use Rattle.merge.specs.Entries.{sections, bucketKey, entries, fieldFor, sectionBytes}
-use Rattle.merge.specs.Weights.{keyFits, sectionWithin}
+use Rattle.merge.specs.Counts.{keyFits, sectionWithin}
 use Rattle.apply.specs.Roots.{rootsAfter, frontBytes}
 use Rattle.apply.proofs.BatchLaws.{tree-changes, bucket-changes, head-changes}
 use Rattle.apply.proofs.VolumeLaws.{entries-bodies, tree-entry, tree-keys, bucket-keys, SectionOf, Parted}

@@ -20,7 +20,7 @@ use Rattle.reader.specs.declared.table.Ends.{Ends}
 use Rattle.merge.specs.Entries.{entries, sectionBytes}
 use Rattle.merge.specs.Places.{Kept, Stands, entriesAt}
 use Rattle.merge.specs.Queues.{gather, ascending}
-use Rattle.merge.specs.Weights.{sectionWithin}
+use Rattle.merge.specs.Counts.{sectionWithin}
 use Rattle.merge.specs.declared.queue.Parts.{Parts}
 use Rattle.apply.specs.declared.lists.Reached.{Reached}
 
@@ -53,12 +53,12 @@ pub record QueueReady (t : ℕ) (list queue : List ℕ) : Type 0 where
 unfoldable pub nextKeys : ℕ → List ℕ → List ℕ → List ℕ → List Key
 nextKeys t vol keys list = applyQueue (entries t (fields list)) (entriesAt t vol keys)
 
--- they were written, and the weight stays below the limit where it was and they are within theirs
+-- they were written, and the count stays within the limit where it was and they are within theirs
 pub record SectionDone (t : ℕ) (out vol keys list : List ℕ) (a : Reached) (out' : List ℕ) (r : Reached) : Type 0 where
   pub wrote : Wrote out (a .p) (length (sectionBytes t (nextKeys t vol keys list))) (sectionBytes t (nextKeys t vol keys list)) out' (r .p)
-  pub light : leb (r .w) 4096 ≡ (leb (a .w) 4096 && sectionWithin t (nextKeys t vol keys list))
+  pub fits : leb (r .count) 4096 ≡ (leb (a .count) 4096 && sectionWithin t (nextKeys t vol keys list))
 
--- the next volume was written, and the weight tells its limits
+-- the next volume was written, and the count tells its limits
 pub record VolumeDone (out vol list : List ℕ) (out' : List ℕ) (r : Reached) : Type 0 where
   pub wrote : Wrote out 0 (length (volumeBytes (nextVolume vol list))) (volumeBytes (nextVolume vol list)) out' (r .p)
-  pub light : leb (r .w) 4096 ≡ volumeWithin (nextVolume vol list)
+  pub fits : leb (r .count) 4096 ≡ volumeWithin (nextVolume vol list)

@@ -10,17 +10,17 @@ ghost use Rattle.merge.specs.QueueTable.{InParts};
 ghost use Rattle.apply.specs.Roots.{rootsAfter};
 ghost use Rattle.apply.specs.NextVolume.{endsOf, queueEnd, Ready, SectionReady, QueueReady, nextKeys, SectionDone, VolumeDone};
 use crate::front;
-use merge::below::Spot;
+use merge::below::Cursor;
 use merge::merge as merging;
 use merge::queue;
 use merge::queue::Parts;
 use reader::head::Head;
 use reader::table::Ends;
 
-// How far the next volume is written, and the greatest weight of a section so far.
+// How far the next volume is written, and the greatest count of a section so far.
 pub struct Reached {
     pub p: usize,
-    pub w: usize,
+    pub count: usize,
 }
 
 // The section at an index. The loop over the sections shows the bound, here and below.
@@ -55,8 +55,8 @@ fn end_at(e: Ends, i: usize) -> usize
     }
 }
 
-// The greater of two weights.
-fn heavier(a: usize, b: usize) -> usize
+// The larger of two counts.
+fn larger(a: usize, b: usize) -> usize
     ensures { λ r. ⌜ r ≡ max a b ⌝ }
 {
     if a < b { b } else { a }
@@ -84,7 +84,7 @@ fn put_keys(
     queue: &[u32],
     fits: bool,
     section: u8,
-) -> Spot
+) -> Cursor
     requires { ⌜ SectionReady section (now vol) (now keys) × (fits ≡ true → QueueReady section (now list) (now queue)) ⌝ }
     ensures { λ r. ⌜ Done section (now (out .entry)) p (nextKeys section (now (vol .entry)) (now (keys .entry)) (now (list .entry))) (now (out .exit)) r ⌝ }
 {
@@ -94,7 +94,7 @@ fn put_keys(
     merging::put_section_in_chunks(out, p, vol, keys, list, section)
 }
 
-// One section, and the greatest weight of a section so far.
+// One section, and the greatest count of a section so far.
 fn put_next(
     out: &mut [u8],
     from: Reached,
@@ -111,7 +111,7 @@ fn put_next(
     let s = put_keys(out, from.p, vol, keys, list, queue, fits, section);
     Reached {
         p: s.p,
-        w: heavier(from.w, s.w),
+        count: larger(from.count, s.count),
     }
 }
 
@@ -131,7 +131,7 @@ fn put_volume(
     ensures { λ r. ⌜ VolumeDone (now (out .entry)) (now (vol .entry)) (now (list .entry)) (now (out .exit)) r ⌝ }
 {
     let p = front::put_front(out, h, roots);
-    let mut at = Reached { p, w: 0 };
+    let mut at = Reached { p, count: 0 };
     let mut from: usize = 0;
     let mut first: usize = 0;
     let mut i: usize = 0;
@@ -155,7 +155,7 @@ fn put_volume(
     at
 }
 
-// Apply by the tables of both lists: first into no room, which tells the weight and the length.
+// Apply by the tables of both lists: first into no room, which tells the count and the length.
 fn write_volume(
     vol: &[u8],
     index: &[u32],
@@ -174,7 +174,7 @@ fn write_volume(
     let roots = front::roots_after(list, h.roots);
     let mut dry = [0u8; 1];
     let d = put_volume(&mut dry, vol, index, h, roots, e, list, table, q);
-    if 4096 < d.w {
+    if 4096 < d.count {
         return 3;
     }
     let n = d.p;

@@ -5,7 +5,7 @@ pub mod PlaceLaws
 pub mod FillLaws
 pub mod MergeLaws
 pub mod SectionLaws
-pub mod WeightLaws
+pub mod CountLaws
 pub mod GatherLaws
 pub mod SectionNumbers
 pub mod CollectLaws

@@ -1,6 +1,6 @@
 pub mod Queues
 pub mod Entries
 pub mod Places
-pub mod Weights
+pub mod Counts
 pub mod Merging
 pub mod QueueTable

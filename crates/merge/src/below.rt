@@ -15,46 +15,46 @@ use wire::bpos::Bpos;
 use wire::emit;
 use wire::fields;
 
-// A place in the output, an index into the table of the volume's keys, and what the keys written so far weigh.
-pub struct Spot {
+// A place in the output, an index into the table of the volume's keys, and how many keys were written so far, as `limits::add` counts.
+pub struct Cursor {
     pub p: usize,
     pub at: usize,
-    pub w: usize,
+    pub count: usize,
 }
 
-// Neighbouring fields of the volume: the index after their last, where that one ends, and what the keys up to it weigh.
+// Neighbouring fields of the volume: the index after their last, where that one ends, and the count up to it.
 pub struct Stretch {
     pub next: usize,
     pub end: usize,
-    pub w: usize,
+    pub count: usize,
 }
 
 // The volume's keys from an index on that stand side by side from a place on, as far as they are below the limit. The table shows that they are keys.
-fn pass_below(vol: &[u8], keys: &[u32], i: usize, start: usize, weight: usize, section: u8, lim: Bound) -> Stretch
+fn pass_below(vol: &[u8], keys: &[u32], i: usize, start: usize, counted: usize, section: u8, lim: Bound) -> Stretch
     requires { ⌜ All (Stands section (now vol)) (now keys) × (i < length (now keys)) × (start + 3 ≡ getD (now keys) i 0) ⌝ }
-    ensures { λ r. ⌜ Stretched section (now (vol .entry)) (now (keys .entry)) i start weight lim r ⌝ }
+    ensures { λ r. ⌜ Stretched section (now (vol .entry)) (now (keys .entry)) i start counted lim r ⌝ }
 {
     let mut next = i;
     let mut end = start;
-    let mut w = weight;
+    let mut count = counted;
     while next < keys.len() {
         let o = keys[next] as usize;
         if o != end + 3 {
-            return Stretch { next, end, w };
+            return Stretch { next, end, count };
         }
         let x = entries::pos_at(vol, o, section);
         if !bound::is_under(lim, x) {
-            return Stretch { next, end, w };
+            return Stretch { next, end, count };
         }
-        w = limits::add(w, section, entries::type_at(vol, o, section), x);
+        count = limits::add(count, section, entries::type_at(vol, o, section), x);
         end = o + fields::len_at(vol, o);
         next += 1;
     }
-    Stretch { next, end, w }
+    Stretch { next, end, count }
 }
 
 // The volume's keys below the limit, neighbours as one stretch.
-pub fn put_below(out: &mut [u8], vol: &[u8], keys: &[u32], from: Spot, section: u8, lim: Bound) -> Spot
+pub fn put_below(out: &mut [u8], vol: &[u8], keys: &[u32], from: Cursor, section: u8, lim: Bound) -> Cursor
     requires { ⌜ All (Stands section (now vol)) (now keys) × (from .at ≤ length (now keys)) ⌝ }
     ensures { λ r. ⌜ Put section (now (out .entry)) (now (vol .entry)) (now (keys .entry)) from (below lim (keysFrom section (now (vol .entry)) (now (keys .entry)) (from .at))) (beyond lim (keysFrom section (now (vol .entry)) (now (keys .entry)) (from .at))) (now (out .exit)) r ⌝ }
 {
@@ -62,12 +62,12 @@ pub fn put_below(out: &mut [u8], vol: &[u8], keys: &[u32], from: Spot, section: 
     while at.at < keys.len() {
         let i = at.at;
         let start = keys[i] as usize - 3;
-        let s = pass_below(vol, keys, i, start, at.w, section, lim);
+        let s = pass_below(vol, keys, i, start, at.count, section, lim);
         if s.next == i {
             return at;
         }
         let p = emit::put_bytes(out, at.p, vol, start, s.end - start);
-        at = Spot { p, at: s.next, w: s.w };
+        at = Cursor { p, at: s.next, count: s.count };
     }
     at
 }

@@ -1,4 +1,4 @@
-// One section of the next volume: the queued keys merged into the volume's, and their weight. A section is the keys of a tree, or the reserved buckets.
+// One section of the next volume: the queued keys merged into the volume's, and their count. A section is the keys of a tree, or the reserved buckets.
 pub mod below;
 pub mod bound;
 pub mod chunk;

@@ -1,7 +1,7 @@
-// The limits of the keys that are written, as a weight: 1 for each key, and for one that passes a limit as much as too many.
+// The limits of the keys that are written, as a count: 1 for each key, and 4,097, which is too many, for one that passes a limit.
 ghost use mathlib.Core.Path.{_≡_};
 ghost use Prim.Native.Nat.{_+_, min};
-ghost use Rattle.merge.specs.Weights.{keyFits, weight};
+ghost use Rattle.merge.specs.Counts.{keyFits, countOf};
 use wire::bpos::Bpos;
 use wire::kinds;
 use wire::positions;
@@ -38,15 +38,15 @@ fn key_fits(section: u8, ty: u8, pos: Bpos) -> bool
     kinds::run_end_in_range(b)
 }
 
-// One key more on the scale, which stops at 4,097.
-pub fn add(w: usize, section: u8, ty: u8, pos: Bpos) -> usize
-    ensures { λ r. ⌜ min r 4097 ≡ min (w + weight section ty pos) 4097 ⌝ }
+// One key more, counted up to 4,097.
+pub fn add(count: usize, section: u8, ty: u8, pos: Bpos) -> usize
+    ensures { λ r. ⌜ min r 4097 ≡ min (count + countOf section ty pos) 4097 ⌝ }
 {
-    if 4096 < w {
-        return w;
+    if 4096 < count {
+        return count;
     }
     if key_fits(section, ty, pos) {
-        return w + 1;
+        return count + 1;
     }
     4097
 }

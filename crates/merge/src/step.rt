@@ -1,4 +1,4 @@
-// One queued key: what is written of it, what it weighs, and what it makes of the volume's keys.
+// One queued key: what is written of it, what it counts, and what it makes of the volume's keys.
 ghost use mathlib.Core.Path.{_≡_};
 ghost use mathlib.Core.List.{[], _∷_};
 ghost use Prim.Native.Nat.{_+_, _≤_, min};
@@ -8,10 +8,10 @@ ghost use Rattle.wire.specs.Output.{Wrote};
 ghost use Rattle.merge.specs.Entries.{sectionBytes};
 ghost use Rattle.merge.specs.Queues.{shown, front, back};
 ghost use Rattle.merge.specs.Places.{Kept, Stands, entryFrom};
-ghost use Rattle.merge.specs.Weights.{weighs};
+ghost use Rattle.merge.specs.Counts.{countAll};
 ghost use Rattle.merge.specs.Merging.{keysFrom, Put};
 use crate::below;
-use crate::below::Spot;
+use crate::below::Cursor;
 use crate::bound::Bound;
 use crate::entries;
 use crate::limits;
@@ -31,20 +31,20 @@ fn put_shown(out: &mut [u8], p: usize, list: &[u8], o: usize, section: u8) -> us
     emit::put_bytes(out, q, list, o, len)
 }
 
-// A queued key on the scale, unless it is a deletion.
-fn add_shown(w: usize, list: &[u8], o: usize, section: u8) -> usize
+// A queued key more, unless it is a deletion.
+fn add_shown(count: usize, list: &[u8], o: usize, section: u8) -> usize
     requires { ⌜ Kept section (now list) o ⌝ }
-    ensures { λ r. ⌜ min r 4097 ≡ min (w + weighs section (shown (entryFrom section (now (list .entry)) o))) 4097 ⌝ }
+    ensures { λ r. ⌜ min r 4097 ≡ min (count + countAll section (shown (entryFrom section (now (list .entry)) o))) 4097 ⌝ }
 {
     let ty = entries::type_at(list, o, section);
     if ty == 0 {
-        return w;
+        return count;
     }
-    limits::add(w, section, ty, entries::pos_at(list, o, section))
+    limits::add(count, section, ty, entries::pos_at(list, o, section))
 }
 
 // What one queued key makes of the volume's keys from an index on. `refill` and `sort_queue` show that one starts at o.
-pub fn put_queued(out: &mut [u8], vol: &[u8], keys: &[u32], from: Spot, list: &[u8], o: usize, section: u8) -> Spot
+pub fn put_queued(out: &mut [u8], vol: &[u8], keys: &[u32], from: Cursor, list: &[u8], o: usize, section: u8) -> Cursor
     requires { ⌜ All (Stands section (now vol)) (now keys) × (from .at ≤ length (now keys)) × Kept section (now list) o ⌝ }
     ensures { λ r. ⌜ Put section (now (out .entry)) (now (vol .entry)) (now (keys .entry)) from (front (entryFrom section (now (list .entry)) o ∷ []) (keysFrom section (now (vol .entry)) (now (keys .entry)) (from .at))) (back (entryFrom section (now (list .entry)) o ∷ []) (keysFrom section (now (vol .entry)) (now (keys .entry)) (from .at))) (now (out .exit)) r ⌝ }
 {
@@ -52,6 +52,6 @@ pub fn put_queued(out: &mut [u8], vol: &[u8], keys: &[u32], from: Spot, list: &[
     let s = below::put_below(out, vol, keys, from, section, Bound { any: true, pos });
     let at = below::skip_at(vol, keys, s.at, section, pos);
     let p = put_shown(out, s.p, list, o, section);
-    let w = add_shown(s.w, list, o, section);
-    Spot { p, at, w }
+    let count = add_shown(s.count, list, o, section);
+    Cursor { p, at, count }
 }

@@ -14,7 +14,7 @@ pub mod PlaceLaws
 pub mod RankLaws
 pub mod ReadingLaws
 pub mod ShapeLaws
-pub mod SlotLaws
+pub mod FieldRankLaws
 pub mod TableLaws
 pub mod VolumeLaws
 pub mod PartsLaws

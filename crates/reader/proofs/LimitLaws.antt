@@ -16,7 +16,7 @@ use Rattle.calls.specs.Lists.{allOf}
 use Rattle.calls.specs.CallList.{bodies, firstBody, headOf, treesOf, callListOf, pieceOf, freedOf}
 use Rattle.calls.specs.Limits.{fewKeys, countsOk, bucketsOk, volumeWithin, listWithin}
 use Rattle.reader.specs.CallFields.{headWithin, allocWithin, runWithin, waitingWithin, fieldWithin}
-use Rattle.reader.specs.Table.{slotOf, mostOf}
+use Rattle.reader.specs.Table.{rankOf, mostOf}
 use Rattle.calls.proofs.BoolLaws.{both}
 use Rattle.reader.proofs.BoolLaws.{and-left, and-right}
 use Rattle.reader.proofs.ShapeLaws.{same-or}
@@ -166,8 +166,8 @@ module _ (fs : List Field) (h : allOf fieldWithin fs ≡ true) where
   within-reserved = all-bodies 64 (λ b. bucketInRange (bucketRead b)) (all-map field-reserved each)
 
 -- a tag's fields are no more than may be
-pub few-at : {call t n : ℕ} (fs : List Field) → Within fs → Listed call t n → length (bodies t fs) ≤ mostOf (slotOf t)
-unfolding slotOf
+pub few-at : {call t n : ℕ} (fs : List Field) → Within fs → Listed call t n → length (bodies t fs) ≤ mostOf (rankOf t)
+unfolding rankOf
 few-at fs w (key (inl e) l m) = rw e (w .alloc)
 few-at fs w (key (inr (inl e)) l m) = rw e (w .lru)
 few-at fs w (key (inr (inr (inl e))) l m) = rw e (w .freespace)

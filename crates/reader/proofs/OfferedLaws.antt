@@ -20,7 +20,7 @@ use Rattle.reader.proofs.BoolLaws.{and-left, and-right, apart}
 use Rattle.reader.proofs.ShapeLaws.{same-or}
 use Rattle.reader.proofs.ListLaws.{bodies-here, bodies-other}
 use Rattle.reader.proofs.LayoutLaws.{Listed, key, reserved, piece, freed, key-tag-bounds, laidFields, laid-is, laid-none}
-use Rattle.reader.proofs.SlotLaws.{AllListed}
+use Rattle.reader.proofs.FieldRankLaws.{AllListed}
 use Rattle.reader.proofs.ReadingLaws.{refusal-is, opened, all-listed, after-first}
 use Rattle.reader.proofs.VolumeLaws.{call-refusal, volume-refusal}
 

@@ -26,16 +26,16 @@ use Rattle.reader.proofs.OfferedLaws.{call-kept, limits-kept}
 use Rattle.reader.proofs.LocatedLaws.{keys-located, buckets-located, pieces-located, freeds-located}
 
 -- a list that `read_call` read meets neither 2 nor 3
-pub record Passed (call : ℕ) (s : List ℕ) : Type 0 where
+pub record FieldNoted (call : ℕ) (s : List ℕ) : Type 0 where
   pub laid : callLaidOut call s ≡ true
   pub within : listWithin (readCall s) ≡ true
 
-pub passed : (call : ℕ) (s : List ℕ) → 0 ≡ callRefusal call s → Passed call s
+pub passed : (call : ℕ) (s : List ℕ) → 0 ≡ callRefusal call s → FieldNoted call s
 unfolding callRefusal verdict
 passed call s h = go (callLaidOut call s) (listWithin (readCall s)) refl refl h
   where
     go :
-        (a b : Bool) → callLaidOut call s ≡ a → listWithin (readCall s) ≡ b → 0 ≡ verdict (test 2 a ∷ test 3 b ∷ []) → Passed call s
+        (a b : Bool) → callLaidOut call s ≡ a → listWithin (readCall s) ≡ b → 0 ≡ verdict (test 2 a ∷ test 3 b ∷ []) → FieldNoted call s
     go true true x y z = record { laid = x; within = y }
     go true false x y z = absurd (omega arith)
     go false b x y z = absurd (omega arith)

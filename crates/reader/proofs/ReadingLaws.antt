@@ -19,12 +19,12 @@ use Rattle.calls.specs.Limits.{listWithin}
 use Rattle.calls.specs.Refusals.{test, verdict}
 use Rattle.calls.proofs.Blocks.{field}
 use Rattle.reader.specs.CallFields.{restShapes, callFieldOk, startsOk, fieldFrom, leastOf, follows, headWithin, fieldWithin}
-use Rattle.reader.specs.Table.{slotOf, mostOf, Fits, Free, room, Passed, endOf, Indexed, Ended, endsIn, requestBodies, requestTag, Tabled}
+use Rattle.reader.specs.Table.{rankOf, mostOf, Fits, Free, room, FieldNoted, endOf, Indexed, Ended, endsIn, requestBodies, requestTag, Tabled}
 use Rattle.reader.specs.Readings.{listRefusal}
 use Rattle.reader.proofs.BoolLaws.{apart, and-left, and-right, fails}
 use Rattle.reader.proofs.ListLaws.{all-true, all-map, order-tail, bodies-here, bodies-other}
 use Rattle.reader.proofs.LayoutLaws.{Listed, listed, listed-above, laidFields, laid-is, laid-none}
-use Rattle.reader.proofs.SlotLaws.{inSlot, AllListed, slot-at, slot-alloc, slot-lru, slot-freespace, slot-need-discard, slot-backpointers, slot-gens, slot-reserved, slot-requests, slot-below, no-pieces, no-releases}
+use Rattle.reader.proofs.FieldRankLaws.{inRank, AllListed, rank-listed, rank-alloc, rank-lru, rank-freespace, rank-need-discard, rank-backpointers, rank-gens, rank-reserved, rank-asked, rank-below, no-pieces, no-releases}
 use Rattle.reader.proofs.LimitLaws.{Within, within-parts, parts-within, fields-within, within-alloc, within-run, within-waiting, within-reserved, few-at}
 use Rattle.reader.proofs.PlaceLaws.{within-cut, follows-cut, listed-least, listed-most, here-at}
 use Rattle.reader.proofs.TableLaws.{room-true, room-false}
@@ -310,11 +310,11 @@ module _ (s : List ℕ) (call : ℕ) (any : Bool) (o : Opened s call any) where
 
   over-rank :
       (t n : ℕ) → Listed call t n → AllListed call (fields (drop 42 s))
-      → mostOf (slotOf t) < length (inSlot (slotOf t) (fields (drop 42 s))) → listWithin (callListOf (fields s)) ≡ false
+      → mostOf (rankOf t) < length (inRank (rankOf t) (fields (drop 42 s))) → listWithin (callListOf (fields s)) ≡ false
   over-rank t n l r h =
       refute (listWithin (callListOf (fields s)))
       (λ k.
-      omega (arith, few-at (fields s) (within-parts (fields s) k) l, ap length (after-first s call any o t (listed-above l)), ap length (slot-at l (fields (drop 42 s)) r), length-map (bodies t (fields (drop 42 s))) (field t)))
+      omega (arith, few-at (fields s) (within-parts (fields s) k) l, ap length (after-first s call any o t (listed-above l)), ap length (rank-listed l (fields (drop 42 s)) r), length-map (bodies t (fields (drop 42 s))) (field t)))
 
 -- one more field
 
@@ -324,7 +324,7 @@ set-length false xs i v = length-set xs i v
 
 pub passed-length :
     {s : List ℕ} {over : Bool} {t b m : ℕ} {counts counts′ index index′ : List ℕ} {r : Bool}
-    → Passed s over t b m counts counts′ index index′ r → length index′ ≡ length index
+    → FieldNoted s over t b m counts counts′ index index′ r → length index′ ≡ length index
 passed-length {b = b} {m = m} {index = index} {r = r} p = ap length (p .placed) ∙ set-length r index m b
 
 module _
@@ -341,22 +341,22 @@ module _
   here-within q h = within-cut s b n t (listed-least l) ∙ sym h
 
   -- an entry for it, where it is noted
-  entry-free : (o : Bool) → o ≡ false → Limits s call at m counts index o → Free counts (slotOf t) m index
+  entry-free : (o : Bool) → o ≡ false → Limits s call at m counts index o → Free counts (rankOf t) m index
   entry-free true z w = apart z
   entry-free false z w =
       λ h.
       ⊎-elim
-      (λ l. omega (arith, table-free s (fields (drop 42 s)) at m counts index (g .width) (w .0) (slotOf t) (slot-below t) h))
+      (λ l. omega (arith, table-free s (fields (drop 42 s)) at m counts index (g .width) (w .0) (rankOf t) (rank-below t) h))
       (λ l. omega (arith, g .many, f .on, f .within))
       (g .fits)
 
-  pub next-free : over ≡ false → Free counts (slotOf t) m index
+  pub next-free : over ≡ false → Free counts (rankOf t) m index
   next-free z = entry-free over z (g .limits)
 
   limits-next :
-      (o p q : Bool) → p ≡ fieldWithin (fieldFrom s t b) → q ≡ room counts (slotOf t) b → Limits s call at m counts index o
+      (o p q : Bool) → p ≡ fieldWithin (fieldFrom s t b) → q ≡ room counts (rankOf t) b → Limits s call at m counts index o
       → Limits s call (b + n) (m + 1)
-      (cond (o || (not p || not q)) counts (set counts (slotOf t) (getD counts (slotOf t) 0 + 1)))
+      (cond (o || (not p || not q)) counts (set counts (rankOf t) (getD counts (rankOf t) 0 + 1)))
       (cond (o || (not p || not q)) index (set index m b))
       (o || (not p || not q))
   limits-next true p q hp hq w = w
@@ -368,18 +368,18 @@ module _
       λ r.
       over-rank s call any (g .open1) t n l r
       (rank-full s (fields (drop 42 s)) at m counts index (g .width) (w .0) t b n f
-      (room-false counts (slotOf t) b
+      (room-false counts (rankOf t) b
       (omega (arith, f .on, place-fits s (fields (drop 42 s)) at m counts index (g .width) (w .0))) hq))
   limits-next false true true hp hq w = (
     noting-more s (fields (drop 42 s)) at m counts index (g .width) (w .0) t b n f
-        (entry-free false refl w (room-true counts (slotOf t) b hq)) (here-at s at t b n e f)
-        (listed-most l) (here-within true hp) (room-true counts (slotOf t) b hq),
+        (entry-free false refl w (room-true counts (rankOf t) b hq)) (here-at s at t b n e f)
+        (listed-most l) (here-within true hp) (room-true counts (rankOf t) b hq),
     w .1,
   )
 
   pub goes-on :
       (counts′ index′ : List ℕ) (r : Bool) → follows (fieldFrom s last before) (fieldFrom s t b) ≡ true
-      → Passed s over t b m counts counts′ index index′ r → Going s call any (b + n) (m + 1) t b r counts′ index′
+      → FieldNoted s over t b m counts counts′ index index′ r → Going s call any (b + n) (m + 1) t b r counts′ index′
   unfolding allOf
   goes-on counts′ index′ r h p =
       record {
@@ -390,14 +390,14 @@ module _
         least = listed-least l;
         order = simp h at (order-here s call any at m last before over counts index g t b n f ok);
         fine = simp ok at (ap (allOf (callFieldOk call)) (sym (f .here)) ∙ g .fine);
-        width = ap length (p .counted) ∙ set-length r counts (slotOf t) _ ∙ g .width;
+        width = ap length (p .counted) ∙ set-length r counts (rankOf t) _ ∙ g .width;
         fits =
             let z = passed-length p in
             ⊎-elim (λ l. inl (omega arith)) (λ l. inr (omega arith)) (g .fits);
         many = omega (arith, g .many, f .on);
         limits =
             rw (p .counted, p .placed, p .answer)
-            (limits-next over (fieldWithin (fieldFrom s t b)) (room counts (slotOf t) b) refl refl (g .limits));
+            (limits-next over (fieldWithin (fieldFrom s t b)) (room counts (rankOf t) b) refl refl (g .limits));
       }
 
 -- the end of the list
@@ -457,13 +457,13 @@ module _
 
     -- a rank's bodies, in the whole list
     rank-bodies :
-        (k t : ℕ) → 1 < t → inSlot k (fields (drop 42 s)) ≡ map (field t) (bodies t (fields (drop 42 s)))
-        → inSlot k (fields (drop 42 s)) ≡ map (field t) (bodies t (fields s))
+        (k t : ℕ) → 1 < t → inRank k (fields (drop 42 s)) ≡ map (field t) (bodies t (fields (drop 42 s)))
+        → inRank k (fields (drop 42 s)) ≡ map (field t) (bodies t (fields s))
     rank-bodies k t l z = z ∙ ap (map (field t)) (sym (after-first s call any (g .open1) t l))
 
-    rank-requests : inSlot 7 (fields (drop 42 s)) ≡ map (field (requestTag call)) (requestBodies call (fields s))
+    rank-requests : inRank 7 (fields (drop 42 s)) ≡ map (field (requestTag call)) (requestBodies call (fields s))
     rank-requests =
-        slot-requests call (fields (drop 42 s)) rest
+        rank-asked call (fields (drop 42 s)) rest
         ∙ ap (map (field (requestTag call)))
         (sym
         (λ i.
@@ -472,7 +472,7 @@ module _
 
     -- the fields of a rank are those of a tag, with these bodies
     abbrev RankIs : ℕ → ℕ → List (List ℕ) → Type 0
-    RankIs k t bs = inSlot k (fields (drop 42 s)) ≡ map (field t) bs
+    RankIs k t bs = inRank k (fields (drop 42 s)) ≡ map (field t) bs
 
     count-is : (k t : ℕ) (bs : List (List ℕ)) → k < 8 → RankIs k t bs → getD counts k 0 ≡ length bs
     count-is k t bs l z = rank-counted s (fields (drop 42 s)) at m counts index (noted .0) e k l ∙ ap length z ∙ length-map bs (field t)
@@ -482,8 +482,8 @@ module _
 
     -- the places of a rank stand after those of the ranks below
     in-rank :
-        (k : ℕ) → k < 8 → (i : ℕ) → i < length (inSlot k (fields (drop 42 s)))
-        → Standing s (getD index (endOf counts k + i) 0) (getD (inSlot k (fields (drop 42 s))) i noField)
+        (k : ℕ) → k < 8 → (i : ℕ) → i < length (inRank k (fields (drop 42 s)))
+        → Standing s (getD index (endOf counts k + i) 0) (getD (inRank k (fields (drop 42 s))) i noField)
     in-rank k l i h =
         let fs = fields (drop 42 s) in
         let base : endOf counts k ≡ fewer k fs = counted-fewer counts fs (rank-counted s fs at m counts index (noted .0) e) k (omega arith) in
@@ -503,25 +503,25 @@ module _
     end-is k t bs l z = ap (λ (x : ℕ). endOf counts k + x) (count-is k t bs l z)
 
     alloc : RankIs 0 4 (bodies 4 (fields s))
-    alloc = rank-bodies 0 4 (omega arith) (slot-alloc call (fields (drop 42 s)) rest)
+    alloc = rank-bodies 0 4 (omega arith) (rank-alloc call (fields (drop 42 s)) rest)
 
     lru : RankIs 1 10 (bodies 10 (fields s))
-    lru = rank-bodies 1 10 (omega arith) (slot-lru call (fields (drop 42 s)) rest)
+    lru = rank-bodies 1 10 (omega arith) (rank-lru call (fields (drop 42 s)) rest)
 
     freespace : RankIs 2 11 (bodies 11 (fields s))
-    freespace = rank-bodies 2 11 (omega arith) (slot-freespace call (fields (drop 42 s)) rest)
+    freespace = rank-bodies 2 11 (omega arith) (rank-freespace call (fields (drop 42 s)) rest)
 
     needDiscard : RankIs 3 12 (bodies 12 (fields s))
-    needDiscard = rank-bodies 3 12 (omega arith) (slot-need-discard call (fields (drop 42 s)) rest)
+    needDiscard = rank-bodies 3 12 (omega arith) (rank-need-discard call (fields (drop 42 s)) rest)
 
     backpointers : RankIs 4 13 (bodies 13 (fields s))
-    backpointers = rank-bodies 4 13 (omega arith) (slot-backpointers call (fields (drop 42 s)) rest)
+    backpointers = rank-bodies 4 13 (omega arith) (rank-backpointers call (fields (drop 42 s)) rest)
 
     gens : RankIs 5 14 (bodies 14 (fields s))
-    gens = rank-bodies 5 14 (omega arith) (slot-gens call (fields (drop 42 s)) rest)
+    gens = rank-bodies 5 14 (omega arith) (rank-gens call (fields (drop 42 s)) rest)
 
     reserved : RankIs 6 64 (bodies 64 (fields s))
-    reserved = rank-bodies 6 64 (omega arith) (slot-reserved call (fields (drop 42 s)) rest)
+    reserved = rank-bodies 6 64 (omega arith) (rank-reserved call (fields (drop 42 s)) rest)
 
     first-end : endOf counts 1 ≡ length (bodies 4 (fields s))
     unfolding endOf

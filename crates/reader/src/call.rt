@@ -5,7 +5,7 @@ ghost use Prim.Native.Nat.{_+_, _≤_};
 ghost use lib.ListN.{length};
 ghost use Rattle.wire.specs.Fields.{fields};
 ghost use Rattle.reader.specs.CallFields.{startsOk, leastOf};
-ghost use Rattle.reader.specs.Table.{slotOf, Free, Passed, Fits};
+ghost use Rattle.reader.specs.Table.{rankOf, Free, FieldNoted, Fits};
 ghost use Rattle.reader.specs.Readings.{callRefusal, volumeRefusal, listRefusal, Answered};
 use crate::head;
 use crate::head::Head;
@@ -58,8 +58,8 @@ fn passes(
     counts: &mut [usize; 8],
     index: &mut [u32],
 ) -> bool
-    requires { ⌜ (start + leastOf tag ≤ length (now s)) × (over ≡ false → Free (now counts) (slotOf tag) n (now index)) ⌝ }
-    ensures { λ r. ⌜ Passed (now (s .entry)) over tag start n (now (counts .entry)) (now (counts .exit)) (now (index .entry)) (now (index .exit)) r ⌝ }
+    requires { ⌜ (start + leastOf tag ≤ length (now s)) × (over ≡ false → Free (now counts) (rankOf tag) n (now index)) ⌝ }
+    ensures { λ r. ⌜ FieldNoted (now (s .entry)) over tag start n (now (counts .entry)) (now (counts .exit)) (now (index .entry)) (now (index .exit)) r ⌝ }
 {
     if over {
         return true;
@@ -67,7 +67,7 @@ fn passes(
     if !limits::field_within(s, tag, start) {
         return true;
     }
-    let noted = table::note(counts, index, table::slot_of(tag), n, start);
+    let noted = table::note(counts, index, table::rank_of(tag), n, start);
     !noted
 }
 

@@ -15,10 +15,10 @@ use Rattle.apply.proofs.lists.put_volume.Statement.{statement}
 use Rattle.apply.proofs.lists.put_volume.Tie as tie
 
 abbrev Inv-loop : tie.InvT-loop
-Inv-loop out₀ vol index e list table q p at₀ from₀ first₀ i₀ out at from first i = Sectioning out₀ p vol list e q out at from first i
+Inv-loop out₀ vol index roots e list table q p at₀ from₀ first₀ i₀ out at from first i = Sectioning out₀ p vol list e q out at from first i
 
 abbrev μ-loop : tie.MeasureT-loop
-μ-loop out₀ vol index e list table q p at₀ from₀ first₀ i₀ out at from first i = 7 - i
+μ-loop out₀ vol index roots e list table q p at₀ from₀ first₀ i₀ out at from first i = 7 - i
 
 put-front-requires : tie.Need-put-front-requires Inv-loop μ-loop
 put-front-requires c κs = tt

@@ -12,10 +12,10 @@ use Rattle.merge.proofs.below.pass_below.Statement.{statement}
 use Rattle.merge.proofs.below.pass_below.Tie as tie
 
 abbrev Inv-loop : tie.InvT-loop
-Inv-loop vol keys i start weight section lim next₀ end₀ w₀ next end w = Stretching section vol keys i start weight lim next end w
+Inv-loop vol keys i start countOf section lim next₀ end₀ w₀ next end w = Stretching section vol keys i start countOf lim next end w
 
 abbrev μ-loop : tie.MeasureT-loop
-μ-loop vol keys i start weight section lim next₀ end₀ w₀ next end w = length keys - next
+μ-loop vol keys i start countOf section lim next₀ end₀ w₀ next end w = length keys - next
 
 -- the key at an index
 stands :

@@ -3,7 +3,7 @@ use borrow.Author.Needs.{needs}
 use borrow.Author.Tests.{eq-eqb, ne-eqb}
 use mathlib.Core.Path.{_∙_, ap}
 use Rattle.wire.specs.Kinds.{bucketInRange, runEndInRange}
-use Rattle.merge.specs.Weights.{keyFits}
+use Rattle.merge.specs.Counts.{keyFits}
 use Rattle.merge.proofs.limits.key_fits.Statement.{statement}
 use Rattle.merge.proofs.limits.key_fits.Tie as tie
 

@@ -3,7 +3,7 @@ use mathlib.Core.Path.{sym, _∙_}
 use denote.Ref.{now}
 use borrow.Author.Needs.{needs}
 use borrow.Author.Tests.{not-true, not-false}
-use Rattle.reader.proofs.SlotLaws.{slot-below}
+use Rattle.reader.proofs.FieldRankLaws.{rank-below}
 use Rattle.reader.proofs.TableLaws.{passed-limit, passed-noted}
 use Rattle.reader.proofs.call.passes.Statement.{statement}
 use Rattle.reader.proofs.call.passes.Tie as tie
@@ -20,12 +20,12 @@ returns-2 c =
     passed-limit (now (a .s)) (a .over) (a .tag) (a .start) (a .n) (now (a .counts)) (now (a .index)) (c .before .before .if1 .left)
     (sym (c .before .field-within .ensures) ∙ not-true _ (c .if2 .taken))
 
-slot-of-requires : tie.Need-slot-of-requires
-slot-of-requires c κs = search needs
+rank-of-requires : tie.Need-rank-of-requires
+rank-of-requires c κs = search needs
 
 note-requires : tie.Need-note-requires
 note-requires c κs =
-    (rw (c .slot-of .ensures) (slot-below _), rw (c .slot-of .ensures) (c .before .before .before .before .before .before .before .before .pre .1 (c .before .before .before .before .before .if1 .left)))
+    (rw (c .rank-of .ensures) (rank-below _), rw (c .rank-of .ensures) (c .before .before .before .before .before .before .before .before .pre .1 (c .before .before .before .before .before .if1 .left)))
 
 same-length : tie.Need-same-length
 same-length c = search needs
@@ -36,8 +36,8 @@ returns-3 c =
     passed-noted (now (a .s)) (a .over) (a .tag) (a .start) (a .n) (now (a .counts)) _ (now (a .index)) _ _ _
     (c .before .before .before .before .before .before .before .before .if1 .left)
     (sym (c .before .before .before .before .before .before .before .field-within .ensures) ∙ not-false _ (c .before .before .before .before .before .before .if2 .left))
-    (c .before .before .before .slot-of .ensures)
+    (c .before .before .before .rank-of .ensures)
     (c .before .before .note .ensures)
 
 pub passes-spec : {M : Type 1} → statement M
-passes-spec = tie.close (tie.spec returns field-within-requires returns-2 slot-of-requires note-requires same-length returns-3)
+passes-spec = tie.close (tie.spec returns field-within-requires returns-2 rank-of-requires note-requires same-length returns-3)

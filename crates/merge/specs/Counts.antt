@@ -1,4 +1,4 @@
--- FORMAT.md, "Limits", of a section's keys as one number: 1 for each, and for one that passes a limit as much as too many.
+-- FORMAT.md, "Limits", of a section's keys as one number: 1 for each, and 4,097, which is too many, for one that passes a limit.
 use Prim.Native.Nat.{ℕ, _+_}
 use mathlib.Core.Bool.{Bool, true, not, _&&_, _||_, cond}
 use mathlib.Core.List.{List, [], _∷_}
@@ -22,9 +22,9 @@ keyFits t y p =
 unfoldable pub sectionWithin : ℕ → List Key → Bool
 sectionWithin t ks = leb (length ks) 4096 && allOf (λ k. keyFits t (k .type) (k .pos)) ks
 
-unfoldable pub weight : ℕ → ℕ → Bpos → ℕ
-weight t y p = cond (keyFits t y p) 1 4097
+unfoldable pub countOf : ℕ → ℕ → Bpos → ℕ
+countOf t y p = cond (keyFits t y p) 1 4097
 
-unfoldable pub weighs : ℕ → List Key → ℕ
-weighs t [] = 0
-weighs t (k ∷ ks) = weight t (k .type) (k .pos) + weighs t ks
+unfoldable pub countAll : ℕ → List Key → ℕ
+countAll t [] = 0
+countAll t (k ∷ ks) = countOf t (k .type) (k .pos) + countAll t ks
