@@ -1,4 +1,3 @@
-pub mod PieceLaws
 pub mod PlaceRowLaws
 pub mod RowLaws
 pub mod TallyLaws

@@ -21,7 +21,7 @@ use Rattle.calls.specs.Answers.{readCall, readVolume}
 use Rattle.reader.specs.Heads.{headIn}
 use Rattle.reader.specs.declared.head.Head.{Head}
 use Rattle.change_fields.specs.FieldBytes.{rootsBytes}
-use Rattle.wire.specs.Kinds.{bucketsIn}
+use Rattle.wire.specs.declared.kinds.Bucket.{Bucket}
 use Rattle.place_keys.specs.Plan.{Plan}
 use Rattle.place.specs.Change.{placement, keyFields, otherFields}
 use Rattle.accounting.specs.Tally.{talliesOf}
@@ -50,13 +50,13 @@ six : (a b c d : List Field) (e f : Field)
     → encode (a ++ b ++ c ++ d ++ (e ∷ []) ++ [] ++ (f ∷ [])) ≡ encode a ++ (encode b ++ (encode c ++ (encode d ++ (encodeField e ++ encodeField f))))
 six a b c d e f = simp (encode-append, encode-next, encode-none, append-assoc, append-nil)
 
-module _ {s offsets numbers generations : List ℕ} {h : Head} (plan : Plan s offsets numbers generations h) where
+module _ {s offsets : List ℕ} {buckets : List Bucket} {generations : List ℕ} {h : Head} (plan : Plan s offsets buckets generations h) where
   -- the keys, by what planning hands over
   pub keys-of :
       encode (keyFields (placement s))
       ≡ encode (map (keyField 0) (map (extentKey (headIn h)) (placedOf (readCall s))))
-      ++ (encode (map (keyField 4) (map (newAllocKey (readVolume s) (placedOf (readCall s))) (bucketsIn numbers)))
-      ++ (encode (map (keyField 10) (flatMap (λ b. lruKeys (h .«bucket_sectors») b (dirtyIn (placedOf (readCall s)) b)) (bucketsIn numbers)))
+      ++ (encode (map (keyField 4) (map (newAllocKey (readVolume s) (placedOf (readCall s))) buckets))
+      ++ (encode (map (keyField 10) (flatMap (λ b. lruKeys (h .«bucket_sectors») b (dirtyIn (placedOf (readCall s)) b)) buckets))
       ++ (encode (map (keyField 11) (walkOf (readCall s) .queue)) ++ encode (map (keyField 13) (map (backpointerKey (headIn h)) (placedOf (readCall s)))))))
   unfolding keyFields placeBatch treeFields
   keys-of =
@@ -69,9 +69,9 @@ module _ {s offsets numbers generations : List ℕ} {h : Head} (plan : Plan s of
   pub others-of : (t : Tallies) → t ≡ talliesOf (readCall s .pieces)
       → encode (otherFields (placement s))
       ≡ encode (map rootField (rootsIf (lruWanted (h .«bucket_sectors») (t .all .stored) && rootMissing (h .roots) 0) 10))
-      ++ (encode (map takenField (bucketsIn numbers))
+      ++ (encode (map takenField buckets)
       ++ (encode (map spotField (map spotAt (placedOf (readCall s))))
-      ++ (encode (map rowField (placeRows (headIn h) (bucketsIn numbers) (placedOf (readCall s)) (map (extentKey (headIn h)) (placedOf (readCall s)))))
+      ++ (encode (map rowField (placeRows (headIn h) buckets (placedOf (readCall s)) (map (extentKey (headIn h)) (placedOf (readCall s)))))
       ++ (encodeField (sectorsField (t .all .file)) ++ encodeField endField))))
   unfolding otherFields placeBatch
   others-of t e =

@@ -5,20 +5,20 @@ use mathlib.Core.List.{List, [], _∷_}
 use Prim.Native.Nat.{ℕ, zero, suc, _+_, _≤_, _<_}
 use native.Mathlib.Omega.{arith}
 use lib.Dec.{eqb}
-use lib.ListN.{length, take, getD, length-map, length-take}
-use borrow.Author.Tests.{eq-eqb, ltb-true}
+use lib.ListN.{length, take, length-take}
+use borrow.Author.Tests.{eq-eqb, eqb-true}
 use Rattle.wire.specs.Keys.{Key}
-use Rattle.wire.specs.Kinds.{bucketIs, bucketsIn, bucketInRange}
+use Rattle.wire.specs.Kinds.{noBucket, sameBucket, bucketsIn, bucketInRange}
 use Rattle.wire.specs.declared.kinds.Bucket.{Bucket}
 use Rattle.calls.specs.Lists.{allOf, those, total}
 use Rattle.calls.specs.CallList.{CallList}
+use Rattle.calls.specs.Extents.{bucketAt}
 use Rattle.calls.specs.Limits.{isRun}
 use Rattle.calls.specs.Freespace.{isIn, isUsed, runsOf, overlaps, walk}
 use Rattle.calls.specs.Pieces.{bucketsNeeded}
 use Rattle.calls.specs.Place.{slotsOf, walkOf}
 use Rattle.calls.specs.Answers.{readCall, readVolume}
 use Rattle.calls.specs.History.{one}
-use Rattle.calls.proofs.BoolLaws.{parts as and-true}
 use Rattle.calls.proofs.BucketLaws.{count}
 use Rattle.calls.proofs.CoverLaws.{cover-once}
 use Rattle.calls.proofs.RunLaws.{covered, walk-gives}
@@ -37,33 +37,27 @@ use Rattle.freespace.proofs.TakenLaws.{walk-in-range}
 use Rattle.place_keys.specs.Queue.{Walk}
 use Rattle.place.specs.Planned.{PlanFor}
 
--- ---- buckets by their numbers
-low-at : (ns : List ℕ) → allOf bucketInRange (bucketsIn ns) ≡ true → (i : ℕ) → getD ns i 0 < 65536
-unfolding bucketsIn allOf
-low-at [] h i = omega arith
-low-at (n ∷ ns) h zero = ltb-true n 65536 (and-true (bucketInRange (bucketIs n)) (allOf bucketInRange (bucketsIn ns)) h .0)
-low-at (n ∷ ns) h (suc i) = low-at ns (and-true (bucketInRange (bucketIs n)) (allOf bucketInRange (bucketsIn ns)) h .1) i
-
--- an element is counted
-counted-at : (ns : List ℕ) (i : ℕ) → i < length ns → 0 < count (getD ns i 0) (bucketsIn ns)
-unfolding bucketsIn total
+-- ---- where each bucket is counted at most once, its index is the only one
+counted-at : (bs : List Bucket) (i : ℕ) → i < length bs → 0 < count (bucketAt noBucket bs i .0) bs
+unfolding bucketAt total
 counted-at [] i h = absurd (omega arith)
-counted-at (n ∷ ns) zero h = rw (eq-eqb n n refl) (omega arith)
-counted-at (n ∷ ns) (suc i) h = omega (arith, counted-at ns i (omega arith))
+counted-at (b ∷ bs) zero h = rw (eq-eqb (b .0) (b .0) refl) (omega arith)
+counted-at (b ∷ bs) (suc i) h = omega (arith, counted-at bs i (omega arith))
 
--- where each number is counted at most once, its index is the only one
-distinct-at : (ns : List ℕ) → ((b : ℕ) → count b (bucketsIn ns) ≤ 1) → (i j : ℕ) → i < length ns → j < length ns → getD ns i 0 ≡ getD ns j 0 → i ≡ j
-unfolding bucketsIn total
+distinct-at : (bs : List Bucket) → ((b : ℕ) → count b bs ≤ 1) → (i j : ℕ) → i < length bs → j < length bs
+    → sameBucket (bucketAt noBucket bs i) (bucketAt noBucket bs j) ≡ true
+    → i ≡ j
+unfolding bucketAt total
 distinct-at [] once i j h k e = absurd (omega arith)
-distinct-at (n ∷ ns) once zero zero h k e = refl
-distinct-at (n ∷ ns) once zero (suc j) h k e =
-    let z : one (eqb n (getD ns j 0)) ≡ 1 = rw (eq-eqb n (getD ns j 0) e) in
-    absurd (omega (arith, once (getD ns j 0), counted-at ns j (omega arith)))
-distinct-at (n ∷ ns) once (suc i) zero h k e =
-    let z : one (eqb n (getD ns i 0)) ≡ 1 = rw (eq-eqb n (getD ns i 0) (sym e)) in
-    absurd (omega (arith, once (getD ns i 0), counted-at ns i (omega arith)))
-distinct-at (n ∷ ns) once (suc i) (suc j) h k e =
-    ap suc (distinct-at ns (λ b. omega (arith, once b)) i j (omega arith) (omega arith) e)
+distinct-at (b ∷ bs) once zero zero h k e = refl
+distinct-at (b ∷ bs) once zero (suc j) h k e =
+    let z : one (eqb (b .0) (bucketAt noBucket bs j .0)) ≡ 1 = rw e in
+    absurd (omega (arith, once (bucketAt noBucket bs j .0), counted-at bs j (omega arith)))
+distinct-at (b ∷ bs) once (suc i) zero h k e =
+    let z : one (eqb (b .0) (bucketAt noBucket bs i .0)) ≡ 1 = rw (eq-eqb (b .0) (bucketAt noBucket bs i .0) (sym (eqb-true (bucketAt noBucket bs i .0) (b .0) e))) in
+    absurd (omega (arith, once (bucketAt noBucket bs i .0), counted-at bs i (omega arith)))
+distinct-at (b ∷ bs) once (suc i) (suc j) h k e =
+    ap suc (distinct-at bs (λ n. omega (arith, once n)) i j (omega arith) (omega arith) e)
 
 -- ---- no bucket is taken twice
 cover-runs : (b : ℕ) (l : List Key) → coverOf (runsOf l) b ≡ coverOf l b
@@ -85,7 +79,7 @@ taken-once R U n l sorted apart b = go (R (bucket b)) refl
 -- what is chosen, for the change list
 pub record Choice (s : List ℕ) (h : Head) (runs pieces table : List ℕ) (r : Walked) : Type 0 where
   pub few : r .count ≤ 1024
-  pub plan : PlanFor s h pieces (take (r .count) table)
+  pub plan : PlanFor s h pieces (bucketsIn (take (r .count) table))
   pub walk : Walk s runs (r .passed) (r .left)
 
 module _
@@ -122,9 +116,8 @@ module _
   unfolding bucketsIn
   taken-is = w .taken
 
-  taken-length : length (take (r .count) table) ≡ r .count
-  unfolding bucketsIn
-  taken-length = omega (arith, length-map (take (r .count) table) bucketIs, ap length taken-is, w .count)
+  taken-length : length (bucketsIn (take (r .count) table)) ≡ r .count
+  taken-length = omega (arith, ap length taken-is, w .count)
 
   passed-all : length (take (r .passed) ks) ≡ r .passed
   passed-all = omega (arith, w .passed)
@@ -148,8 +141,8 @@ module _
               sizes = passed .requests .sizes;
               enough = omega (arith, taken-length, w .count, taken-many);
               short = omega (arith, taken-length, few);
-              low = low-at (take (r .count) table) (rw taken-is low);
-              distinct = distinct-at (take (r .count) table) (λ b. rw taken-is (once b));
+              low = rw taken-is low;
+              distinct = rw taken-is (distinct-at (walkOf c .taken) once);
             };
         walk =
             record {

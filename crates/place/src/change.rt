@@ -44,7 +44,7 @@ pub fn put_keys(
     h: Head,
     clock: u64,
 ) -> usize
-    requires { ⌜ Plan (now s) (now pieces) (now taken) (now gens) h ⌝ }
+    requires { ⌜ Plan (now s) (now pieces) (bucketsIn (now taken)) (now gens) h ⌝ }
     requires { ⌜ Walk (now s) (now runs) passed left ⌝ }
     requires { ⌜ clockOf (readVolume (now s) .trees .alloc) ≡ clock ⌝ }
     ensures { λ r. ⌜ Emitted (now (out .entry)) at (encode (keyFields (placement (now (s .entry))))) (now (out .exit)) r ⌝ }
@@ -100,7 +100,7 @@ pub fn put_others(
     gens: &[u8],
     h: Head,
 ) -> usize
-    requires { ⌜ Plan (now s) (now pieces) (now taken) (now gens) h ⌝ }
+    requires { ⌜ Plan (now s) (now pieces) (bucketsIn (now taken)) (now gens) h ⌝ }
     ensures { λ r. ⌜ Emitted (now (out .entry)) at (encode (otherFields (placement (now (s .entry))))) (now (out .exit)) r ⌝ }
 {
     let t = tallies::tally_pieces(s, pieces);
@@ -127,7 +127,7 @@ pub fn put_change(
     h: Head,
     clock: u64,
 ) -> usize
-    requires { ⌜ Plan (now s) (now pieces) (now taken) (now gens) h ⌝ }
+    requires { ⌜ Plan (now s) (now pieces) (bucketsIn (now taken)) (now gens) h ⌝ }
     requires { ⌜ Walk (now s) (now runs) passed left ⌝ }
     requires { ⌜ clockOf (readVolume (now s) .trees .alloc) ≡ clock ⌝ }
     ensures { λ r. ⌜ Emitted (now (out .entry)) at (changeBytes (placement (now (s .entry)) ∷ [])) (now (out .exit)) r ⌝ }

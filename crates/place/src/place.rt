@@ -2,6 +2,7 @@
 ghost use mathlib.Core.Path.{_≡_};
 ghost use mathlib.Core.List.{[], _∷_};
 ghost use lib.ListN.{length};
+ghost use Rattle.wire.specs.Kinds.{bucketsIn};
 ghost use Rattle.calls.specs.Answers as answers;
 ghost use Rattle.calls.specs.Answers.{answer, made, outcome, readCall, readVolume};
 ghost use Rattle.calls.specs.ChangeList.{changeBytes};
@@ -39,7 +40,7 @@ fn write_change(
     out: &mut [u8],
     written: &mut usize,
 ) -> u32
-    requires { ⌜ Plan (now s) (now pieces) (now taken) (now gens) h ⌝ }
+    requires { ⌜ Plan (now s) (now pieces) (bucketsIn (now taken)) (now gens) h ⌝ }
     requires { ⌜ Walk (now s) (now runs) passed left × (clockOf (readVolume (now s) .trees .alloc) ≡ clock) × (now written ≡ 0) ⌝ }
     ensures { λ r. ⌜ made r (now (written .exit)) (now (out .exit)) ≡ outcome (answer [] (changeBytes (placement (now (s .entry)) ∷ [])) (length (now (out .entry)))) (now (out .entry)) ⌝ }
 {
@@ -78,7 +79,7 @@ fn place_buckets(
     out: &mut [u8],
     written: &mut usize,
 ) -> u32
-    requires { ⌜ PlanFor (now s) h (now pieces) (now taken) ⌝ }
+    requires { ⌜ PlanFor (now s) h (now pieces) (bucketsIn (now taken)) ⌝ }
     requires { ⌜ Walk (now s) (now runs) passed left × KeysAt (now s) (now alloc) (readVolume (now s) .trees .alloc) × KeysAt (now s) (now gens) (readVolume (now s) .trees .gens) × (now written ≡ 0) ⌝ }
     ensures { λ r. ⌜ made r (now (written .exit)) (now (out .exit)) ≡ outcome (answer [] (changeBytes (placement (now (s .entry)) ∷ [])) (length (now (out .entry)))) (now (out .entry)) ⌝ }
 {

@@ -17,6 +17,7 @@ use Rattle.calls.specs.Lists.{total}
 use Rattle.calls.specs.CallList.{Volume}
 use Rattle.calls.specs.Trees.{newKey}
 use Rattle.calls.specs.Extents as calls
+use Rattle.calls.specs.Extents.{bucketAt}
 use Rattle.calls.specs.Place.{dirtyIn, newAllocKey, placedOf}
 use Rattle.calls.specs.Answers.{readCall}
 use Rattle.reader.specs.declared.head.Head.{Head}
@@ -27,21 +28,21 @@ use Rattle.place_keys.proofs.StepLaws.{buckets-length, map-at}
 use Rattle.place_keys.proofs.WalkLaws.{first, from-first, reached-first, no-more}
 
 -- the buckets from index i on
-pub buckets-next : (ns : List ℕ) (i : ℕ) → i < length ns → drop i (bucketsIn ns) ≡ bucketIs (getD ns i 0) ∷ drop (i + 1) (bucketsIn ns)
+pub taken-next : (ns : List ℕ) (i : ℕ) → i < length ns → drop i (bucketsIn ns) ≡ bucketIs (getD ns i 0) ∷ drop (i + 1) (bucketsIn ns)
 unfolding bucketsIn
-buckets-next ns i h =
+taken-next ns i h =
     drop-next noBucket (bucketsIn ns) i (omega (arith, buckets-length ns))
     ∙ ap (λ b. b ∷ drop (i + 1) (bucketsIn ns)) (List·getD-map bucketIs ns i 0)
 
-pub buckets-none : (ns : List ℕ) (i : ℕ) → length ns ≤ i → drop i (bucketsIn ns) ≡ []
-buckets-none ns i h = drop-of-length-le (bucketsIn ns) {i = i} (omega (arith, buckets-length ns))
+pub taken-none : (ns : List ℕ) (i : ℕ) → length ns ≤ i → drop i (bucketsIn ns) ≡ []
+taken-none ns i h = drop-of-length-le (bucketsIn ns) {i = i} (omega (arith, buckets-length ns))
 
 -- the alloc key of the bucket at an index
-pub alloc-key : {v : Volume} {ps : List calls.Placed} {ns gs ds : List ℕ} {journal clock : ℕ} (i : ℕ) → AllocsOf v ns gs journal clock → Dirty ps ns ds
-    → i < length ns
-    → newKey 27 0 (allocAt (bucketIs (getD ns i 0))) (newAlloc journal (getD gs i 0) (getD ds i 0) clock) ≡ newAllocKey v ps (bucketIs (getD ns i 0))
+pub alloc-key : {v : Volume} {ps : List calls.Placed} {bs : List Bucket} {gs ds : List ℕ} {journal clock : ℕ} (i : ℕ) {b : Bucket} → AllocsOf v bs gs journal clock
+    → Dirty ps bs ds → i < length bs → b ≡ bucketAt noBucket bs i
+    → newKey 27 0 (allocAt b) (newAlloc journal (getD gs i 0) (getD ds i 0) clock) ≡ newAllocKey v ps b
 unfolding newAllocKey
-alloc-key {ns = ns} i a d h = rw (a .number, a .time, d .at i h, a .gens, map-at _ ns i h)
+alloc-key {bs = bs} i a d h e = rw (e, a .number, a .time, d .at i h, a .gens, map-at _ bs i h)
 
 -- the loop that counts the dirty sectors
 
@@ -55,15 +56,15 @@ unfolding dirtyIn total
 dirty-none b = refl
 
 -- at piece i: each count and what is left for its bucket are all of it
-pub record Counting (s numbers : List ℕ) (h : Head) (counts : List ℕ) (o : Cursor) (i : ℕ) : Type 0 where
-  pub long : length numbers ≤ length counts
-  pub reached : Reached s numbers h i o
+pub record Counting (s : List ℕ) (buckets : List Bucket) (h : Head) (counts : List ℕ) (o : Cursor) (i : ℕ) : Type 0 where
+  pub long : length buckets ≤ length counts
+  pub reached : Reached s buckets h i o
   pub most : (k : ℕ) → getD counts k 0 ≤ 128 * i
-  pub left : (j : ℕ) → j < length numbers
-      → getD counts j 0 + dirtyIn (placedFrom (readCall s) i o) (bucketIs (getD numbers j 0)) ≡ dirtyIn (placedOf (readCall s)) (bucketIs (getD numbers j 0))
+  pub left : (j : ℕ) → j < length buckets
+      → getD counts j 0 + dirtyIn (placedFrom (readCall s) i o) (bucketAt noBucket buckets j) ≡ dirtyIn (placedOf (readCall s)) (bucketAt noBucket buckets j)
 
-module _ {s offsets numbers generations : List ℕ} {h : Head} (plan : Plan s offsets numbers generations h) where
-  pub counting-first : {counts : List ℕ} → length numbers ≤ length counts → ((k : ℕ) → getD counts k 0 ≡ 0) → Counting s numbers h counts (first h) 0
+module _ {s offsets : List ℕ} {buckets : List Bucket} {generations : List ℕ} {h : Head} (plan : Plan s offsets buckets generations h) where
+  pub counting-first : {counts : List ℕ} → length buckets ≤ length counts → ((k : ℕ) → getD counts k 0 ≡ 0) → Counting s buckets h counts (first h) 0
   counting-first l z =
       record {
         long = l;
@@ -72,22 +73,22 @@ module _ {s offsets numbers generations : List ℕ} {h : Head} (plan : Plan s of
         left = λ j m. rw (from-first plan) (omega (arith, z j));
       }
 
-  module _ {counts : List ℕ} {o : Cursor} {i : ℕ} {t : Step} (q : Counting s numbers h counts o i) (e : Stepped s numbers h i o t) where
+  module _ {counts : List ℕ} {o : Cursor} {i : ℕ} {t : Step} (q : Counting s buckets h counts o i) (e : Stepped s buckets h i o t) where
     abbrev v : ℕ
     v = getD counts (t .next .index) 0 + t .placed .piece .stored
 
-    left-here : (j : ℕ) → j < length numbers
-        → getD counts j 0 + (cond (eqb (getD numbers (t .next .index) 0) (getD numbers j 0)) (t .placed .piece .stored) 0 + dirtyIn (placedFrom (readCall s) (i + 1) (t .next)) (bucketIs (getD numbers j 0)))
-        ≡ dirtyIn (placedOf (readCall s)) (bucketIs (getD numbers j 0))
+    left-here : (j : ℕ) → j < length buckets
+        → getD counts j 0 + (cond (sameBucket (bucketAt noBucket buckets (t .next .index)) (bucketAt noBucket buckets j)) (t .placed .piece .stored) 0 + dirtyIn (placedFrom (readCall s) (i + 1) (t .next)) (bucketAt noBucket buckets j))
+        ≡ dirtyIn (placedOf (readCall s)) (bucketAt noBucket buckets j)
     left-here j m = rw (e .here, dirty-next, e .bucket) at (q .left j m)
 
-    pub counting-next : Counting s numbers h (set counts (t .next .index) v) (t .next) (i + 1)
+    pub counting-next : Counting s buckets h (set counts (t .next .index) v) (t .next) (i + 1)
     counting-next =
         record {
           long = omega (arith, q .long, length-set counts (t .next .index) v);
           reached = e .reached;
           most = λ j. bound j (eqb j (t .next .index)) refl;
-          left = λ j m. go j m (eqb (getD numbers (t .next .index) 0) (getD numbers j 0)) refl (left-here j m);
+          left = λ j m. go j m (sameBucket (bucketAt noBucket buckets (t .next .index)) (bucketAt noBucket buckets j)) refl (left-here j m);
         }
       where
         same : (j : ℕ) → j ≡ t .next .index → getD (set counts (t .next .index) v) j 0 ≡ v
@@ -97,21 +98,21 @@ module _ {s offsets numbers generations : List ℕ} {h : Head} (plan : Plan s of
         bound j true b = omega (arith, same j (eqb-true j (t .next .index) b), q .most (t .next .index), e .bounded .stored)
         bound j false b = omega (arith, getD-set-other counts (t .next .index) j v 0 (λ z. let y : _≡_ {A = Bool} true false = sym (eq-eqb j (t .next .index) z) ∙ b in let x : _≡_ {A = ℕ} 0 1 = cc in omega arith), q .most j)
 
-        go : (j : ℕ) → j < length numbers → (b : Bool) → eqb (getD numbers (t .next .index) 0) (getD numbers j 0) ≡ b
-            → getD counts j 0 + (cond b (t .placed .piece .stored) 0 + dirtyIn (placedFrom (readCall s) (i + 1) (t .next)) (bucketIs (getD numbers j 0)))
-            ≡ dirtyIn (placedOf (readCall s)) (bucketIs (getD numbers j 0))
-            → getD (set counts (t .next .index) v) j 0 + dirtyIn (placedFrom (readCall s) (i + 1) (t .next)) (bucketIs (getD numbers j 0))
-            ≡ dirtyIn (placedOf (readCall s)) (bucketIs (getD numbers j 0))
+        go : (j : ℕ) → j < length buckets → (b : Bool) → sameBucket (bucketAt noBucket buckets (t .next .index)) (bucketAt noBucket buckets j) ≡ b
+            → getD counts j 0 + (cond b (t .placed .piece .stored) 0 + dirtyIn (placedFrom (readCall s) (i + 1) (t .next)) (bucketAt noBucket buckets j))
+            ≡ dirtyIn (placedOf (readCall s)) (bucketAt noBucket buckets j)
+            → getD (set counts (t .next .index) v) j 0 + dirtyIn (placedFrom (readCall s) (i + 1) (t .next)) (bucketAt noBucket buckets j)
+            ≡ dirtyIn (placedOf (readCall s)) (bucketAt noBucket buckets j)
         go j m true b w =
-            let z : t .next .index ≡ j = plan .distinct (t .next .index) j (e .index) m (eqb-true _ _ b) in
+            let z : t .next .index ≡ j = plan .distinct (t .next .index) j (e .index) m b in
             let y : getD counts j 0 ≡ getD counts (t .next .index) 0 = ap (λ (x : ℕ). getD counts x 0) (sym z) in
             omega (arith, same j (sym z), w)
         go j m false b w =
             let d = getD-set-other counts (t .next .index) j v 0
-            (λ z. let y : _≡_ {A = Bool} true false = sym (eq-eqb (getD numbers (t .next .index) 0) (getD numbers j 0) (ap (λ (x : ℕ). getD numbers x 0) (sym z))) ∙ b in let x : _≡_ {A = ℕ} 0 1 = cc in omega arith) in
+            (λ z. let y : _≡_ {A = Bool} true false = sym (eq-eqb (bucketAt noBucket buckets (t .next .index) .0) (bucketAt noBucket buckets j .0) (ap (λ (x : ℕ). bucketAt noBucket buckets x .0) (sym z))) ∙ b in let x : _≡_ {A = ℕ} 0 1 = cc in omega arith) in
             omega (arith, d, w)
 
-  pub counting-end : {counts : List ℕ} {o : Cursor} {i : ℕ} → Counting s numbers h counts o i → length offsets ≤ i
-      → Dirty (placedOf (readCall s)) numbers counts
+  pub counting-end : {counts : List ℕ} {o : Cursor} {i : ℕ} → Counting s buckets h counts o i → length offsets ≤ i
+      → Dirty (placedOf (readCall s)) buckets counts
   counting-end {counts} {o} {i} q l =
       record { at = λ j m. omega (arith, rw (no-more plan i o l, dirty-none) at (q .left j m)) }

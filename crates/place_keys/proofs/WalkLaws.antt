@@ -6,6 +6,7 @@ use native.Mathlib.Omega.{arith}
 use borrow.Author.Tests.{ltb-true}
 use lib.ListN.{length, drop, drop-of-length-le}
 use Rattle.wire.specs.Fields.{Field}
+use Rattle.wire.specs.declared.kinds.Bucket.{Bucket}
 use Rattle.wire.specs.Encode.{encode, encodeField}
 use Rattle.wire.specs.Output.{top}
 use Rattle.wire.proofs.OutputLaws.{Part, begin, turn}
@@ -26,12 +27,12 @@ use Rattle.change_fields.proofs.FieldLists.{fields-next, fields-none}
 abbrev pub first : Head → Cursor
 first h = record { index = 0; used = 0; end = h .base }
 
-module _ {s offsets numbers generations : List ℕ} {h : Head} (plan : Plan s offsets numbers generations h) where
+module _ {s offsets : List ℕ} {buckets : List Bucket} {generations : List ℕ} {h : Head} (plan : Plan s offsets buckets generations h) where
   pub from-first : placedFrom (readCall s) 0 (first h) ≡ placedOf (readCall s)
   unfolding placedFrom placedOf slotsOf
   from-first = let e : h .base ≡ readVolume s .head .base = ap (λ (x : calls.Head). x .base) (plan .head) in rw e
 
-  pub reached-first : Reached s numbers h 0 (first h)
+  pub reached-first : Reached s buckets h 0 (first h)
   unfolding slotsOf
   reached-first =
       record {
@@ -50,14 +51,14 @@ module _ {s offsets numbers generations : List ℕ} {h : Head} (plan : Plan s of
   -- at piece i: all but the fields of the pieces from there on is written
   module _ {B : Type 0} (f : B → Field) (g : calls-placed.Placed → B) where
     pub record Placing (xs : List ℕ) (at : ℕ) (out : List ℕ) (p : ℕ) (o : Cursor) (i : ℕ) : Type 0 where
-      pub reached : Reached s numbers h i o
+      pub reached : Reached s buckets h i o
       pub part : Part xs at (encode (map f (map g (placedOf (readCall s))))) out p (encode (map f (map g (placedFrom (readCall s) i o))))
 
     pub placing-first : (xs : List ℕ) (at : ℕ) → length xs ≤ top → Placing xs at xs at (first h) 0
     placing-first xs at k = record { reached = reached-first; part = rw from-first (begin xs at _ k) }
 
     pub placing-next : {xs : List ℕ} {at : ℕ} {out : List ℕ} {p : ℕ} {o : Cursor} {i : ℕ} {t : Step} {ys : List ℕ} {r : ℕ}
-        → Placing xs at out p o i → Stepped s numbers h i o t → Emitted out p (encodeField (f (g (placedIn (t .placed))))) ys r
+        → Placing xs at out p o i → Stepped s buckets h i o t → Emitted out p (encodeField (f (g (placedIn (t .placed))))) ys r
         → Placing xs at ys r (t .next) (i + 1)
     placing-next q e w = record { reached = e .reached; part = turn _ (q .part) (fields-next f (ap (map g) (e .here))) w }
 

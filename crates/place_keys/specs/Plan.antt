@@ -4,7 +4,8 @@ use mathlib.Core.Path.{_≡_}
 use mathlib.Core.Bool.{true}
 use mathlib.Core.List.{List, _∷_, map}
 use lib.ListN.{length, getD, drop}
-use Rattle.wire.specs.Kinds.{noBucket, baseInRange, fileSectorNumber, sectorNumber, bucketIs, bucketsIn}
+use Rattle.wire.specs.Kinds.{noBucket, sameBucket, bucketInRange, baseInRange, fileSectorNumber, sectorNumber}
+use Rattle.wire.specs.declared.kinds.Bucket.{Bucket}
 use Rattle.calls.specs.Lists.{allOf}
 use Rattle.calls.specs.CallList.{CallList, Volume}
 use Rattle.calls.specs.Clock.{clockOf}
@@ -22,12 +23,12 @@ use Rattle.place_keys.specs.declared.placed.Placed.{Placed}
 use Rattle.place_keys.specs.declared.placed.Cursor.{Cursor}
 use Rattle.place_keys.specs.declared.placed.Step.{Step}
 
--- The pieces' offsets in s, the numbers of the buckets taken, their generations and the head.
-pub record Plan (s offsets numbers generations : List ℕ) (h : Head) : Type 0 where
+-- The pieces' offsets in s, the buckets taken, their generations and the head.
+pub record Plan (s offsets : List ℕ) (buckets : List Bucket) (generations : List ℕ) (h : Head) : Type 0 where
   pub pieces : PiecesAt s offsets (readCall s .pieces)
   pub head : headIn h ≡ readVolume s .head
-  pub taken : bucketsIn numbers ≡ walkOf (readCall s) .taken
-  pub gens : generations ≡ map (genOf (readVolume s .trees .gens)) (bucketsIn numbers)
+  pub taken : buckets ≡ walkOf (readCall s) .taken
+  pub gens : generations ≡ map (genOf (readVolume s .trees .gens)) buckets
   -- refusal 3: at most 1,024 pieces, the base below 2^40
   pub few : length offsets ≤ 1024
   pub base : baseInRange (h .base) ≡ true
@@ -38,11 +39,13 @@ pub record Plan (s offsets numbers generations : List ℕ) (h : Head) : Type 0 w
   pub kinds : allOf kindListed (readCall s .pieces) ≡ true
   pub sizes : allOf (pieceSized (h .«bucket_sectors») (blockOf (h .«block_sectors»))) (readCall s .pieces) ≡ true
   -- refusal 11: the walk takes as many buckets as needed, at most one for each piece
-  pub enough : bucketsNeeded (slotsOf (readCall s)) ≤ length numbers
-  pub short : length numbers ≤ 1024
+  pub enough : bucketsNeeded (slotsOf (readCall s)) ≤ length buckets
+  pub short : length buckets ≤ 1024
   -- refusal 3: runs end at most at 65,536; refusal 10: no bucket is in two of them
-  pub low : (i : ℕ) → getD numbers i 0 < 65536
-  pub distinct : (i j : ℕ) → i < length numbers → j < length numbers → getD numbers i 0 ≡ getD numbers j 0 → i ≡ j
+  pub low : allOf bucketInRange buckets ≡ true
+  pub distinct :
+      (i j : ℕ) → i < length buckets → j < length buckets → sameBucket (bucketAt noBucket buckets i) (bucketAt noBucket buckets j) ≡ true
+      → i ≡ j
 
 -- the piece that the code holds, at its place
 abbrev pub placedIn : Placed → calls.Placed
@@ -57,14 +60,14 @@ placedFrom c i o =
     (nextFit (c .volume .head .bucketSectors) (o .index) (o .used) (map (λ p. p .stored) (drop i (c .pieces))))
 
 -- a cursor that stands at piece i: the buckets taken are enough for what is left
-pub record Reached (s numbers : List ℕ) (h : Head) (i : ℕ) (o : Cursor) : Type 0 where
+pub record Reached (s : List ℕ) (buckets : List Bucket) (h : Head) (i : ℕ) (o : Cursor) : Type 0 where
   pub index : o .index ≤ i
   pub used : o .used < 65536
   pub end : fileSectorNumber (o .end) ≤ 2 ^ 40 + 128 * i
   pub enough :
       bucketsNeeded
       (nextFit (h .«bucket_sectors») (o .index) (o .used) (map (λ p. p .stored) (drop i (readCall s .pieces))))
-      ≤ length numbers
+      ≤ length buckets
 
 -- the bounds that the words of a key ask for
 pub record Bounded (p : Placed) : Type 0 where
@@ -74,29 +77,29 @@ pub record Bounded (p : Placed) : Type 0 where
   pub first : sectorNumber (p .first) < 2 ^ 44
 
 -- one step: piece i at its place, in the bucket that is now open, and the pieces after it
-pub record Stepped (s numbers : List ℕ) (h : Head) (i : ℕ) (o : Cursor) (r : Step) : Type 0 where
+pub record Stepped (s : List ℕ) (buckets : List Bucket) (h : Head) (i : ℕ) (o : Cursor) (r : Step) : Type 0 where
   pub here : placedFrom (readCall s) i o ≡ placedIn (r .placed) ∷ placedFrom (readCall s) (i + 1) (r .next)
-  pub reached : Reached s numbers h (i + 1) (r .next)
+  pub reached : Reached s buckets h (i + 1) (r .next)
   pub bounded : Bounded (r .placed)
-  pub index : r .next .index < length numbers
-  pub bucket : r .placed .bucket ≡ bucketIs (getD numbers (r .next .index) 0)
+  pub index : r .next .index < length buckets
+  pub bucket : r .placed .bucket ≡ bucketAt noBucket buckets (r .next .index)
 
 -- the dirty counts of the buckets taken, by index
-pub record Dirty (ps : List calls.Placed) (numbers counts : List ℕ) : Type 0 where
-  pub at : (i : ℕ) → i < length numbers → getD counts i 0 ≡ dirtyIn ps (bucketIs (getD numbers i 0))
+pub record Dirty (ps : List calls.Placed) (buckets : List Bucket) (counts : List ℕ) : Type 0 where
+  pub at : (i : ℕ) → i < length buckets → getD counts i 0 ≡ dirtyIn ps (bucketAt noBucket buckets i)
 
 -- those of some placed pieces
-pub record DirtyKnown (numbers counts : List ℕ) : Type 0 where
+pub record DirtyKnown (buckets : List Bucket) (counts : List ℕ) : Type 0 where
   pub placed : List calls.Placed
-  pub dirty : Dirty placed numbers counts
+  pub dirty : Dirty placed buckets counts
 
 -- what the alloc keys of the buckets taken hold of a volume: the journal number, the generations and the clock
-pub record AllocsOf (v : Volume) (numbers generations : List ℕ) (journal clock : ℕ) : Type 0 where
+pub record AllocsOf (v : Volume) (buckets : List Bucket) (generations : List ℕ) (journal clock : ℕ) : Type 0 where
   pub number : v .head .journal ≡ journal
-  pub gens : generations ≡ map (genOf (v .trees .gens)) (bucketsIn numbers)
+  pub gens : generations ≡ map (genOf (v .trees .gens)) buckets
   pub time : clockOf (v .trees .alloc) ≡ clock
 
 -- those of some volume
-pub record AllocsKnown (numbers generations : List ℕ) (journal clock : ℕ) : Type 0 where
+pub record AllocsKnown (buckets : List Bucket) (generations : List ℕ) (journal clock : ℕ) : Type 0 where
   pub volume : Volume
-  pub allocs : AllocsOf volume numbers generations journal clock
+  pub allocs : AllocsOf volume buckets generations journal clock

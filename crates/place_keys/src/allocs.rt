@@ -53,8 +53,8 @@ pub fn put_allocs(
     clock: u64,
 ) -> usize
     requires { ⌜ (length (now taken) ≤ length (now gens)) × (length (now taken) ≤ length (now dirty)) ⌝ }
-    requires { ⌜ AllocsKnown (now taken) (now gens) journal clock × DirtyKnown (now taken) (now dirty) ⌝ }
-    ensures { λ r. ⌜ ((v : Volume) (ps : List calls.Placed) → AllocsOf v (now (taken .entry)) (now (gens .entry)) journal clock → Dirty ps (now (taken .entry)) (now (dirty .entry)) → Emitted (now (out .entry)) at (keysBytes 4 (map (newAllocKey v ps) (bucketsIn (now (taken .entry))))) (now (out .exit)) r) ⌝ }
+    requires { ⌜ AllocsKnown (bucketsIn (now taken)) (now gens) journal clock × DirtyKnown (bucketsIn (now taken)) (now dirty) ⌝ }
+    ensures { λ r. ⌜ ((v : Volume) (ps : List calls.Placed) → AllocsOf v (bucketsIn (now (taken .entry))) (now (gens .entry)) journal clock → Dirty ps (bucketsIn (now (taken .entry))) (now (dirty .entry)) → Emitted (now (out .entry)) at (keysBytes 4 (map (newAllocKey v ps) (bucketsIn (now (taken .entry))))) (now (out .exit)) r) ⌝ }
 {
     let mut p = at;
     let mut i: usize = 0;

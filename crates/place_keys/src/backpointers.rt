@@ -1,5 +1,6 @@
 // Tree 13: the backpointers of the extents.
 ghost use mathlib.Core.List.{map};
+ghost use Rattle.wire.specs.Kinds.{bucketsIn};
 ghost use Rattle.wire.specs.Encode.{encode, encodeField, keyField};
 ghost use Rattle.calls.specs.Extents.{backpointerKey};
 ghost use Rattle.calls.specs.Place.{placedOf};
@@ -43,7 +44,7 @@ pub fn put_backpointers(
     gens: &[u8],
     h: Head,
 ) -> usize
-    requires { ⌜ Plan (now s) (now pieces) (now taken) (now gens) h ⌝ }
+    requires { ⌜ Plan (now s) (now pieces) (bucketsIn (now taken)) (now gens) h ⌝ }
     ensures { λ r. ⌜ Emitted (now (out .entry)) at (encode (map (keyField 13) (map (backpointerKey (headIn h)) (placedOf (readCall (now (s .entry))))))) (now (out .exit)) r ⌝ }
 {
     let mut p = at;

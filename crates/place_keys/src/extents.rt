@@ -1,6 +1,7 @@
 // Tree 0: the extents of the pieces.
 ghost use Prim.Native.Nat.{_≤_};
 ghost use mathlib.Core.List.{map};
+ghost use Rattle.wire.specs.Kinds.{bucketsIn};
 ghost use Rattle.wire.specs.Encode.{encode, encodeField, keyField};
 ghost use Rattle.calls.specs.Extents.{extentKey};
 ghost use Rattle.calls.specs.Place.{placedOf};
@@ -52,7 +53,7 @@ pub fn put_extents(
     gens: &[u8],
     h: Head,
 ) -> usize
-    requires { ⌜ Plan (now s) (now pieces) (now taken) (now gens) h ⌝ }
+    requires { ⌜ Plan (now s) (now pieces) (bucketsIn (now taken)) (now gens) h ⌝ }
     ensures { λ r. ⌜ Emitted (now (out .entry)) at (encode (map (keyField 0) (map (extentKey (headIn h)) (placedOf (readCall (now (s .entry))))))) (now (out .exit)) r ⌝ }
 {
     let mut p = at;

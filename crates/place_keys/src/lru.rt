@@ -15,8 +15,8 @@ use wire::kinds::Bucket;
 // The LRU keys of the buckets taken, in order, by their dirty counts. `put_keys` shows whose they are, refusal 4 that a bucket has sectors.
 pub fn put_lrus(out: &mut [u8], at: usize, taken: &[u64], dirty: &[u32], sectors: u64) -> usize
     requires { ⌜ (length (now taken) ≤ length (now dirty)) × (0 < sectors) ⌝ }
-    requires { ⌜ DirtyKnown (now taken) (now dirty) ⌝ }
-    ensures { λ r. ⌜ ((ps : List calls.Placed) → Dirty ps (now (taken .entry)) (now (dirty .entry)) → Emitted (now (out .entry)) at (keysBytes 10 (flatMap (λ b. lruKeys sectors b (dirtyIn ps b)) (bucketsIn (now (taken .entry))))) (now (out .exit)) r) ⌝ }
+    requires { ⌜ DirtyKnown (bucketsIn (now taken)) (now dirty) ⌝ }
+    ensures { λ r. ⌜ ((ps : List calls.Placed) → Dirty ps (bucketsIn (now (taken .entry))) (now (dirty .entry)) → Emitted (now (out .entry)) at (keysBytes 10 (flatMap (λ b. lruKeys sectors b (dirtyIn ps b)) (bucketsIn (now (taken .entry))))) (now (out .exit)) r) ⌝ }
 {
     let mut p = at;
     let mut i: usize = 0;

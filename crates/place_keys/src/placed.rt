@@ -2,6 +2,7 @@
 ghost use mathlib.Core.Path.{_≡_};
 ghost use Prim.Native.Nat.{_<_};
 ghost use lib.ListN.{length};
+ghost use Rattle.wire.specs.Kinds.{bucketsIn};
 ghost use Rattle.place_keys.specs.Plan.{Plan, Reached, Stepped};
 use next_fit::slot;
 use next_fit::slot::Open;
@@ -56,9 +57,9 @@ pub fn place_piece(
     h: Head,
     o: Cursor,
 ) -> Step
-    requires { ⌜ Plan (now s) (now pieces) (now taken) (now gens) h ⌝ }
-    requires { ⌜ (i < length (now pieces)) × Reached (now s) (now taken) h i o ⌝ }
-    ensures { λ r. ⌜ Stepped (now (s .entry)) (now (taken .entry)) h i o r ⌝ }
+    requires { ⌜ Plan (now s) (now pieces) (bucketsIn (now taken)) (now gens) h ⌝ }
+    requires { ⌜ (i < length (now pieces)) × Reached (now s) (bucketsIn (now taken)) h i o ⌝ }
+    ensures { λ r. ⌜ Stepped (now (s .entry)) (bucketsIn (now (taken .entry))) h i o r ⌝ }
 {
     let piece = piece::read_piece(s, pieces[i] as usize);
     let stored = piece.stored as u64;

@@ -1,5 +1,6 @@
 // Fields 72: where each piece is placed.
 ghost use mathlib.Core.List.{map};
+ghost use Rattle.wire.specs.Kinds.{bucketsIn};
 ghost use Rattle.wire.specs.Encode.{encode, encodeField};
 ghost use Rattle.calls.specs.ChangeList.{spotField};
 ghost use Rattle.calls.specs.Place.{placedOf, spotAt};
@@ -34,7 +35,7 @@ pub fn put_spots(
     gens: &[u8],
     h: Head,
 ) -> usize
-    requires { ⌜ Plan (now s) (now pieces) (now taken) (now gens) h ⌝ }
+    requires { ⌜ Plan (now s) (now pieces) (bucketsIn (now taken)) (now gens) h ⌝ }
     ensures { λ r. ⌜ Emitted (now (out .entry)) at (encode (map spotField (map spotAt (placedOf (readCall (now (s .entry))))))) (now (out .exit)) r ⌝ }
 {
     let mut p = at;

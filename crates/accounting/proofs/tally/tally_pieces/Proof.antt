@@ -1,13 +1,14 @@
 -- `tally::tally_pieces` meets its contract. The invariant: each tally and what is left are the tally of all. Assumes nothing.
 use native.Mathlib.Omega.{arith}
-use mathlib.Core.Path.{_≡_}
+use mathlib.Core.Path.{_≡_, ap, sym, _∙_}
 use mathlib.Core.List.{[], _∷_}
-use Prim.Native.Nat.{_-_, _<_, _≤_}
+use Prim.Native.Nat.{_+_, _-_, _<_, _≤_}
 use lib.ListN.{length, drop, drop-of-length-le}
 use Rattle.calls.specs.Answers.{readCall}
+use Rattle.calls.specs.CallList.{Piece}
 use Rattle.reader.specs.Pieces.{pieceIn}
+use Rattle.reader.proofs.NextLaws.{pieces-next}
 use Rattle.accounting.specs.Tally.{ofKind}
-use Rattle.accounting.proofs.PieceLaws.{piece-next}
 use Rattle.accounting.proofs.TallyLaws.{Tallying, tallying-first, tallying-next, tallying-end, kind-next, kind-none, tallies-equal, small-one, small-kind, small-more}
 use Rattle.accounting.proofs.tally.tally_pieces.Statement.{statement}
 use Rattle.accounting.proofs.tally.tally_pieces.Tie as tie
@@ -113,7 +114,10 @@ loop-again c =
     let r = k0 .before in
     let l = r .before .before .before in
     let p = pieceIn (r .read-piece .result) in
-    let e = piece-next {p = p} (l .loop .i) (start (l .before) .pre .0) (omega arith) (r .read-piece .ensures) in
+    let a = start (l .before) in
+    let e =
+    pieces-next (a .pre .0) (l .loop .i) (omega arith)
+    ∙ ap (λ (q : Piece). q ∷ drop (l .loop .i + 1) (readCall (a .args .s .now) .pieces)) (sym (r .read-piece .ensures)) in
     let f : p .file < 65536 = omega (arith, r .read-piece .ok) in
     let s : p .stored < 65536 = omega (arith, r .read-piece .ok) in (
       omega arith,

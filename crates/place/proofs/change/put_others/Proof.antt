@@ -1,4 +1,5 @@
 -- `change::put_others` meets its contract. Assumes nothing.
+use native.Mathlib.Omega.{arith}
 use mathlib.Core.Path.{_≡_, sym, ap, _∙_}
 use mathlib.Core.List.{List, map}
 use Rattle.calls.specs.Extents as calls
@@ -40,7 +41,7 @@ put-rows-requires : tie.Need-put-rows-requires
 put-rows-requires c κs =
     let k = c .before .before .before .before .before .before .before .before .before .before .before .before .before .before .before in
     let a = k .before .before .before .before .before .before in
-    ((a .pre .short, a .pre .option), record { buckets = bucketsIn (a .args .taken .now); placed = placed a; count = buckets-length (a .args .taken .now); tallied = record { is = tallied k; small = k .tally-pieces .ensures .small } })
+    ((omega (arith, a .pre .short, buckets-length (a .args .taken .now)), a .pre .option), record { buckets = bucketsIn (a .args .taken .now); placed = placed a; count = buckets-length (a .args .taken .now); tallied = record { is = tallied k; small = k .tally-pieces .ensures .small } })
 
 put-sectors-requires : tie.Need-put-sectors-requires
 put-sectors-requires c κs = search needs

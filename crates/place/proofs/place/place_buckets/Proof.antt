@@ -1,18 +1,26 @@
 -- `place::place_buckets` meets its contract. Assumes nothing.
 use mathlib.Core.Path.{refl, sym, subst}
 use mathlib.Core.List.{List}
-use Prim.Native.Nat.{ℕ}
+use Prim.Native.Nat.{ℕ, _≤_}
+use native.Mathlib.Omega.{arith}
+use lib.ListN.{length}
 use lib.Seq.{length-take-le}
 use Rattle.wire.specs.Keys.{Key}
+use Rattle.wire.specs.Kinds.{bucketsIn}
 use Rattle.reader.proofs.KeyHereLaws.{keys-here, keyed}
 use Rattle.gens.specs.Records.{RecordsFound}
 use Rattle.place_keys.specs.Plan.{Plan}
+use Rattle.place_keys.proofs.StepLaws.{buckets-length}
 use borrow.Author.Needs.{needs}
 use Rattle.place.proofs.place.place_buckets.Statement.{statement}
 use Rattle.place.proofs.place.place_buckets.Tie as tie
 
 abbrev start : tie.After-find-records → tie.Start
 start c = c .before .before .before .before .before .before .before .before .before
+
+-- there is room for the generations
+short : (a : tie.Start) → length (a .args .taken .now) ≤ 1024
+short a = omega (arith, a .pre .0 .short, buckets-length (a .args .taken .now))
 
 find-records-requires : tie.Need-find-records-requires
 find-records-requires c κs =
@@ -30,23 +38,24 @@ fill-gens-requires c κs =
     let f = c .before .before in
     let a = start f in (
       subst (λ (ks : List Key). RecordsFound (a .args .s .now) ks (f .find-records .last .1 .1 .0)) (sym (keys-here (a .pre .1 .2))) (f .find-records .ensures),
-      search needs,
+      (omega (arith, short a), a .pre .0 .low),
     )
 
 write-clock-requires : tie.Need-write-clock-requires
 write-clock-requires c κs = search needs
 
 array-share-prefix-generations : tie.Need-array-share-prefix-generations
-array-share-prefix-generations c = search needs
+array-share-prefix-generations c = omega (arith, short (start (c .before .before .before .before .before)), c .before .before .fill-gens .kept .0)
 
 slice-aggregate-write-change : tie.Need-slice-aggregate-write-change
-slice-aggregate-write-change c = sym (length-take-le _ _ (search needs))
+slice-aggregate-write-change c =
+    sym (length-take-le _ _ (omega (arith, short (start (c .before .before .before .before .before .before)), c .before .before .before .fill-gens .kept .0)))
 
 write-change-requires : tie.Need-write-change-requires
 write-change-requires c κs =
     let f = c .before .before .before .before .before in
     let a = start (f .before .before .before) in (
-      subst (λ (g : List ℕ). Plan (a .args .s .now) (a .args .pieces .now) (a .args .taken .now) g (a .args .h)) (sym (f .fill-gens .ensures)) (a .pre .0),
+      subst (λ (g : List ℕ). Plan (a .args .s .now) (a .args .pieces .now) (bucketsIn (a .args .taken .now)) g (a .args .h)) (sym (f .fill-gens .ensures)) (a .pre .0),
       (a .pre .1 .0, sym (c .before .before .before .write-clock .ensures), a .pre .1 .3),
     )
 

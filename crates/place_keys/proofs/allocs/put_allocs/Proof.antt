@@ -13,14 +13,15 @@ use Rattle.wire.specs.Kinds.{bucketsIn}
 use Rattle.place_keys.specs.Plan.{Dirty, AllocsOf}
 use Rattle.wire.proofs.EmitLaws.{emitted, done}
 use Rattle.change_fields.proofs.FieldLists.{fields-next, fields-none}
-use Rattle.place_keys.proofs.BucketLaws.{buckets-next, buckets-none, alloc-key}
+use Rattle.place_keys.proofs.StepLaws.{bucket-at, buckets-length}
+use Rattle.place_keys.proofs.BucketLaws.{taken-next, taken-none, alloc-key}
 use Rattle.place_keys.proofs.allocs.put_allocs.Statement.{statement}
 use Rattle.place_keys.proofs.allocs.put_allocs.Tie as tie
 
 abbrev Inv-loop : tie.InvT-loop
 Inv-loop out₀ at taken gens dirty journal clock p₀ i₀ out p i =
     (length out ≡ length out₀)
-    × ((v : Volume) (ps : List calls.Placed) → AllocsOf v taken gens journal clock → Dirty ps taken dirty
+    × ((v : Volume) (ps : List calls.Placed) → AllocsOf v (bucketsIn taken) gens journal clock → Dirty ps (bucketsIn taken) dirty
     → Part out₀ at (encode (map (keyField 4) (map (newAllocKey v ps) (bucketsIn taken)))) out p
     (encode (map (keyField 4) (map (newAllocKey v ps) (drop i (bucketsIn taken))))))
 
@@ -62,8 +63,8 @@ loop-again c =
     let i = l .loop .i in
     let m : i < length (a .args .taken .now) = omega arith in (
       wrote-length (k .put-alloc .ensures) ∙ l .loop .inv .0,
-      λ v ps f d. turn _ (l .loop .inv .1 v ps f d) (fields-next (keyField 4) (ap (map (newAllocKey v ps)) (buckets-next (a .args .taken .now) i m)))
-          (emitted (ap (λ k. encodeField (keyField 4 k)) (alloc-key i f d m)) (k .put-alloc .ensures)),
+      λ v ps f d. turn _ (l .loop .inv .1 v ps f d) (fields-next (keyField 4) (ap (map (newAllocKey v ps)) (taken-next (a .args .taken .now) i m)))
+          (emitted (ap (λ k. encodeField (keyField 4 k)) (alloc-key i f d (omega (arith, m, buckets-length (a .args .taken .now))) (bucket-at (a .args .taken .now) i))) (k .put-alloc .ensures)),
     )
 
 same-length : tie.Need-same-length Inv-loop μ-loop
@@ -73,7 +74,7 @@ returns : tie.Need-returns Inv-loop μ-loop
 returns c =
     let l = c .before in
     let a = l .before .before .before .before .before in
-    λ v ps f d. done (l .loop .inv .1 v ps f d) (fields-none (keyField 4) (ap (map (newAllocKey v ps)) (buckets-none (a .args .taken .now) (l .loop .i) (omega arith))))
+    λ v ps f d. done (l .loop .inv .1 v ps f d) (fields-none (keyField 4) (ap (map (newAllocKey v ps)) (taken-none (a .args .taken .now) (l .loop .i) (omega arith))))
 
 pub put-allocs-spec : {M : Type 1} → statement M
 put-allocs-spec =

@@ -5,6 +5,7 @@ use lib.ListN.{length}
 use Rattle.wire.specs.Encode.{keyField}
 use Rattle.calls.specs.Extents.{extentKey}
 use Rattle.reader.specs.Heads.{headIn}
+use Rattle.wire.specs.Kinds.{bucketsIn}
 use Rattle.wire.proofs.OutputLaws.{part-length}
 use Rattle.place_keys.specs.Plan.{Plan}
 use Rattle.place_keys.proofs.WalkLaws.{Placing, placing-first, placing-next, placing-end}
@@ -12,7 +13,7 @@ use Rattle.place_keys.proofs.extents.put_extents.Statement.{statement}
 use Rattle.place_keys.proofs.extents.put_extents.Tie as tie
 
 abbrev Inv-loop : tie.InvT-loop
-Inv-loop out₀ at s pieces taken gens h p₀ o₀ i₀ out p o i = (plan : Plan s pieces taken gens h) → Placing plan (keyField 0) (extentKey (headIn h)) out₀ at out p o i
+Inv-loop out₀ at s pieces taken gens h p₀ o₀ i₀ out p o i = (plan : Plan s pieces (bucketsIn taken) gens h) → Placing plan (keyField 0) (extentKey (headIn h)) out₀ at out p o i
 
 abbrev μ-loop : tie.MeasureT-loop
 μ-loop out₀ at s pieces taken gens h p₀ o₀ i₀ out p o i = length pieces - i

@@ -1,11 +1,12 @@
 -- `generations::fill_gens` meets its contract. The invariant: those of the first i buckets are filled in. Assumes nothing.
 use native.Mathlib.Omega.{arith}
-use mathlib.Core.Path.{_≡_, refl}
+use mathlib.Core.Path.{_≡_, refl, ap, _∙_}
 use Prim.Native.Nat.{_-_, _≤_}
 use lib.ListN.{length, length-set}
-use borrow.Author.Tests.{lt-ltb}
+use Rattle.wire.specs.Kinds.{bucketInRange, bucketsIn}
 use Rattle.calls.specs.Answers.{readVolume}
 use Rattle.calls.specs.Generations.{genOf}
+use Rattle.place_keys.proofs.StepLaws.{bucket-at, low-at}
 use Rattle.place_keys.proofs.FillLaws.{Filled, filled-next, filled-end}
 use Rattle.place_keys.proofs.generations.fill_gens.Statement.{statement}
 use Rattle.place_keys.proofs.generations.fill_gens.Tie as tie
@@ -29,7 +30,11 @@ shared-slice-read-t10 : tie.Need-shared-slice-read-t10 Inv-loop μ-loop
 shared-slice-read-t10 c = omega arith
 
 bucket-gen-requires : tie.Need-bucket-gen-requires Inv-loop μ-loop
-bucket-gen-requires c κs = let l = c .before .before in let a = start l in (record { gens = _; are = a .pre .0 }, lt-ltb _ _ (a .pre .1 .1 (l .loop .i)))
+bucket-gen-requires c κs =
+    let l = c .before .before in
+    let a = start l in
+    let ns = a .args .taken .now in
+    (record { gens = _; are = a .pre .0 }, ap bucketInRange (bucket-at ns (l .loop .i)) ∙ low-at (bucketsIn ns) (a .pre .1 .1) (l .loop .i))
 
 slice-write-out : tie.Need-slice-write-out Inv-loop μ-loop
 slice-write-out c =

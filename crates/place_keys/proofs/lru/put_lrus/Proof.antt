@@ -1,6 +1,6 @@
 -- `lru::put_lrus` meets its contract. The invariant: what is left are the keys from index i on. Assumes nothing.
 use native.Mathlib.Omega.{arith}
-use mathlib.Core.Path.{_≡_, refl, ap, _∙_}
+use mathlib.Core.Path.{sym, _≡_, refl, ap, _∙_}
 use mathlib.Core.List.{List, flatMap}
 use Prim.Native.Nat.{_-_, _<_}
 use lib.ListN.{length, drop, getD}
@@ -14,14 +14,15 @@ use Rattle.wire.specs.Kinds.{bucketIs, bucketsIn}
 use Rattle.place_keys.specs.Plan.{Dirty}
 use Rattle.wire.proofs.EmitLaws.{emitted, done}
 use Rattle.change_fields.proofs.FieldLists.{flat-next, flat-none}
-use Rattle.place_keys.proofs.BucketLaws.{buckets-next, buckets-none}
+use Rattle.place_keys.proofs.StepLaws.{bucket-at, buckets-length}
+use Rattle.place_keys.proofs.BucketLaws.{taken-next, taken-none}
 use Rattle.place_keys.proofs.lru.put_lrus.Statement.{statement}
 use Rattle.place_keys.proofs.lru.put_lrus.Tie as tie
 
 abbrev Inv-loop : tie.InvT-loop
 Inv-loop out₀ at taken dirty sectors p₀ i₀ out p i =
     (length out ≡ length out₀)
-    × ((ps : List calls.Placed) → Dirty ps taken dirty
+    × ((ps : List calls.Placed) → Dirty ps (bucketsIn taken) dirty
     → Part out₀ at (keysBytes 10 (flatMap (λ b. lruKeys sectors b (dirtyIn ps b)) (bucketsIn taken))) out p
     (keysBytes 10 (flatMap (λ b. lruKeys sectors b (dirtyIn ps b)) (drop i (bucketsIn taken)))))
 
@@ -62,8 +63,8 @@ loop-again c =
     let n = a .args .sectors in
     let b = bucketIs (getD (a .args .taken .now) i 0) in (
       wrote-length (k .put-lru-key .ensures) ∙ l .loop .inv .0,
-      λ ps d. turn _ (l .loop .inv .1 ps d) (flat-next (keyField 10) (λ b. lruKeys n b (dirtyIn ps b)) (buckets-next (a .args .taken .now) i m))
-          (emitted (ap (λ z. keysBytes 10 (lruKeys n b z)) (d .at i m)) (k .put-lru-key .ensures)),
+      λ ps d. turn _ (l .loop .inv .1 ps d) (flat-next (keyField 10) (λ b. lruKeys n b (dirtyIn ps b)) (taken-next (a .args .taken .now) i m))
+          (emitted (ap (λ z. keysBytes 10 (lruKeys n b z)) (d .at i (omega (arith, m, buckets-length (a .args .taken .now))) ∙ ap (dirtyIn ps) (sym (bucket-at (a .args .taken .now) i)))) (k .put-lru-key .ensures)),
     )
 
 same-length : tie.Need-same-length Inv-loop μ-loop
@@ -73,7 +74,7 @@ returns : tie.Need-returns Inv-loop μ-loop
 returns c =
     let l = c .before in
     let a = l .before .before .before .before in
-    λ ps d. done (l .loop .inv .1 ps d) (flat-none (keyField 10) (λ b. lruKeys (a .args .sectors) b (dirtyIn ps b)) (buckets-none (a .args .taken .now) (l .loop .i) (omega arith)))
+    λ ps d. done (l .loop .inv .1 ps d) (flat-none (keyField 10) (λ b. lruKeys (a .args .sectors) b (dirtyIn ps b)) (taken-none (a .args .taken .now) (l .loop .i) (omega arith)))
 
 pub put-lrus-spec : {M : Type 1} → statement M
 put-lrus-spec =

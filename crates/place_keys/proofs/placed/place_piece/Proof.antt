@@ -1,12 +1,14 @@
 -- `placed::place_piece` meets its contract. Assumes nothing.
 use native.Mathlib.Omega.{arith}
-use mathlib.Core.Path.{_≡_}
+use mathlib.Core.Path.{_≡_, ap, _∙_}
 use Prim.Native.Nat.{_+_, _<_}
 use lib.ListN.{length, take, drop, getD}
+use borrow.Author.Tests.{ltb-true}
+use Rattle.wire.specs.Kinds.{bucketInRange, bucketsIn}
 use Rattle.calls.specs.CallList.{pieceOf}
 use Rattle.reader.specs.Pieces.{pieceIn}
 use Rattle.reader.specs.declared.piece.Piece.{Piece}
-use Rattle.place_keys.proofs.StepLaws.{gens-length, slot-index, slot-offset, slot-used, stepped}
+use Rattle.place_keys.proofs.StepLaws.{bucket-at, buckets-length, low-at, gens-length, slot-index, slot-offset, slot-used, stepped}
 use borrow.Author.Needs.{needs}
 use Rattle.place_keys.proofs.placed.place_piece.Statement.{statement}
 use Rattle.place_keys.proofs.placed.place_piece.Tie as tie
@@ -42,7 +44,7 @@ got : (k : tie.After-next-fit) → pieceIn (p k) ≡ pieceOf (take 13 (drop (get
 got k = k .before .before .before .read-piece .ensures
 
 index : (k : tie.After-next-fit) → k .next-fit .result .index < length (start k .args .taken .now)
-index k = let a = start k in slot-index (a .pre .0) (a .args .i) (a .pre .1 .0) (p k) (got k) (a .args .o) (a .pre .1 .1) (k .next-fit .result) (k .next-fit .ensures)
+index k = let a = start k in omega (arith, buckets-length (a .args .taken .now), slot-index (a .pre .0) (a .args .i) (a .pre .1 .0) (p k) (got k) (a .args .o) (a .pre .1 .1) (k .next-fit .result) (k .next-fit .ensures))
 
 offset : (k : tie.After-next-fit) → k .next-fit .result .offset < 65536
 offset k = let a = start k in slot-offset (a .pre .0) (a .args .i) (a .pre .1 .0) (p k) (got k) (a .args .o) (a .pre .1 .1) (k .next-fit .result) (k .next-fit .ensures)
@@ -65,10 +67,12 @@ extent-end-requires c κs = (omega (arith, start (c .before .before) .pre .1 .1 
 sector-at-requires : tie.Need-sector-at-requires
 sector-at-requires c κs =
     let k = c .before .before .before in
-    (start k .pre .0 .low (k .next-fit .result .index), omega arith, offset k)
+    let ns = start k .args .taken .now in
+    let i = k .next-fit .result .index in
+    (ltb-true _ 65536 (ap bucketInRange (bucket-at ns i) ∙ low-at (bucketsIn ns) (start k .pre .0 .low) i), omega arith, offset k)
 
 shared-slice-read-t24 : tie.Need-shared-slice-read-t24
-shared-slice-read-t24 c = let k = c .before .before .before .before .before in omega (arith, index k, gens-length (start k .pre .0))
+shared-slice-read-t24 c = let k = c .before .before .before .before .before in omega (arith, index k, gens-length (start k .pre .0), buckets-length (start k .args .taken .now))
 
 add-t21 : tie.Need-add-t21
 add-t21 c = omega (arith, used (c .before .before .before .before .before .before))
@@ -78,7 +82,7 @@ returns c =
     let k = c .before .before .before .before .before .before in
     let a = start k in
     stepped (a .pre .0) (a .args .i) (a .pre .1 .0) (p k) (got k) (a .args .o) (a .pre .1 .1) (k .next-fit .result) (k .next-fit .ensures) (omega arith)
-    (c .before .before .sector-at .result) (c .before .before .before .extent-end .result) (c .before .before .sector-at .ensures)
+    _ (c .before .before .sector-at .result) (c .before .before .before .extent-end .result) (bucket-at (a .args .taken .now) (k .next-fit .result .index)) (c .before .before .sector-at .ensures)
     (c .before .before .before .extent-end .ensures)
 
 pub place-piece-spec : {M : Type 1} → statement M

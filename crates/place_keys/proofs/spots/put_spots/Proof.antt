@@ -4,6 +4,7 @@ use Prim.Native.Nat.{_-_}
 use lib.ListN.{length}
 use Rattle.calls.specs.ChangeList.{spotField}
 use Rattle.calls.specs.Place.{spotAt}
+use Rattle.wire.specs.Kinds.{bucketsIn}
 use Rattle.wire.proofs.OutputLaws.{part-length}
 use Rattle.place_keys.specs.Plan.{Plan}
 use Rattle.place_keys.proofs.WalkLaws.{Placing, placing-first, placing-next, placing-end}
@@ -11,7 +12,7 @@ use Rattle.place_keys.proofs.spots.put_spots.Statement.{statement}
 use Rattle.place_keys.proofs.spots.put_spots.Tie as tie
 
 abbrev Inv-loop : tie.InvT-loop
-Inv-loop out₀ at s pieces taken gens h p₀ o₀ i₀ out p o i = (plan : Plan s pieces taken gens h) → Placing plan spotField spotAt out₀ at out p o i
+Inv-loop out₀ at s pieces taken gens h p₀ o₀ i₀ out p o i = (plan : Plan s pieces (bucketsIn taken) gens h) → Placing plan spotField spotAt out₀ at out p o i
 
 abbrev μ-loop : tie.MeasureT-loop
 μ-loop out₀ at s pieces taken gens h p₀ o₀ i₀ out p o i = length pieces - i
