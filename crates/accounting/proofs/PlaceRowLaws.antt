@@ -1,4 +1,4 @@
--- Laws of the rows of a placement. Assumes nothing.
+-- Laws of the rows of a placement.
 use mathlib.Core.Path.{_≡_, refl, sym, ap, _∙_}
 use mathlib.Core.List.{List, [], _∷_, _++_, map}
 use Prim.Native.Nat.{ℕ, zero, suc, _+_, _*_, _/_, _%_, _^_}

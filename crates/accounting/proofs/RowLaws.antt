@@ -1,4 +1,4 @@
--- Laws of rows: those that are left out, rows one after the other, signed arguments. Assumes nothing.
+-- Laws of rows: those that are left out, rows one after the other, signed arguments.
 use mathlib.Core.Path.{_≡_, refl, sym, ap, _∙_}
 use mathlib.Core.Bool.{Bool, true, false, not}
 use mathlib.Core.List.{List, [], _∷_, _++_, map, append-assoc}

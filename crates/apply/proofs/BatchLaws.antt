@@ -1,4 +1,4 @@
--- Applying batch by batch is applying each section's whole queue, in the order of the change list. Assumes nothing.
+-- Applying batch by batch is applying each section's whole queue, in the order of the change list.
 use mathlib.Core.Path.{_≡_, refl, ap, sym, _∙_}
 use mathlib.Core.Bool.{Bool, true, false, not, _&&_, _||_, cond, false≢true, and-false}
 use mathlib.Core.List.{List, [], _∷_, _++_, map, append-assoc}
@@ -23,10 +23,10 @@ use Rattle.calls.specs.Buckets.{insertBucket, insertBuckets, removeBucket, remo
 use Rattle.calls.specs.Trees.{onEq, insertAt, upsert, remove, step, applyQueue}
 use Rattle.calls.specs.Place.{rootMissing}
 use Rattle.calls.specs.Apply.{applyTrees, rootBit, setRoots, withRoots, applyBatch, applyBatches}
-use Rattle.calls.proofs.AllLaws.{all-join, test-all}
-use Rattle.calls.proofs.BoolLaws.{parts}
-use Rattle.calls.proofs.Blocks.{field, Ascend, order-ascend, bodies-cons, bodies-none, keeps, shaped-out, shaped-tag}
-use Rattle.calls.proofs.ChangeTrip.{split-all}
+use Rattle.calls.proofs.lists.AllLaws.{all-join, test-all}
+use Rattle.calls.proofs.lists.BoolLaws.{parts}
+use Rattle.calls.proofs.encoding.Blocks.{field, Ascend, order-ascend, bodies-cons, bodies-none, keeps, shaped-out, shaped-tag}
+use Rattle.calls.proofs.encoding.ChangeTrip.{split-all}
 use Rattle.merge.specs.Entries.{bucketKey, isBucket, isEntry, entryOf, entries}
 use Rattle.apply.specs.Roots.{rootsIn}
 

@@ -1,4 +1,4 @@
--- The next volume, section by section: its bytes and its limits. Assumes nothing.
+-- The next volume, section by section: its bytes and its limits.
 use mathlib.Core.Path.{_≡_, refl, ap, sym, _∙_, subst}
 use mathlib.Core.Bool.{Bool, true, false, not, _&&_, _||_, and-true}
 use mathlib.Core.List.{List, [], _∷_, _++_, map, append-assoc, append-nil}
@@ -26,10 +26,10 @@ use Rattle.calls.specs.ChangeList.{changeShapes, changeLaidOut}
 use Rattle.calls.specs.Trees.{applyQueue}
 use Rattle.calls.specs.Apply.{applyTrees, setRoots, withRoots}
 use Rattle.calls.specs.Answers.{readVolume, nextVolume}
-use Rattle.calls.proofs.AllLaws.{all-imp, all-each, all-test, test-all}
-use Rattle.calls.proofs.ApplyLaws.{roots-below}
-use Rattle.calls.proofs.BoolLaws.{both, parts}
-use Rattle.calls.proofs.Blocks.{field, flat, gather, keeps}
+use Rattle.calls.proofs.lists.AllLaws.{all-imp, all-each, all-test, test-all}
+use Rattle.calls.proofs.encoding.ApplyLaws.{roots-below}
+use Rattle.calls.proofs.lists.BoolLaws.{both, parts}
+use Rattle.calls.proofs.encoding.Blocks.{field, flat, gather, keeps}
 use Rattle.reader.proofs.BoolLaws.{same}
 use Rattle.merge.specs.Entries.{sections, bucketKey, entries, fieldFor, sectionBytes}
 use Rattle.merge.specs.Counts.{keyFits, sectionWithin}

@@ -1,4 +1,4 @@
--- The sections of a volume by the reader's table. Assumes nothing.
+-- The sections of a volume by the reader's table.
 use mathlib.Core.Path.{_≡_, refl, ap, sym, _∙_}
 use mathlib.Core.Bool.{Bool, true, false, cond, false≢true}
 use mathlib.Core.List.{List, [], _∷_, map}
@@ -13,8 +13,8 @@ use Rattle.wire.specs.Fields.{Field, fields, fieldAt}
 use Rattle.wire.specs.Keys.{Key}
 use Rattle.wire.proofs.OutputLaws.{drop-next}
 use Rattle.calls.specs.CallList.{bodies}
-use Rattle.calls.proofs.AllLaws.{all-tail, first}
-use Rattle.calls.proofs.Blocks.{field}
+use Rattle.calls.proofs.lists.AllLaws.{all-tail, first}
+use Rattle.calls.proofs.encoding.Blocks.{field}
 use Rattle.reader.specs.Table.{FieldHere, Tabled}
 use Rattle.reader.specs.Readings.{ListRead}
 use Rattle.reader.specs.declared.head.Head.{Head}

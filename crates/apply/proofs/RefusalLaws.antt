@@ -1,4 +1,4 @@
--- Refusals 2 and 3 of the volume and 2 of the change list, in their order. Assumes nothing.
+-- Refusals 2 and 3 of the volume and 2 of the change list, in their order.
 use mathlib.Core.Path.{_≡_, refl, ap, _∙_}
 use mathlib.Core.Bool.{Bool, true, false, _&&_, cond, and-false}
 use mathlib.Core.List.{List, [], _∷_}
@@ -10,8 +10,8 @@ use Rattle.calls.specs.Limits.{volumeWithin}
 use Rattle.calls.specs.ChangeList.{changeLaidOut}
 use Rattle.calls.specs.Refusals.{test, verdict}
 use Rattle.calls.specs.Answers.{answer, readVolume, nextVolume, apply, made, outcome}
-use Rattle.calls.proofs.AnswerLaws.{apply-is}
-use Rattle.calls.proofs.OutcomeLaws.{answer-next, answer-stops, refused}
+use Rattle.calls.proofs.answers.AnswerLaws.{apply-is}
+use Rattle.calls.proofs.answers.OutcomeLaws.{answer-next, answer-stops, refused}
 use Rattle.reader.specs.Readings.{volumeRefusal, ListRead}
 use Rattle.reader.specs.declared.head.Head.{Head}
 use Rattle.reader.specs.declared.table.Ends.{Ends}

@@ -1,4 +1,4 @@
--- The loop over the sections, and the answer. Assumes nothing.
+-- The loop over the sections, and the answer.
 use mathlib.Core.Path.{_≡_, refl, ap, sym, _∙_}
 use mathlib.Core.Bool.{Bool, true, false, _&&_, cond, and-true, and-assoc}
 use mathlib.Core.List.{List, [], _∷_, _++_}
@@ -24,8 +24,8 @@ use Rattle.calls.specs.ChangeList.{changeLaidOut}
 use Rattle.calls.specs.Refusals.{test}
 use Rattle.calls.specs.Trees.{applyQueue}
 use Rattle.calls.specs.Answers.{Answer, answer, readVolume, nextVolume, apply, made, outcome}
-use Rattle.calls.proofs.AnswerLaws.{apply-is}
-use Rattle.calls.proofs.OutcomeLaws.{answer-short, answer-fits, answer-next, answer-stops, refused, accepted}
+use Rattle.calls.proofs.answers.AnswerLaws.{apply-is}
+use Rattle.calls.proofs.answers.OutcomeLaws.{answer-short, answer-fits, answer-next, answer-stops, refused, accepted}
 use Rattle.merge.specs.declared.below.Cursor.{Cursor}
 use Rattle.merge.specs.declared.queue.Parts.{Parts}
 use Rattle.merge.specs.Entries.{sections, entries, sectionBytes}

@@ -1,4 +1,4 @@
--- Root bits: one field 70, and the loop over a change list. Assumes nothing.
+-- Root bits: one field 70, and the loop over a change list.
 use mathlib.Core.Path.{_≡_, refl, ap, sym, _∙_}
 use mathlib.Core.Bool.{Bool, true, false, _||_, cond}
 use mathlib.Core.List.{List, [], _∷_}
@@ -17,9 +17,9 @@ use Rattle.calls.specs.CallList.{bodies, shaped}
 use Rattle.calls.specs.ChangeList.{changeShapes, rootListed, fieldOk, changeLaidOut}
 use Rattle.calls.specs.Place.{rootMissing}
 use Rattle.calls.specs.Apply.{setRoots}
-use Rattle.calls.proofs.AllLaws.{first, all-imp, all-join, all-map, all-tail, test-all}
-use Rattle.calls.proofs.BoolLaws.{parts}
-use Rattle.calls.proofs.Blocks.{bodies-all, shaped-out}
+use Rattle.calls.proofs.lists.AllLaws.{first, all-imp, all-join, all-map, all-tail, test-all}
+use Rattle.calls.proofs.lists.BoolLaws.{parts}
+use Rattle.calls.proofs.encoding.Blocks.{bodies-all, shaped-out}
 use Rattle.merge.proofs.EntryLaws.{StepAt}
 use Rattle.apply.specs.Roots.{withBit, withRoot, isRoot, rootsIn, NamesRoot, afterField, Rooted}
 

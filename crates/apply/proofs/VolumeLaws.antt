@@ -1,4 +1,4 @@
--- The sections of a volume that is laid out, and their keys. Assumes nothing.
+-- The sections of a volume that is laid out, and their keys.
 use mathlib.Core.Path.{_≡_, refl, ap, sym, _∙_}
 use mathlib.Core.Bool.{Bool, true, false, _&&_, _||_, cond, false≢true, and-false}
 use mathlib.Core.List.{List, [], _∷_, _++_, map, map-map}
@@ -22,10 +22,10 @@ use Rattle.wire.proofs.RoundTrip.{FieldFits, fields-back, bytes-again}
 use Rattle.calls.specs.Lists.{allOf, those, inOrder}
 use Rattle.calls.specs.CallList.{Shape, bodies, firstBody, treesOf, callListOf, shaped, volumeShapes, tagsAscend, keysOk, treesOk, headOk, laidOut, volumeLaidOut}
 use Rattle.calls.specs.Answers.{readVolume}
-use Rattle.calls.proofs.AllLaws.{all-imp, all-tail, test-all}
-use Rattle.calls.proofs.BoolLaws.{both, parts}
-use Rattle.calls.proofs.SixTrees.{trees-each}
-use Rattle.calls.proofs.Blocks.{field, flat, flat-tags, bodies-cons, bodies-all, order-ascend, gather, tagsAbove, gathered, keeps, shaped-out, shaped-tag, shaped-fits, tagsOf, isOf}
+use Rattle.calls.proofs.lists.AllLaws.{all-imp, all-tail, test-all}
+use Rattle.calls.proofs.lists.BoolLaws.{both, parts}
+use Rattle.calls.proofs.trees.SixTrees.{trees-each}
+use Rattle.calls.proofs.encoding.Blocks.{field, flat, flat-tags, bodies-cons, bodies-all, order-ascend, gather, tagsAbove, gathered, keeps, shaped-out, shaped-tag, shaped-fits, tagsOf, isOf}
 use Rattle.merge.specs.Entries.{sections, bucketKey, isBucket, isEntry, entryOf, entries}
 use Rattle.merge.specs.Queues.{ascending}
 use Rattle.apply.proofs.BatchLaws.{bucket-cmp}

@@ -221,13 +221,9 @@ pub fn apply_lists(
     if list.len() <= 3584 {
         let mut table = [0u32; 512];
         let mut spare = [0u32; 512];
-        return apply_with(
-            vol, index, h, e, list, &mut table, &mut spare, out, written,
-        );
+        return apply_with(vol, index, h, e, list, &mut table, &mut spare, out, written);
     }
     let mut table = [0u32; 16384];
     let mut spare = [0u32; 16384];
-    apply_with(
-        vol, index, h, e, list, &mut table, &mut spare, out, written,
-    )
+    apply_with(vol, index, h, e, list, &mut table, &mut spare, out, written)
 }

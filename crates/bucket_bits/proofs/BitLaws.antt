@@ -1,4 +1,4 @@
--- The bits of a byte, and the table of bits. Assumes nothing.
+-- The bits of a byte, and the table of bits.
 use mathlib.Core.Path.{_≡_, refl, ap, sym, _∙_}
 use mathlib.Core.Bool.{Bool, true, false, _||_, cond}
 use mathlib.Core.List.{List, [], _∷_}

@@ -1,4 +1,4 @@
--- The marks of a list's buckets, one after the other. Assumes nothing.
+-- The marks of a list's buckets, one after the other.
 use mathlib.Core.Path.{_≡_, refl, ap, sym, _∙_}
 use mathlib.Core.Bool.{Bool, true, false, not, _&&_, _||_, and-false, cond}
 use mathlib.Core.List.{List, [], _∷_}
@@ -19,9 +19,9 @@ use Rattle.calls.specs.Lists.{allOf, anyOf, fromOption}
 use Rattle.calls.specs.Limits.{atInode0}
 use Rattle.calls.specs.Freespace.{isUsed}
 use Rattle.calls.specs.Trees.{onEq, lookup}
-use Rattle.calls.proofs.BoolLaws.{parts as and-true}
-use Rattle.calls.proofs.SortedLaws.{Chain, Sorted, chain-weak, chain-sorted}
-use Rattle.calls.proofs.SortedLaws.{NoSnapshots}
+use Rattle.calls.proofs.lists.BoolLaws.{parts as and-true}
+use Rattle.calls.proofs.trees.SortedLaws.{Chain, Sorted, chain-weak, chain-sorted}
+use Rattle.calls.proofs.trees.SortedLaws.{NoSnapshots}
 use Rattle.bucket_bits.specs.Bits.{marked, withMark, inUse, usedMark, Marks}
 use Rattle.bucket_bits.proofs.BitLaws.{mark-told, mark-length, mark-none}
 

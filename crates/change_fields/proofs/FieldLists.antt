@@ -1,4 +1,4 @@
--- The fields of a list, one after the other. Assumes nothing.
+-- The fields of a list, one after the other.
 use mathlib.Core.Path.{_≡_, ap, _∙_}
 use mathlib.Core.List.{List, [], _∷_, _++_, map, flatMap, map-append}
 use Prim.Native.Nat.{ℕ}

@@ -1,4 +1,4 @@
--- The LRU key of a bucket that is not full. Assumes nothing.
+-- The LRU key of a bucket that is not full.
 use mathlib.Core.Path.{_≡_}
 use mathlib.Core.Bool.{cond}
 use mathlib.Core.List.{List, [], _∷_}

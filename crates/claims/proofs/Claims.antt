@@ -46,19 +46,19 @@ use Rattle.calls.specs.Answers.{made, outcome, scratchAfter, readCall, readVolu
 use Rattle.calls.specs.History.{Clean, Live, State, discarding, Step, takeAll, after, Allowed, History, start, Claim, GensAgree}
 use Rattle.calls.specs.Examples.{bucket, headFor, volumeFor, run, held, waitsSince, emptiedAt, runEnds, plain, placing, releasing, slot, spot, freeing, each, freeVolume, heldVolume, waiting, beyond, elsewhere, threePieces}
 use Rattle.calls.specs.ExampleHistory as example
-use Rattle.calls.proofs.Cases.{cases}
-use Rattle.calls.proofs.WorkedAnswers.{worked-answers}
-use Rattle.calls.proofs.VolumeTrip as volumes
-use Rattle.calls.proofs.AnswersReadBack as answers
-use Rattle.calls.proofs.Demand3 as history
-use Rattle.calls.proofs.HistoryKeeps as keeping
-use Rattle.calls.proofs.HistoryRuns as runs
-use Rattle.calls.proofs.HistoryRecords as records
-use Rattle.calls.proofs.DiscardBatches as batches
-use Rattle.calls.proofs.SortedLaws.{keys-order}
-use Rattle.calls.proofs.TakenAscend as taken
-use Rattle.calls.proofs.PointerLaws as pointers
-use Rattle.calls.proofs.WorkedHistory as worked
+use Rattle.calls.proofs.cases.Cases.{cases}
+use Rattle.calls.proofs.cases.WorkedAnswers.{worked-answers}
+use Rattle.calls.proofs.encoding.VolumeTrip as volumes
+use Rattle.calls.proofs.answers.AnswersReadBack as answers
+use Rattle.calls.proofs.history.Demand3 as history
+use Rattle.calls.proofs.history.HistoryKeeps as keeping
+use Rattle.calls.proofs.history.HistoryRuns as runs
+use Rattle.calls.proofs.history.HistoryRecords as records
+use Rattle.calls.proofs.discard.DiscardBatches as batches
+use Rattle.calls.proofs.trees.SortedLaws.{keys-order}
+use Rattle.calls.proofs.freespace.TakenAscend as taken
+use Rattle.calls.proofs.place.PointerLaws as pointers
+use Rattle.calls.proofs.cases.WorkedHistory as worked
 use Rattle.zerglaz.proofs.zerglaz_place.Kinds as placeK
 use Rattle.zerglaz.proofs.zerglaz_place.Met as placeM
 use Rattle.zerglaz.proofs.zerglaz_place.Reads as placeR

@@ -1,4 +1,4 @@
--- Batches of a size: the next one, and what is left. Assumes nothing.
+-- Batches of a size: the next one, and what is left.
 use Prim.Native.Nat.{ℕ, zero, suc, _+_, _-_, _≤_, _<_}
 use mathlib.Core.Path.{_≡_, refl, sym, ap, _∙_}
 use mathlib.Core.List.{List, [], _∷_, _++_, map}

@@ -1,4 +1,4 @@
--- What the emitters of a batch write, put together. Assumes nothing.
+-- What the emitters of a batch write, put together.
 use Prim.Native.Nat.{ℕ, _+_, _≤_, _<_}
 use mathlib.Core.Path.{_≡_, refl, sym, ap, _∙_}
 use mathlib.Core.List.{List, [], _∷_, _++_, map, flatMap, map-map, append-nil, append-assoc}

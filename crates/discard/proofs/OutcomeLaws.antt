@@ -1,4 +1,4 @@
--- The answer to a discard: the offsets that the reader gives find the keys of the definition, and its tests in their order. Assumes nothing.
+-- The answer to a discard: the offsets that the reader gives find the keys of the definition, and its tests in their order.
 use Prim.Native.Nat.{ℕ, zero, suc, _≤_, _<_}
 use mathlib.Core.Path.{_≡_, refl, sym, ap, _∙_}
 use mathlib.Core.Bool.{Bool, true, false, not, _||_, cond}
@@ -18,10 +18,10 @@ use Rattle.calls.specs.ChangeList.{changeBytes}
 use Rattle.calls.specs.Discard.{isDiscarded, discardedKeys, chunks, discardBatch, discardBatches}
 use Rattle.calls.specs.Refusals.{test}
 use Rattle.calls.specs.Answers.{answer, readCall, readVolume, discard}
-use Rattle.calls.proofs.BoolLaws.{parts, or-then}
-use Rattle.calls.proofs.AnswerLaws.{discard-is}
-use Rattle.calls.proofs.OutcomeLaws.{answer-next, answer-stops}
-use Rattle.calls.proofs.KeyFitsLaws.{list-within}
+use Rattle.calls.proofs.lists.BoolLaws.{parts, or-then}
+use Rattle.calls.proofs.answers.AnswerLaws.{discard-is}
+use Rattle.calls.proofs.answers.OutcomeLaws.{answer-next, answer-stops}
+use Rattle.calls.proofs.encoding.KeyFitsLaws.{list-within}
 use Rattle.reader.specs.Located.{KeyAt, KeysAt}
 use Rattle.reader.specs.Readings.{callRefusal, ListRead}
 use Rattle.reader.specs.declared.head.Head.{Head}

@@ -1,4 +1,4 @@
--- Runs as they are made, bucket by bucket, are those of the definition. Assumes nothing.
+-- Runs as they are made, bucket by bucket, are those of the definition.
 use Prim.Native.Nat.{ℕ, suc, _+_, _≤_, _<_}
 use mathlib.Core.Path.{_≡_, refl, sym, ap, _∙_}
 use mathlib.Core.Bool.{Bool, true, false, cond}

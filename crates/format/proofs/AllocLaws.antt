@@ -1,4 +1,4 @@
--- FORMAT.md, "Alloc value", read member by member with struct bch_alloc_v4: what a new value holds, and what each change leaves. Assumes nothing.
+-- FORMAT.md, "Alloc value", read member by member with struct bch_alloc_v4: what a new value holds, and what each change leaves.
 use mathlib.Core.Path.{_≡_, refl, ap, _∙_}
 use Prim.Native.Nat.{ℕ, _+_, _-_, _*_, _/_, _%_, _^_, _<_, _≤_}
 use native.Mathlib.Nat.{mod-mod}

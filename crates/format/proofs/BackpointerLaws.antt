@@ -1,4 +1,4 @@
--- The backpointer's struct as words. Assumes nothing.
+-- The backpointer's struct as words.
 use mathlib.Core.Path.{_≡_}
 use Prim.Native.Nat.{ℕ, _+_, _*_, _^_, _<_}
 use native.Mathlib.Omega.{arith}

@@ -1,4 +1,4 @@
--- FORMAT.md, "Worked cases": 5, 6 and 9. Assumes nothing.
+-- FORMAT.md, "Worked cases": 5, 6 and 9.
 use mathlib.Core.Path.{_≡_, refl}
 use Prim.Native.Nat.{_+_, _^_}
 use Rattle.wire.specs.Numbers.{le, leBytes}

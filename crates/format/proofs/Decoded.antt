@@ -1,4 +1,4 @@
--- What is packed is read back: a word's bit fields, a struct's members. Assumes nothing.
+-- What is packed is read back: a word's bit fields, a struct's members.
 use mathlib.Core.Path.{_≡_, refl, ap, _∙_}
 use Prim.Native.Nat.{ℕ, _+_, _*_, _/_, _%_, _^_, _<_, _≤_, _-_}
 use native.Mathlib.Nat.{mod-lt, mul-le-mul-left, mul-add, mod-eq-of-lt, add-mul-mod-self-left, add-mul-div-left, div-eq-of-lt, zero-add, mod-mod}

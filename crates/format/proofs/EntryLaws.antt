@@ -1,4 +1,4 @@
--- The formulas of FORMAT.md, "Pieces and extents", for the pointer and the checksum entries. Assumes nothing.
+-- The formulas of FORMAT.md, "Pieces and extents", for the pointer and the checksum entries.
 use mathlib.Core.Path.{_≡_, refl}
 use Prim.Native.Nat.{ℕ, zero, suc, _+_, _-_, _*_, _/_, _%_, _^_, _<_, _≤_}
 use native.Mathlib.Nat.{mod-eq-of-lt}

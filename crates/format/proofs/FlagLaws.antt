@@ -1,4 +1,4 @@
--- What the flag masks come to as numbers. Assumes nothing.
+-- What the flag masks come to as numbers.
 use mathlib.Core.Path.{_≡_, sym}
 use Prim.Native.Nat.{ℕ, _+_, _-_, _*_, _/_, _%_, _^_, _<_}
 use native.Mathlib.Nat.{mod-mod}

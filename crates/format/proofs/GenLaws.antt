@@ -1,4 +1,4 @@
--- FORMAT.md, "Generation record": byte b mod 256 is bucket b's generation. Assumes nothing.
+-- FORMAT.md, "Generation record": byte b mod 256 is bucket b's generation.
 use mathlib.Core.Path.{_≡_}
 use Prim.Native.Nat.{ℕ, _<_}
 use native.Mathlib.Omega.{arith}

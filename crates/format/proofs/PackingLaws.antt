@@ -1,4 +1,4 @@
--- Laws of packed words and structs. Assumes nothing.
+-- Laws of packed words and structs.
 use mathlib.Core.Path.{_≡_, refl, sym, ap, _∙_}
 use Prim.Native.Nat.{ℕ, zero, suc, _+_, _*_, _/_, _%_, _^_, _<_}
 use native.Mathlib.Nat.{zero-add, suc-add, pow-suc, pow-zero, mul-assoc, mul-comm}

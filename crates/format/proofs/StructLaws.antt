@@ -1,4 +1,4 @@
--- Laws of a packed struct's members: one that is stored is read back and leaves the others, and a struct is read back whole. Assumes nothing.
+-- Laws of a packed struct's members: one that is stored is read back and leaves the others, and a struct is read back whole.
 use mathlib.Core.Path.{_≡_, refl, sym, ap, _∙_}
 use Prim.Native.Nat.{ℕ, zero, suc, _+_, _^_, _<_, _≤_}
 use native.Mathlib.Omega.{arith}

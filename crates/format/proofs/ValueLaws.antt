@@ -1,4 +1,4 @@
--- The bytes that a value holds, where some of its array are stored. Assumes nothing.
+-- The bytes that a value holds, where some of its array are stored.
 use mathlib.Core.Path.{_≡_, refl, sym, ap, _∙_}
 use Prim.Native.Nat.{ℕ, zero, suc, _+_, _≤_, _<_}
 use native.Mathlib.Omega.{arith}

@@ -1,4 +1,4 @@
--- Eight words that make an alloc value are all that is written. Assumes nothing.
+-- Eight words that make an alloc value are all that is written.
 use mathlib.Core.Path.{_≡_, refl, sym, ap, _∙_}
 use Prim.Native.Nat.{ℕ}
 use native.Mathlib.Omega.{arith}

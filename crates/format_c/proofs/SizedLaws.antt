@@ -1,4 +1,4 @@
--- A value of the right length is read, changed and put back; any other is left. Assumes nothing.
+-- A value of the right length is read, changed and put back; any other is left.
 use mathlib.Core.Path.{_≡_, ap, _∙_}
 use Prim.Native.Nat.{ℕ, _+_, _-_, _≤_, _<_}
 use native.Mathlib.Omega.{arith}

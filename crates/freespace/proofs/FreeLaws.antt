@@ -1,4 +1,4 @@
--- How many buckets of runs are free, by the reserved buckets below their ends. Assumes nothing.
+-- How many buckets of runs are free, by the reserved buckets below their ends.
 use mathlib.Core.Path.{_≡_, refl, ap, sym, _∙_, subst⁻¹}
 use mathlib.Core.Bool.{Bool, true, false, not, _||_, cond}
 use mathlib.Core.List.{List, [], _∷_}

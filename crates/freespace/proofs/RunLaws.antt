@@ -1,4 +1,4 @@
--- Runs whose ends ascend: whether they overlap, and how many buckets of them are free. Assumes nothing.
+-- Runs whose ends ascend: whether they overlap, and how many buckets of them are free.
 use mathlib.Core.Path.{_≡_, refl, ap, sym, _∙_}
 use mathlib.Core.Bool.{Bool, true, false, _&&_, _||_, and-false, cond}
 use mathlib.Core.List.{List, [], _∷_, map}
@@ -16,9 +16,9 @@ use Rattle.wire.proofs.OrderLaws.{cmp-less, offset-more, snapshot-less}
 use Rattle.calls.specs.Lists.{allOf, anyOf, those, inOrder}
 use Rattle.calls.specs.Limits.{isRun, isSet, atInode0}
 use Rattle.calls.specs.Freespace.{runsOf, startOf, endOf, overlap, overlaps}
-use Rattle.calls.proofs.BoolLaws.{parts as and-true}
-use Rattle.calls.proofs.SortedLaws.{Chain, Sorted, chain-weak, chain-sorted}
-use Rattle.calls.proofs.SortedLaws.{NoSnapshots}
+use Rattle.calls.proofs.lists.BoolLaws.{parts as and-true}
+use Rattle.calls.proofs.trees.SortedLaws.{Chain, Sorted, chain-weak, chain-sorted}
+use Rattle.calls.proofs.trees.SortedLaws.{NoSnapshots}
 use Rattle.reader.specs.Checked.{endInRange}
 use Rattle.freespace.specs.Runs.{beganEarly, runIn}
 use Rattle.freespace.specs.declared.runs.Run.{Run}

@@ -1,4 +1,4 @@
--- The walk over the keys of the tree, one after the other. Assumes nothing.
+-- The walk over the keys of the tree, one after the other.
 use mathlib.Core.Path.{_≡_, refl, ap, sym, _∙_}
 use mathlib.Core.Bool.{Bool, true, false, _&&_, cond}
 use mathlib.Core.List.{List, [], _∷_, _++_, append-nil, append-assoc}

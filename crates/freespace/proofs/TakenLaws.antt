@@ -1,4 +1,4 @@
--- Each bucket that a walk takes is within the limit. Assumes nothing.
+-- Each bucket that a walk takes is within the limit.
 use mathlib.Core.Path.{_≡_, refl}
 use mathlib.Core.Bool.{Bool, true, false, cond}
 use mathlib.Core.List.{List, [], _∷_, _++_}
@@ -13,7 +13,7 @@ use Rattle.calls.specs.Limits.{isRun}
 use Rattle.calls.specs.Freespace.{startOf, endOf, bucketsOf, runsOf, pass, walk}
 use Rattle.calls.specs.Answers.{readVolume}
 use Rattle.reader.specs.Checked.{Checked, endInRange}
-use Rattle.calls.proofs.BoolLaws.{parts as and-true}
+use Rattle.calls.proofs.lists.BoolLaws.{parts as and-true}
 use Rattle.reader.proofs.CheckedLaws.{end-at, run-range}
 
 all-append : {A : Type 0} (t : A → Bool) (l m : List A) → allOf t l ≡ true → allOf t m ≡ true → allOf t (l ++ m) ≡ true

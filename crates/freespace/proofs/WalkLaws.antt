@@ -1,4 +1,4 @@
--- The walk over one run, bucket by bucket. Assumes nothing.
+-- The walk over one run, bucket by bucket.
 use mathlib.Core.Path.{_≡_, refl, ap, sym, _∙_}
 use mathlib.Core.Bool.{Bool, true, false, _||_, cond}
 use mathlib.Core.List.{List, [], _∷_, _++_, append-nil, map-append}

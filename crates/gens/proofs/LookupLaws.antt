@@ -1,4 +1,4 @@
--- A bucket's generation, by the entry of its record. Assumes nothing.
+-- A bucket's generation, by the entry of its record.
 use mathlib.Core.Path.{_≡_, ap, sym, _∙_}
 use mathlib.Core.List.{List}
 use Prim.Native.Nat.{ℕ, _/_, _≤_, _<_}

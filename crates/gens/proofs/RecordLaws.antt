@@ -1,4 +1,4 @@
--- The table of the generation records, from the last key to the first. Assumes nothing.
+-- The table of the generation records, from the last key to the first.
 use mathlib.Core.Path.{_≡_, refl, ap, sym, _∙_}
 use mathlib.Core.Bool.{Bool, true, false, _&&_, and-false, cond}
 use mathlib.Core.List.{List, [], _∷_}

@@ -1,4 +1,4 @@
--- Laws of numbers as text. Assumes nothing.
+-- Laws of numbers as text.
 use Prim.Native.Nat.{ℕ, zero, suc, _+_, _-_, _*_, _/_, _%_, _^_, _<_, _≤_}
 use mathlib.Core.Path.{_≡_, refl, sym, ap, _∙_}
 use mathlib.Core.List.{List, _∷_}
@@ -10,7 +10,7 @@ use lib.ListN.{length, take, drop, set, length-set, length-drop, drop-of-length-
 use lib.Seq.{drop-cons, getD-set-same, drop-set-lt, lt-length-set, take-all}
 use borrow.Author.Tests.{lt-ltb, le-ltb}
 use Rattle.wire.proofs.OutputLaws.{lt-or-ge}
-use Rattle.calls.proofs.BoolLaws.{cond-most}
+use Rattle.calls.proofs.lists.BoolLaws.{cond-most}
 use Rattle.lines.specs.Digits.{digit, lastDigits, width, decimal, signed}
 
 pub digit-low : (d : ℕ) → d < 10 → 48 + d ≡ digit d

@@ -1,4 +1,4 @@
--- How long lines are: those of a change list have at most four times its bytes. Assumes nothing.
+-- How long lines are: those of a change list have at most four times its bytes.
 use Prim.Native.Nat.{ℕ, zero, suc, _+_, _-_, _*_, _/_, _^_, _<_, _≤_}
 use mathlib.Core.Path.{_≡_, refl, ap, _∙_}
 use mathlib.Core.Bool.{Bool, true, false, cond}
@@ -16,8 +16,8 @@ use Rattle.wire.specs.Fields.{Field, fields, fieldAt, size, whole}
 use Rattle.wire.specs.Keys.{keyOf}
 use Rattle.wire.proofs.NumberLaws.{all-drop, le-bound}
 use Rattle.calls.specs.ChangeList.{changeLaidOut}
-use Rattle.calls.proofs.BoolLaws.{cond-most, parts}
-use Rattle.calls.proofs.FieldBytes.{fields-bytes}
+use Rattle.calls.proofs.lists.BoolLaws.{cond-most, parts}
+use Rattle.calls.proofs.encoding.FieldBytes.{fields-bytes}
 use Rattle.reader.specs.Bodies.{changeFieldOk}
 use Rattle.reader.proofs.ShapeLaws.{same-or}
 use Rattle.lines.specs.Digits.{lastDigits, width, decimal, signed, hexadecimal}

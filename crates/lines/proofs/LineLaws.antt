@@ -1,4 +1,4 @@
--- Laws of lines: their words one after the other, and the line of a field by its tag. Assumes nothing.
+-- Laws of lines: their words one after the other, and the line of a field by its tag.
 use Prim.Native.Nat.{ℕ, zero, suc, _+_, _-_, _*_, _/_, _<_, _≤_}
 use mathlib.Core.Path.{_≡_, refl, sym, ap, _∙_}
 use mathlib.Core.Bool.{Bool, true, false, _||_}
@@ -20,8 +20,8 @@ use Rattle.wire.proofs.OutputLaws.{lt-or-ge}
 use Rattle.calls.specs.CallList.{shaped}
 use Rattle.calls.specs.Lists.{allOf}
 use Rattle.calls.specs.ChangeList.{changeShapes, fieldOk, changeLaidOut}
-use Rattle.calls.proofs.AllLaws.{all-join, test-all}
-use Rattle.calls.proofs.BoolLaws.{both, parts, clash}
+use Rattle.calls.proofs.lists.AllLaws.{all-join, test-all}
+use Rattle.calls.proofs.lists.BoolLaws.{both, parts, clash}
 use Rattle.reader.specs.Bodies.{keyOk, rootOk, changeFieldOk}
 use Rattle.reader.proofs.ShapeLaws.{KeyTag, key-tag, same-or, change-key, change-extent, change-root, change-row, change-72, change-74, change-bucket, change-none}
 use Rattle.lines.specs.Digits.{decimal, signed, hexadecimal}

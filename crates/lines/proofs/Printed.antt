@@ -1,4 +1,4 @@
--- The printed case of FORMAT.md, "The program bucketlines", proved of the definition by computing. Assumes nothing.
+-- The printed case of FORMAT.md, "The program bucketlines", proved of the definition by computing.
 use mathlib.Core.Path.{_≡_, refl}
 use Rattle.wire.specs.Numbers.{each}
 use Rattle.calls.specs.Computing.{computing}

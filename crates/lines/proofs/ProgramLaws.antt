@@ -1,4 +1,4 @@
--- An answer in a buffer, by the outcome of the call that made it, and the text that holds all that is printed. Assumes nothing.
+-- An answer in a buffer, by the outcome of the call that made it, and the text that holds all that is printed.
 use Prim.Native.Nat.{ℕ, _+_, _≤_, _<_}
 use mathlib.Core.Path.{_≡_, refl, sym, ap, subst, _∙_}
 use mathlib.Core.Bool.{true, false, cond}

@@ -1,4 +1,4 @@
--- Laws of words with a blank before each, and of the bytes that they are read from. Assumes nothing.
+-- Laws of words with a blank before each, and of the bytes that they are read from.
 use Prim.Native.Nat.{ℕ, zero, suc, _+_, _-_, _*_, _/_, _^_, _<_, _≤_}
 use mathlib.Core.Path.{_≡_, refl, sym, ap, _∙_}
 use mathlib.Core.List.{List, [], _∷_, _++_, append-assoc}

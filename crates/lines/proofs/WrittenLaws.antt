@@ -1,4 +1,4 @@
--- What an accepted answer writes has at most 65,536 bytes; so the text has room for all that is printed. Assumes nothing.
+-- What an accepted answer writes has at most 65,536 bytes; so the text has room for all that is printed.
 use Prim.Native.Nat.{ℕ, _≤_}
 use mathlib.Core.Path.{_≡_, refl}
 use mathlib.Core.Bool.{Bool, true, false, cond}
@@ -11,7 +11,7 @@ use Rattle.wire.specs.Bytes.{Bytes}
 use Rattle.calls.specs.ChangeList.{Batch}
 use Rattle.reader.specs.Heads.{callByte}
 use Rattle.calls.specs.Answers.{place, release, discard}
-use Rattle.calls.proofs.AnswersReadBack.{Written, place-written, release-written, discard-written}
+use Rattle.calls.proofs.answers.AnswersReadBack.{Written, place-written, release-written, discard-written}
 use Rattle.lines.specs.Lines.{changeLines, refusedLine}
 use Rattle.lines.specs.Program.{answerTo, answerLines, bucketLines}
 use Rattle.lines.proofs.LengthLaws.{lines-most, refused-most}

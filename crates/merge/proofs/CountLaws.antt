@@ -1,4 +1,4 @@
--- The limits of a section as one number. Assumes nothing.
+-- The limits of a section as one number.
 use mathlib.Core.Path.{_≡_, refl, ap, sym, _∙_}
 use mathlib.Core.Bool.{Bool, true, false, _&&_, and-false}
 use mathlib.Core.List.{List, [], _∷_}
@@ -10,7 +10,7 @@ use borrow.Author.Tests.{le-leb, lt-leb, leb-true, leb-false}
 use Rattle.wire.specs.Keys.{Key}
 use Rattle.wire.specs.declared.bpos.Bpos.{Bpos}
 use Rattle.calls.specs.Lists.{allOf}
-use Rattle.calls.proofs.BoolLaws.{parts}
+use Rattle.calls.proofs.lists.BoolLaws.{parts}
 use Rattle.merge.specs.Counts.{keyFits, sectionWithin, countOf, countAll}
 
 module _ (t y : ℕ) (p : Bpos) where

@@ -1,4 +1,4 @@
--- The numbers of the sections, in order. Assumes nothing.
+-- The numbers of the sections, in order.
 use mathlib.Core.Path.{_≡_, refl}
 use mathlib.Core.Bool.{Bool, true, false, _&&_, _||_}
 use mathlib.Core.List.{_∷_}
@@ -8,7 +8,7 @@ use native.Mathlib.Omega.{arith}
 use lib.Dec.{leb, eqb}
 use lib.ListN.{getD}
 use borrow.Author.Tests.{eqb-true, leb-true}
-use Rattle.calls.proofs.BoolLaws.{parts}
+use Rattle.calls.proofs.lists.BoolLaws.{parts}
 use Rattle.sorting.specs.Places.{isTree}
 use Rattle.merge.specs.Entries.{sections}
 use Rattle.merge.specs.QueueTable.{isSection}

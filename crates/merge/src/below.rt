@@ -30,7 +30,15 @@ pub struct Stretch {
 }
 
 // The volume's keys from an index on that stand side by side from a place on, as far as they are below the limit. The table shows that they are keys.
-fn pass_below(vol: &[u8], keys: &[u32], i: usize, start: usize, counted: usize, section: u8, lim: Bound) -> Stretch
+fn pass_below(
+    vol: &[u8],
+    keys: &[u32],
+    i: usize,
+    start: usize,
+    counted: usize,
+    section: u8,
+    lim: Bound,
+) -> Stretch
     requires { ⌜ All (Stands section (now vol)) (now keys) × (i < length (now keys)) × (start + 3 ≡ getD (now keys) i 0) ⌝ }
     ensures { λ r. ⌜ Stretched section (now (vol .entry)) (now (keys .entry)) i start counted lim r ⌝ }
 {
@@ -54,7 +62,14 @@ fn pass_below(vol: &[u8], keys: &[u32], i: usize, start: usize, counted: usize, 
 }
 
 // The volume's keys below the limit, neighbours as one stretch.
-pub fn put_below(out: &mut [u8], vol: &[u8], keys: &[u32], from: Cursor, section: u8, lim: Bound) -> Cursor
+pub fn put_below(
+    out: &mut [u8],
+    vol: &[u8],
+    keys: &[u32],
+    from: Cursor,
+    section: u8,
+    lim: Bound,
+) -> Cursor
     requires { ⌜ All (Stands section (now vol)) (now keys) × (from .at ≤ length (now keys)) ⌝ }
     ensures { λ r. ⌜ Put section (now (out .entry)) (now (vol .entry)) (now (keys .entry)) from (below lim (keysFrom section (now (vol .entry)) (now (keys .entry)) (from .at))) (beyond lim (keysFrom section (now (vol .entry)) (now (keys .entry)) (from .at))) (now (out .exit)) r ⌝ }
 {
@@ -67,7 +82,11 @@ pub fn put_below(out: &mut [u8], vol: &[u8], keys: &[u32], from: Cursor, section
             return at;
         }
         let p = emit::put_bytes(out, at.p, vol, start, s.end - start);
-        at = Cursor { p, at: s.next, count: s.count };
+        at = Cursor {
+            p,
+            at: s.next,
+            count: s.count,
+        };
     }
     at
 }

@@ -44,7 +44,15 @@ fn add_shown(count: usize, list: &[u8], o: usize, section: u8) -> usize
 }
 
 // What one queued key makes of the volume's keys from an index on. `refill` and `sort_queue` show that one starts at o.
-pub fn put_queued(out: &mut [u8], vol: &[u8], keys: &[u32], from: Cursor, list: &[u8], o: usize, section: u8) -> Cursor
+pub fn put_queued(
+    out: &mut [u8],
+    vol: &[u8],
+    keys: &[u32],
+    from: Cursor,
+    list: &[u8],
+    o: usize,
+    section: u8,
+) -> Cursor
     requires { ⌜ All (Stands section (now vol)) (now keys) × (from .at ≤ length (now keys)) × Kept section (now list) o ⌝ }
     ensures { λ r. ⌜ Put section (now (out .entry)) (now (vol .entry)) (now (keys .entry)) from (front (entryFrom section (now (list .entry)) o ∷ []) (keysFrom section (now (vol .entry)) (now (keys .entry)) (from .at))) (back (entryFrom section (now (list .entry)) o ∷ []) (keysFrom section (now (vol .entry)) (now (keys .entry)) (from .at))) (now (out .exit)) r ⌝ }
 {

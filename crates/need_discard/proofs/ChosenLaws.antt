@@ -1,4 +1,4 @@
--- Which alloc keys are discarded: each test of a key, and the offsets of those that pass. Assumes nothing.
+-- Which alloc keys are discarded: each test of a key, and the offsets of those that pass.
 use Prim.Native.Nat.{ℕ, _+_, _≤_, _<_}
 use mathlib.Core.Path.{_≡_, refl, sym, ap, _∙_}
 use mathlib.Core.Bool.{Bool, true, false, not, _&&_, cond, and-false}
@@ -15,8 +15,8 @@ use Rattle.format.specs.AllocV4.{gen, dataType}
 use Rattle.calls.specs.Lists.{those, isNone}
 use Rattle.calls.specs.Limits.{atInode0}
 use Rattle.calls.specs.Discard.{waitingKey, genTaken, isDiscarded}
-use Rattle.calls.proofs.BoolLaws.{parts}
-use Rattle.calls.proofs.AllLaws.{all-imp, all-chosen, those-length}
+use Rattle.calls.proofs.lists.BoolLaws.{parts}
+use Rattle.calls.proofs.lists.AllLaws.{all-imp, all-chosen, those-length}
 use Rattle.reader.specs.KeyHere.{valueAt, keyHere, keysHere, Whole}
 use Rattle.reader.proofs.KeyHereLaws.{value-within, member-here}
 use Rattle.need_discard.specs.Kept.{bucketHere, AllocKept, DiscardedKept}

@@ -1,4 +1,4 @@
--- The table by bucket: each need-discard key that is noted is the last so far of its bucket. Assumes nothing.
+-- The table by bucket: each need-discard key that is noted is the last so far of its bucket.
 use Prim.Native.Nat.{ℕ, _+_, _-_, _<_}
 use mathlib.Core.Path.{_≡_, refl, sym, _∙_}
 use mathlib.Core.Bool.{Bool, true, false, not, cond, and-true, and-false}

@@ -1,4 +1,4 @@
--- Laws of the layout, one piece after the other, and that it needs as many buckets as next fit says. Assumes nothing.
+-- Laws of the layout, one piece after the other, and that it needs as many buckets as next fit says.
 use mathlib.Core.Path.{_≡_, refl, sym, ap, _∙_}
 use mathlib.Core.List.{List, [], _∷_, map}
 use Prim.Native.Nat.{ℕ, zero, suc, _+_, _*_, _^_, _≤_, _<_}

@@ -1,4 +1,4 @@
--- Laws of next fit. Assumes nothing.
+-- Laws of next fit.
 use mathlib.Core.Path.{_≡_, refl, sym, ap}
 use mathlib.Core.Bool.{Bool, true, false, cond}
 use mathlib.Core.Logic.{_⊎_, inl, inr, ⊎-elim}

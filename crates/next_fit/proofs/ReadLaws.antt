@@ -1,4 +1,4 @@
--- Pieces read one after the other to the front of an array. Assumes nothing.
+-- Pieces read one after the other to the front of an array.
 use mathlib.Core.Path.{_≡_, ap, _∙_}
 use mathlib.Core.List.{List, [], _∷_, _++_, map, map-append}
 use Prim.Native.Nat.{ℕ, _+_, _≤_, _<_}

@@ -1,4 +1,4 @@
--- From the tests of a placement to its answer. Assumes nothing.
+-- From the tests of a placement to its answer.
 use mathlib.Core.Path.{_≡_, refl, ap, sym, _∙_}
 use mathlib.Core.Bool.{Bool, true, false, cond}
 use mathlib.Core.List.{List, [], _∷_}
@@ -8,8 +8,8 @@ use lib.Dec.{eqb}
 use borrow.Author.Tests.{eqb-true, eqb-false}
 use Rattle.calls.specs.Answers.{answer}
 use Rattle.calls.specs.Refusals.{verdict}
-use Rattle.calls.proofs.OutcomeLaws.{answer-next, answer-stops}
-use Rattle.calls.proofs.RefusalLaws.{verdict-ok}
+use Rattle.calls.proofs.answers.OutcomeLaws.{answer-next, answer-stops}
+use Rattle.calls.proofs.answers.RefusalLaws.{verdict-ok}
 
 -- the answer where the tests hold, and where one fails
 pub answer-past : (ns bytes : List ℕ) (room : ℕ) → 0 ≡ verdict ns → answer ns bytes room ≡ answer [] bytes room

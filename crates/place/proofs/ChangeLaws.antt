@@ -1,4 +1,4 @@
--- Laws of the change list of a placement: its bytes in the order in which they are emitted. Assumes nothing.
+-- Laws of the change list of a placement: its bytes in the order in which they are emitted.
 use mathlib.Core.Path.{_≡_, refl, sym, ap, _∙_}
 use mathlib.Core.Bool.{_&&_}
 use mathlib.Core.List.{List, [], _∷_, _++_, map, flatMap, append-assoc, append-nil}

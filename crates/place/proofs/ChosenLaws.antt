@@ -1,4 +1,4 @@
--- What the walk hands over to the change list: as many buckets as are needed, each below 65,536, none of them twice. Assumes nothing.
+-- What the walk hands over to the change list: as many buckets as are needed, each below 65,536, none of them twice.
 use mathlib.Core.Path.{_≡_, refl, ap, sym, _∙_}
 use mathlib.Core.Bool.{Bool, true, false, cond}
 use mathlib.Core.List.{List, [], _∷_}
@@ -19,11 +19,11 @@ use Rattle.calls.specs.Pieces.{bucketsNeeded}
 use Rattle.calls.specs.Place.{slotsOf, walkOf}
 use Rattle.calls.specs.Answers.{readCall, readVolume}
 use Rattle.calls.specs.History.{one}
-use Rattle.calls.proofs.BucketLaws.{count}
-use Rattle.calls.proofs.CoverLaws.{cover-once}
-use Rattle.calls.proofs.RunLaws.{covered, walk-gives}
-use Rattle.calls.proofs.SortedLaws.{Sorted}
-use Rattle.calls.proofs.View.{bucket, covers, coverOf}
+use Rattle.calls.proofs.freespace.BucketLaws.{count}
+use Rattle.calls.proofs.freespace.CoverLaws.{cover-once}
+use Rattle.calls.proofs.freespace.RunLaws.{covered, walk-gives}
+use Rattle.calls.proofs.trees.SortedLaws.{Sorted}
+use Rattle.calls.proofs.history.View.{bucket, covers, coverOf}
 use Rattle.reader.specs.declared.head.Head.{Head}
 use Rattle.place_tests.specs.Called.{Called}
 use Rattle.place_tests.specs.Choice.{ChosenIs}

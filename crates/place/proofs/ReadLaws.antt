@@ -1,4 +1,4 @@
--- From a list that was read to its parts, and from its answer after refusals 2 and 3 to the answer of the definition. Assumes nothing.
+-- From a list that was read to its parts, and from its answer after refusals 2 and 3 to the answer of the definition.
 use mathlib.Core.Path.{_≡_, ap, sym, _∙_}
 use mathlib.Core.Bool.{true}
 use mathlib.Core.List.{List, [], _∷_}
@@ -14,9 +14,9 @@ use Rattle.calls.specs.ChangeList.{changeBytes}
 use Rattle.calls.specs.Limits.{countsOk, bucketsOk, volumeWithin}
 use Rattle.calls.specs.Lists.{allOf}
 use Rattle.calls.specs.Place.{placeTests}
-use Rattle.calls.proofs.AnswerLaws.{place-is}
-use Rattle.calls.proofs.BoolLaws.{parts}
-use Rattle.calls.proofs.KeyFitsLaws.{list-within}
+use Rattle.calls.proofs.answers.AnswerLaws.{place-is}
+use Rattle.calls.proofs.lists.BoolLaws.{parts}
+use Rattle.calls.proofs.encoding.KeyFitsLaws.{list-within}
 use Rattle.reader.specs.Located.{KeysAt}
 use Rattle.reader.specs.Readings.{callRefusal, ListRead}
 use Rattle.reader.specs.declared.head.Head.{Head}

@@ -1,4 +1,4 @@
--- Laws of the loops over the buckets taken, and of their dirty counts. Assumes nothing.
+-- Laws of the loops over the buckets taken, and of their dirty counts.
 use mathlib.Core.Path.{_≡_, refl, sym, ap, _∙_}
 use mathlib.Core.Bool.{Bool, true, false, cond}
 use mathlib.Core.List.{List, [], _∷_}

@@ -1,4 +1,4 @@
--- The largest clock, one key after the other. Assumes nothing.
+-- The largest clock, one key after the other.
 use mathlib.Core.Path.{_≡_, refl, ap, sym, _∙_}
 use mathlib.Core.Bool.{Bool, true, false, not, _&&_, _||_, or-true, cond}
 use mathlib.Core.List.{List, [], _∷_, map}

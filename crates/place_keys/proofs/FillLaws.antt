@@ -1,4 +1,4 @@
--- The generations of the buckets taken, one after the other. Assumes nothing.
+-- The generations of the buckets taken, one after the other.
 use mathlib.Core.Path.{_≡_, ap, sym, _∙_}
 use mathlib.Core.List.{List, [], _∷_, _++_, map, append-nil}
 use Prim.Native.Nat.{ℕ, _+_, _≤_, _<_}

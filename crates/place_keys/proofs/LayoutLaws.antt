@@ -1,4 +1,4 @@
--- How many buckets the slots of some pieces need. Assumes nothing.
+-- How many buckets the slots of some pieces need.
 use mathlib.Core.List.{List, [], _∷_}
 use Prim.Native.Nat.{ℕ, _+_, _≤_, _<_}
 use native.Mathlib.Omega.{arith}

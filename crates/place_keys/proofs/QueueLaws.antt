@@ -1,4 +1,4 @@
--- Laws of the keys that the walk passed. Assumes nothing.
+-- Laws of the keys that the walk passed.
 use mathlib.Core.Path.{_≡_, refl, ap, _∙_}
 use mathlib.Core.Bool.{Bool, true, false, cond}
 use mathlib.Core.List.{List, [], _∷_, _++_, map, map-append, append-nil}

@@ -1,4 +1,4 @@
--- Laws of the step that every walk over the pieces takes. Assumes nothing.
+-- Laws of the step that every walk over the pieces takes.
 use mathlib.Core.Path.{_≡_, refl, sym, ap, _∙_}
 use mathlib.Core.Bool.{true}
 use mathlib.Core.List.{List, [], _∷_, map}
@@ -20,7 +20,7 @@ use Rattle.calls.specs.Pieces.{nextFit, bucketsNeeded, kindListed, blockOf, pie
 use Rattle.calls.specs.Extents.{bucketAt, placedAt}
 use Rattle.calls.specs.Place.{walkOf}
 use Rattle.calls.specs.Answers.{readCall, readVolume}
-use Rattle.calls.proofs.BoolLaws.{parts as and-true}
+use Rattle.calls.proofs.lists.BoolLaws.{parts as and-true}
 use Rattle.reader.specs.declared.head.Head.{Head}
 use Rattle.reader.specs.Pieces.{pieceIn}
 use Rattle.next_fit.specs.Fit.{slotIn}

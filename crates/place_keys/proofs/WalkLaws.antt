@@ -1,4 +1,4 @@
--- The loop that walks over the pieces and emits a field for each: its invariant. Assumes nothing.
+-- The loop that walks over the pieces and emits a field for each: its invariant.
 use mathlib.Core.Path.{_≡_, ap}
 use mathlib.Core.List.{List, [], map}
 use Prim.Native.Nat.{ℕ, _+_, _≤_, _^_}

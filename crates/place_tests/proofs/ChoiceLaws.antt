@@ -1,4 +1,4 @@
--- What choosing answers, at each of its ends. Assumes nothing.
+-- What choosing answers, at each of its ends.
 use mathlib.Core.Path.{_≡_, ap, sym, _∙_}
 use mathlib.Core.Bool.{Bool}
 use mathlib.Core.List.{List}

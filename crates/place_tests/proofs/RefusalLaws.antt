@@ -1,4 +1,4 @@
--- Refusals 4 to 13, one after the other, and what they tell where none is met. Assumes nothing.
+-- Refusals 4 to 13, one after the other, and what they tell where none is met.
 use mathlib.Core.Path.{_≡_, refl, ap, sym, _∙_}
 use mathlib.Core.Bool.{Bool, true, false, not, _&&_, _||_, cond}
 use mathlib.Core.List.{List, [], _∷_, _++_}
@@ -14,7 +14,7 @@ use Rattle.calls.specs.Freespace.{isIn, runsOf, overlaps, freeCount, wanted}
 use Rattle.calls.specs.Pieces.{bucketsNeeded, kindListed, blockOf, divides, pieceSized}
 use Rattle.calls.specs.Place.{slotsOf, walkOf, placeTests}
 use Rattle.calls.specs.Refusals.{test, verdict}
-use Rattle.calls.proofs.RefusalLaws.{verdict-ok, verdict-front, test-ok}
+use Rattle.calls.proofs.answers.RefusalLaws.{verdict-ok, verdict-front, test-ok}
 use Rattle.reader.specs.Heads.{headIn}
 use Rattle.reader.specs.declared.head.Head.{Head}
 

@@ -1,4 +1,4 @@
--- The tests of refusals 6 to 9. Assumes nothing.
+-- The tests of refusals 6 to 9.
 use mathlib.Core.Path.{_≡_}
 use mathlib.Core.Bool.{true, false, not, and-false, or-true}
 use mathlib.Core.Logic.{_⊎_, inl, inr}

@@ -1,4 +1,4 @@
--- What refusals 6 and 9 show of a piece, and of how many buckets the pieces need. Assumes nothing.
+-- What refusals 6 and 9 show of a piece, and of how many buckets the pieces need.
 use mathlib.Core.Path.{_≡_, refl, ap, sym}
 use mathlib.Core.Bool.{Bool, true, false, _&&_, _||_, cond}
 use mathlib.Core.List.{List, [], _∷_, map}
@@ -13,7 +13,7 @@ use Rattle.calls.specs.CallList.{Piece}
 use Rattle.calls.specs.Lists.{allOf}
 use Rattle.calls.specs.Pieces.{nextFit, bucketsNeeded, kindListed, pieceSized}
 use Rattle.calls.specs.Place.{slotsOf}
-use Rattle.calls.proofs.BoolLaws.{parts as and-true}
+use Rattle.calls.proofs.lists.BoolLaws.{parts as and-true}
 use Rattle.reader.specs.declared.head.Head.{Head}
 use Rattle.place_tests.specs.Called.{Called}
 use Rattle.place_tests.proofs.RefusalLaws.{Asked}

@@ -1,11 +1,11 @@
--- A test of every element of a list, from a place on. Assumes nothing.
+-- A test of every element of a list, from a place on.
 use mathlib.Core.Path.{_≡_, ap, sym, _∙_}
 use mathlib.Core.Bool.{Bool, true, false, _&&_}
 use mathlib.Core.List.{List, [], _∷_}
 use Prim.Native.Nat.{ℕ, zero, suc, _≤_}
 use lib.ListN.{length, drop, drop-of-length-le}
 use Rattle.calls.specs.Lists.{allOf}
-use Rattle.calls.proofs.BoolLaws.{parts as and-true}
+use Rattle.calls.proofs.lists.BoolLaws.{parts as and-true}
 
 -- it holds of the one at a place
 pub all-drop : {A : Type 0} (t : A → Bool) (l : List A) (i : ℕ) → allOf t l ≡ true → allOf t (drop i l) ≡ true

@@ -1,4 +1,4 @@
--- What refusals 2 and 3 show, part by part. Assumes nothing.
+-- What refusals 2 and 3 show, part by part.
 use mathlib.Core.Path.{_≡_}
 use mathlib.Core.Bool.{true, not, _&&_, _||_}
 use mathlib.Core.List.{List, _++_}
@@ -14,9 +14,9 @@ use Rattle.calls.specs.Lists.{allOf, inOrder}
 use Rattle.calls.specs.CallList.{shaped, bodies, volumeShapes, requestShapes, tagsAscend, treesOk, headOk, laidOut, callLaidOut}
 use Rattle.calls.specs.Limits.{isRun, isSet, countsOk, bucketsOk, volumeWithin, listWithin}
 use Rattle.calls.specs.Answers.{readCall, readVolume}
-use Rattle.calls.proofs.BoolLaws.{parts as and-true}
-use Rattle.calls.proofs.SortedLaws.{InOrder}
-use Rattle.calls.proofs.SixTrees.{EachTree, trees-order}
+use Rattle.calls.proofs.lists.BoolLaws.{parts as and-true}
+use Rattle.calls.proofs.trees.SortedLaws.{InOrder}
+use Rattle.calls.proofs.trees.SixTrees.{EachTree, trees-order}
 use Rattle.reader.specs.Checked.{Checked, inRange, endInRange}
 
 -- the limits of a key

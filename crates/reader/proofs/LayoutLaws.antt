@@ -17,8 +17,8 @@ use Rattle.calls.specs.Lists.{allOf, those, inOrder}
 use Rattle.calls.specs.CallList.{bodies, firstBody, headOf, headOk, treesOf, callListOf, Shape, shaped, keyShape, exactly, volumeShapes, requestShapes, tagsAscend, keysOk, treesOk}
 use Rattle.calls.specs.ChangeList.{fieldOk}
 use Rattle.reader.specs.CallFields.{restShapes, callFieldOk, startsOk, ascends, follows}
-use Rattle.calls.proofs.AllLaws.{all-tail}
-use Rattle.calls.proofs.BoolLaws.{both}
+use Rattle.calls.proofs.lists.AllLaws.{all-tail}
+use Rattle.calls.proofs.lists.BoolLaws.{both}
 use Rattle.reader.proofs.BoolLaws.{apart, and-left, and-right, same}
 use Rattle.reader.proofs.ShapeLaws.{KeyTag, same-or}
 use Rattle.reader.proofs.ListLaws.{all-true, true-all, all-zip, all-map, order-tail, order-map, all-of-map, order-of-map, bodies-here, bodies-other, bodies-none, bodies-all, all-bodies, none-after}

@@ -17,7 +17,7 @@ use Rattle.calls.specs.CallList.{bodies, firstBody, headOf, treesOf, callListOf
 use Rattle.calls.specs.Limits.{fewKeys, countsOk, bucketsOk, volumeWithin, listWithin}
 use Rattle.reader.specs.CallFields.{headWithin, allocWithin, runWithin, waitingWithin, fieldWithin}
 use Rattle.reader.specs.Table.{rankOf, mostOf}
-use Rattle.calls.proofs.BoolLaws.{both}
+use Rattle.calls.proofs.lists.BoolLaws.{both}
 use Rattle.reader.proofs.BoolLaws.{and-left, and-right}
 use Rattle.reader.proofs.ShapeLaws.{same-or}
 use Rattle.reader.proofs.ListLaws.{all-true, true-all, all-zip, all-map, all-of-map, bodies-all, all-bodies}

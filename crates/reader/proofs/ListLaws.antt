@@ -11,7 +11,7 @@ use Rattle.wire.specs.Fields.{Field}
 use Rattle.wire.specs.Bytes.{All, none, more}
 use Rattle.calls.specs.Lists.{allOf, those, inOrder}
 use Rattle.calls.specs.CallList.{bodies, tagsAscend}
-use Rattle.calls.proofs.BoolLaws.{both}
+use Rattle.calls.proofs.lists.BoolLaws.{both}
 use Rattle.reader.proofs.BoolLaws.{and-left, and-right}
 use Rattle.reader.proofs.ShapeLaws.{same-or}
 

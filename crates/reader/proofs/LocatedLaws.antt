@@ -1,4 +1,4 @@
--- The parts of the table find, one for one, the keys of a tree, the reserved buckets and the requests of a list that was read. Assumes nothing.
+-- The parts of the table find, one for one, the keys of a tree, the reserved buckets and the requests of a list that was read.
 use Prim.Native.Nat.{ℕ, _+_, _-_, _≤_, _<_}
 use native.Mathlib.Nat.{min-eq-left}
 use native.Mathlib.Omega.{arith}

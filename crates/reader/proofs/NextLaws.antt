@@ -1,4 +1,4 @@
--- The bucket, or the piece, at the place with an index, and those after it. Assumes nothing.
+-- The bucket, or the piece, at the place with an index, and those after it.
 use mathlib.Core.Path.{_≡_, ap, sym, _∙_}
 use mathlib.Core.List.{List, _∷_}
 use Prim.Native.Nat.{ℕ, _+_, _<_}

@@ -1,4 +1,4 @@
--- The parts of a call's list that was read: the offsets between two ends, and what they find. Assumes nothing.
+-- The parts of a call's list that was read: the offsets between two ends, and what they find.
 use Prim.Native.Nat.{ℕ, _+_, _-_, _≤_, _<_}
 use native.Mathlib.Omega.{arith}
 use mathlib.Core.Path.{_≡_, refl, sym, ap, _∙_}
@@ -14,9 +14,9 @@ use Rattle.calls.specs.CallList.{CallList, bodies, treesOf, callListOf, callLai
 use Rattle.calls.specs.Limits.{fewKeys, countsOk, bucketsOk, volumeWithin, listWithin}
 use Rattle.calls.specs.Refusals.{test, verdict}
 use Rattle.calls.specs.Answers.{Answer, answer, readCall, readVolume}
-use Rattle.calls.proofs.BoolLaws.{parts}
-use Rattle.calls.proofs.KeyFitsLaws.{list-within}
-use Rattle.calls.proofs.OutcomeLaws.{answer-next, answer-stops}
+use Rattle.calls.proofs.lists.BoolLaws.{parts}
+use Rattle.calls.proofs.encoding.KeyFitsLaws.{list-within}
+use Rattle.calls.proofs.answers.OutcomeLaws.{answer-next, answer-stops}
 use Rattle.reader.specs.Table.{Tabled}
 use Rattle.reader.specs.Readings.{callRefusal, listRefusal, ListRead}
 use Rattle.reader.specs.Located.{KeysAt, BucketsAt, PiecesAt, FreedsAt}

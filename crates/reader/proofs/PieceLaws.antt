@@ -1,4 +1,4 @@
--- A piece, read at its place. Assumes nothing.
+-- A piece, read at its place.
 use mathlib.Core.Path.{_≡_}
 use mathlib.Core.List.{List}
 use Prim.Native.Nat.{ℕ, _+_}

@@ -17,7 +17,7 @@ use Rattle.calls.specs.Lists.{allOf, inOrder}
 use Rattle.calls.specs.CallList.{Head, headOf, headOk, bodies, firstBody, callListOf, shaped, volumeShapes, requestShapes, laidOut}
 use Rattle.calls.specs.Limits.{listWithin}
 use Rattle.calls.specs.Refusals.{test, verdict}
-use Rattle.calls.proofs.Blocks.{field}
+use Rattle.calls.proofs.encoding.Blocks.{field}
 use Rattle.reader.specs.CallFields.{restShapes, callFieldOk, startsOk, fieldFrom, leastOf, follows, headWithin, fieldWithin}
 use Rattle.reader.specs.Table.{rankOf, mostOf, Fits, Free, room, FieldNoted, endOf, Indexed, Ended, endsIn, requestBodies, requestTag, Tabled}
 use Rattle.reader.specs.Readings.{listRefusal}

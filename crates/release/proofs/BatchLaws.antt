@@ -1,4 +1,4 @@
--- The bytes of a release's batch, tree by tree. Assumes nothing.
+-- The bytes of a release's batch, tree by tree.
 use mathlib.Core.Path.{_≡_, refl, sym, ap, _∙_}
 use mathlib.Core.Bool.{Bool, true, false, not, _&&_, _||_}
 use mathlib.Core.List.{List, [], _∷_, _++_, map, flatMap, append-nil}
@@ -23,13 +23,13 @@ use Rattle.calls.specs.Lru.{needDiscardKey}
 use Rattle.calls.specs.Place.{rootMissing, rootsIf}
 use Rattle.calls.specs.Release.{freedOk, freedBuckets, freedIn, isEmptied, releasedKey, releasedLru, emptiedGen, gensQueued, unusedChange, releaseRows, releaseBatch}
 use Rattle.calls.specs.Trees.{deletion}
-use Rattle.calls.proofs.AllLaws.{those-length}
-use Rattle.calls.proofs.ApplyLaws.{up-order, up-those}
-use Rattle.calls.proofs.BoolLaws.{parts}
-use Rattle.calls.proofs.BucketLaws.{isIn-those}
-use Rattle.calls.proofs.ReleaseFits.{named-few}
-use Rattle.calls.proofs.ReleaseLaws.{named-range}
-use Rattle.calls.proofs.View.{bucket}
+use Rattle.calls.proofs.lists.AllLaws.{those-length}
+use Rattle.calls.proofs.encoding.ApplyLaws.{up-order, up-those}
+use Rattle.calls.proofs.lists.BoolLaws.{parts}
+use Rattle.calls.proofs.freespace.BucketLaws.{isIn-those}
+use Rattle.calls.proofs.release.ReleaseFits.{named-few}
+use Rattle.calls.proofs.release.ReleaseLaws.{named-range}
+use Rattle.calls.proofs.history.View.{bucket}
 use Rattle.release_sums.specs.Freeds.{freedsIn, PiecesBounded}
 use Rattle.release_sums.specs.Summing.{Sums, sumOf, summedBuckets, BucketsListed}
 use Rattle.release_sums.proofs.FoundLaws.{freed-up, found-freed}

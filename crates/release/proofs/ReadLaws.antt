@@ -1,4 +1,4 @@
--- From the list that was read to the keys and pieces that its table finds, and from the call's refusals to the answer. Assumes nothing.
+-- From the list that was read to the keys and pieces that its table finds, and from the call's refusals to the answer.
 use mathlib.Core.Path.{_≡_, refl, sym, ap, _∙_, subst}
 use mathlib.Core.Bool.{Bool, true}
 use mathlib.Core.List.{List, [], _∷_, _++_, map}
@@ -19,10 +19,10 @@ use Rattle.calls.specs.Answers.{Answer, answer, readCall, readVolume, release, 
 use Rattle.calls.specs.ChangeList.{changeBytes}
 use Rattle.calls.specs.Refusals.{test}
 use Rattle.calls.specs.Release.{allocValue, dirtyAt, isEmptied, bucketRefusal, releaseTests, releasedKey, releasedLru, emptiedGen, unusedChange, releaseRows, releaseBatch}
-use Rattle.calls.proofs.AnswerLaws.{release-is}
-use Rattle.calls.proofs.BoolLaws.{parts}
-use Rattle.calls.proofs.OutcomeLaws.{answer-next, answer-stops, refused}
-use Rattle.calls.proofs.SixTrees.{EachTree, trees-each}
+use Rattle.calls.proofs.answers.AnswerLaws.{release-is}
+use Rattle.calls.proofs.lists.BoolLaws.{parts}
+use Rattle.calls.proofs.answers.OutcomeLaws.{answer-next, answer-stops, refused}
+use Rattle.calls.proofs.trees.SixTrees.{EachTree, trees-each}
 use Rattle.reader.specs.KeyHere.{keysHere}
 use Rattle.reader.specs.Heads.{headIn}
 use Rattle.reader.specs.Located.{KeysAt, FreedAt, noFreed, FreedsAt}

@@ -1,4 +1,4 @@
--- From the lists that were read to the tables, and from the refusals to the answer. Assumes nothing.
+-- From the lists that were read to the tables, and from the refusals to the answer.
 use mathlib.Core.Path.{_≡_, refl, sym, ap, _∙_}
 use mathlib.Core.Bool.{Bool, true, false, not}
 use mathlib.Core.List.{List, [], _∷_, _++_, map}
@@ -14,11 +14,11 @@ use Rattle.calls.specs.Freespace.{isIn}
 use Rattle.calls.specs.Lists.{allOf, those, inOrder}
 use Rattle.calls.specs.Refusals.{test, verdict}
 use Rattle.calls.specs.Release.{freedOk, freedBuckets, freedIn, isEmptied, bucketRefusal, emptiedGen, releaseTests}
-use Rattle.calls.proofs.ApplyLaws.{up-order}
-use Rattle.calls.proofs.OutcomeLaws.{answer-next, answer-stops, refused}
-use Rattle.calls.proofs.ReleaseFits.{named-few}
-use Rattle.calls.proofs.ReleaseLaws.{named-range}
-use Rattle.calls.proofs.View.{bucket}
+use Rattle.calls.proofs.encoding.ApplyLaws.{up-order}
+use Rattle.calls.proofs.answers.OutcomeLaws.{answer-next, answer-stops, refused}
+use Rattle.calls.proofs.release.ReleaseFits.{named-few}
+use Rattle.calls.proofs.release.ReleaseLaws.{named-range}
+use Rattle.calls.proofs.history.View.{bucket}
 use Rattle.release_sums.specs.Freeds.{freedsIn, Requested}
 use Rattle.release_sums.specs.Summing.{Cleared, BucketsListed}
 use Rattle.release_sums.proofs.FoundLaws.{freed-up}

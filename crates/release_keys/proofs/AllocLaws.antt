@@ -1,4 +1,4 @@
--- The walk that finds the alloc key of each bucket. Assumes nothing.
+-- The walk that finds the alloc key of each bucket.
 use mathlib.Core.Path.{_≡_, refl, sym, ap, _∙_, subst}
 use mathlib.Core.Bool.{true, false}
 use mathlib.Core.Logic.{_⊎_, inl, inr, ⊎-elim}
@@ -18,10 +18,10 @@ use borrow.Author.Tests.{ltb-true, le-ltb}
 use Rattle.calls.specs.CallList.{keysOk}
 use Rattle.calls.specs.Lists.{inOrder}
 use Rattle.calls.specs.Trees.{lookup}
-use Rattle.calls.proofs.BoolLaws.{clash, parts}
-use Rattle.calls.proofs.SortedLaws.{order-sorted, lookup-chain, Chain, Sorted}
-use Rattle.calls.proofs.TreeLaws.{onEq-ne}
-use Rattle.calls.proofs.View.{bucket}
+use Rattle.calls.proofs.lists.BoolLaws.{clash, parts}
+use Rattle.calls.proofs.trees.SortedLaws.{order-sorted, lookup-chain, Chain, Sorted}
+use Rattle.calls.proofs.trees.TreeLaws.{onEq-ne}
+use Rattle.calls.proofs.history.View.{bucket}
 use Rattle.reader.specs.KeyHere.{keysHere}
 use Rattle.reader.specs.Located.{noKey}
 use Rattle.release_keys.specs.Places.{Keyed, PlaceOf, missing, found}

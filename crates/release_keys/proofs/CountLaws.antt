@@ -1,4 +1,4 @@
--- Sums over lists. Assumes nothing.
+-- Sums over lists.
 use mathlib.Core.Path.{_≡_, ap}
 use mathlib.Core.Bool.{cond}
 use mathlib.Core.List.{List, [], _∷_}

@@ -1,4 +1,4 @@
--- The freed buckets that no refusal stops. Assumes nothing.
+-- The freed buckets that no refusal stops.
 use mathlib.Core.Bool.{true}
 use mathlib.Core.Path.{_≡_, sym, ap, _∙_}
 use mathlib.Core.List.{List, [], _∷_, map}
@@ -15,9 +15,9 @@ use Rattle.calls.specs.CallList.{Volume, Freed}
 use Rattle.calls.specs.Lists.{allOf}
 use Rattle.calls.specs.Refusals.{verdict}
 use Rattle.calls.specs.Release.{freedBuckets, bucketRefusal}
-use Rattle.calls.proofs.RefusalLaws.{verdict-ok}
-use Rattle.calls.proofs.ReleaseLaws.{Held, held-of}
-use Rattle.calls.proofs.View.{bucket}
+use Rattle.calls.proofs.answers.RefusalLaws.{verdict-ok}
+use Rattle.calls.proofs.release.ReleaseLaws.{Held, held-of}
+use Rattle.calls.proofs.history.View.{bucket}
 use Rattle.reader.specs.KeyHere.{keyHere, Whole}
 use Rattle.release_sums.proofs.FreedLaws.{all-drop, all-first}
 use Rattle.release_keys.specs.FreedBuckets.{freedBucketOf}

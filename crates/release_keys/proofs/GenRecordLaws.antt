@@ -1,4 +1,4 @@
--- Generation records that continue one another. Assumes nothing.
+-- Generation records that continue one another.
 use mathlib.Core.Path.{_≡_, refl, sym, ap, _∙_, subst}
 use mathlib.Core.Bool.{Bool, true, false, cond}
 use mathlib.Core.List.{List, [], _∷_, _++_, map}
@@ -26,9 +26,9 @@ use Rattle.calls.specs.Lists.{inOrder}
 use Rattle.calls.specs.Generations.{genRecord, genKey, genQueued}
 use Rattle.calls.specs.Release.{gensQueued}
 use Rattle.calls.specs.Trees.{lookup, newKey}
-use Rattle.calls.proofs.TreeLaws.{onEq-ne}
-use Rattle.calls.proofs.GensLaws.{key-is}
-use Rattle.calls.proofs.View.{bucket}
+use Rattle.calls.proofs.trees.TreeLaws.{onEq-ne}
+use Rattle.calls.proofs.release.GensLaws.{key-is}
+use Rattle.calls.proofs.history.View.{bucket}
 use Rattle.reader.specs.KeyHere.{keyHere}
 use Rattle.gens.specs.Records.{recordAt}
 use Rattle.change_fields.specs.FieldBytes.{keysBytes}

@@ -1,4 +1,4 @@
--- The keys that a freed bucket leaves. Assumes nothing.
+-- The keys that a freed bucket leaves.
 use mathlib.Core.Path.{_≡_, sym, ap, _∙_}
 use mathlib.Core.Bool.{Bool, true, false, cond}
 use mathlib.Core.List.{List, [], _∷_, _++_, append-nil}
@@ -21,7 +21,7 @@ use Rattle.calls.specs.Lists.{those}
 use Rattle.calls.specs.Lru.{lruKeys, lruDeletions, needDiscardKey}
 use Rattle.calls.specs.Release.{isEmptied, releasedKey, releasedLru, emptiedGen}
 use Rattle.calls.specs.Trees.{lookup, newKey, withValue}
-use Rattle.calls.proofs.View.{bucket}
+use Rattle.calls.proofs.history.View.{bucket}
 use Rattle.reader.specs.KeyHere.{valueAt, keyHere}
 use Rattle.release_sums.proofs.FreedLaws.{Within}
 use Rattle.change_fields.specs.FieldBytes.{keysBytes}

@@ -1,4 +1,4 @@
--- Refusals 15 to 19 at a bucket, and over the freed buckets. Assumes nothing.
+-- Refusals 15 to 19 at a bucket, and over the freed buckets.
 use mathlib.Core.Path.{_≡_, sym, ap, _∙_}
 use mathlib.Core.Bool.{Bool, true, false, not, _&&_}
 use mathlib.Core.List.{List, [], _∷_, map}

@@ -1,4 +1,4 @@
--- The roots that emptied buckets want. Assumes nothing.
+-- The roots that emptied buckets want.
 use mathlib.Core.Path.{_≡_}
 use mathlib.Core.Bool.{not, _&&_}
 use mathlib.Core.List.{[], _++_}

@@ -1,4 +1,4 @@
--- The buckets whose sum is not 0 are those that requests name. Assumes nothing.
+-- The buckets whose sum is not 0 are those that requests name.
 use mathlib.Core.Path.{_≡_, refl, sym, ap, _∙_}
 use mathlib.Core.Bool.{Bool, true, false, _&&_, _||_}
 use Prim.Native.Nat.{ℕ, zero, suc, _+_, _≤_, _<_, compare, Ordering, Ordering·lt, Ordering·eq, Ordering·gt}
@@ -17,11 +17,11 @@ use Rattle.calls.specs.Lists.{allOf, anyOf}
 use Rattle.calls.specs.Buckets.{insertBucket, insertBuckets}
 use Rattle.calls.specs.Freespace.{isIn}
 use Rattle.calls.specs.Release.{freedOk, freedBuckets}
-use Rattle.calls.proofs.ApplyLaws.{Up, up-weak, up-insert, up-those}
-use Rattle.calls.proofs.BoolLaws.{clash}
-use Rattle.calls.proofs.BucketLaws.{isIn-those}
-use Rattle.calls.proofs.ReleaseLaws.{named-freed, named-range}
-use Rattle.calls.proofs.View.{bucket}
+use Rattle.calls.proofs.encoding.ApplyLaws.{Up, up-weak, up-insert, up-those}
+use Rattle.calls.proofs.lists.BoolLaws.{clash}
+use Rattle.calls.proofs.freespace.BucketLaws.{isIn-those}
+use Rattle.calls.proofs.release.ReleaseLaws.{named-freed, named-range}
+use Rattle.calls.proofs.history.View.{bucket}
 use Rattle.release_sums.specs.Summing.{Sums, sumOf, summedBuckets, summedFrom, BucketsListed, Appended}
 
 -- ---- ascending lists with the same buckets are the same

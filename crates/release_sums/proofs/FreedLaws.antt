@@ -1,4 +1,4 @@
--- Reading released pieces, and tests over all of them. Assumes nothing.
+-- Reading released pieces, and tests over all of them.
 use mathlib.Core.Path.{_≡_, refl, sym, ap, _∙_}
 use mathlib.Core.Bool.{Bool, true, false, _&&_}
 use Prim.Native.Nat.{ℕ, zero, suc, _+_, _≤_, _<_}
@@ -15,7 +15,7 @@ use Rattle.wire.proofs.OutputLaws.{drop-next}
 use Rattle.calls.specs.CallList.{Freed, freedOf}
 use Rattle.calls.specs.Lists.{allOf}
 use Rattle.calls.specs.Release.{freedOk}
-use Rattle.calls.proofs.BoolLaws.{parts}
+use Rattle.calls.proofs.lists.BoolLaws.{parts}
 use Rattle.reader.specs.Located.{noFreed}
 use Rattle.release_sums.specs.Freeds.{freedsIn, Requested}
 

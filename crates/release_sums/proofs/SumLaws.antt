@@ -1,4 +1,4 @@
--- The sums in the scratch while requests are added up. Assumes nothing.
+-- The sums in the scratch while requests are added up.
 use mathlib.Core.Path.{_≡_, refl, sym, ap, _∙_}
 use mathlib.Core.Bool.{Bool, true, false, cond}
 use Prim.Native.Nat.{ℕ, suc, _+_, _*_, _/_, _≤_, _<_}
@@ -14,8 +14,8 @@ use Rattle.wire.proofs.OutputLaws.{drop-next}
 use Rattle.calls.specs.CallList.{Freed}
 use Rattle.calls.specs.Lists.{allOf, total}
 use Rattle.calls.specs.Release.{freedOk, freedIn}
-use Rattle.calls.proofs.BoolLaws.{parts}
-use Rattle.calls.proofs.View.{bucket}
+use Rattle.calls.proofs.lists.BoolLaws.{parts}
+use Rattle.calls.proofs.history.View.{bucket}
 use Rattle.release_sums.specs.Summing.{Cleared, Sums, Marked}
 use Rattle.release_sums.proofs.FreedLaws.{within}
 

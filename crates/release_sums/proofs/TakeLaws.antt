@@ -1,4 +1,4 @@
--- The sums are taken out of the scratch, group by group. Assumes nothing.
+-- The sums are taken out of the scratch, group by group.
 use mathlib.Core.Path.{_≡_, refl, sym, ap, _∙_}
 use mathlib.Core.Bool.{Bool, true, false, cond}
 use Prim.Native.Nat.{ℕ, zero, suc, _+_, _-_, _*_, _/_, _≤_, _<_}
@@ -13,7 +13,7 @@ use Rattle.wire.specs.Kinds.{bucketsIn, bucketsFrom}
 use Rattle.wire.specs.declared.kinds.Bucket.{Bucket}
 use Rattle.wire.proofs.OutputLaws.{drop-next}
 use Rattle.calls.specs.Lists.{those}
-use Rattle.calls.proofs.View.{bucket}
+use Rattle.calls.proofs.history.View.{bucket}
 use Rattle.release_sums.specs.Summing.{Marked, sumOf, summedBuckets, summedFrom, BucketsListed, Appended}
 use Rattle.release_sums.proofs.SumLaws.{clear-next}
 use Rattle.release_sums.proofs.FoundLaws.{Appending, pick-hit, pick-miss, pick-many, pick-appends, pick-ends}

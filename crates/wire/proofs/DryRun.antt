@@ -1,4 +1,4 @@
--- What a dry run, into any output, says of the run into the output xs. Assumes nothing.
+-- What a dry run, into any output, says of the run into the output xs.
 use mathlib.Core.Path.{_≡_, ap, _∙_}
 use Prim.Native.Nat.{ℕ, _+_, _≤_, _<_}
 use native.Mathlib.Nat.{zero-add}

@@ -1,4 +1,4 @@
--- Emitters that are promised by their bytes alone. Assumes nothing.
+-- Emitters that are promised by their bytes alone.
 use mathlib.Core.Path.{_≡_, refl, sym, subst}
 use mathlib.Core.List.{List, [], _++_}
 use Prim.Native.Nat.{ℕ, _≤_}

@@ -1,4 +1,4 @@
--- Lists of bytes and encoded fields, one after the other. Assumes nothing.
+-- Lists of bytes and encoded fields, one after the other.
 use mathlib.Core.Path.{_≡_, refl, sym, ap, _∙_}
 use mathlib.Core.List.{List, [], _∷_, _++_, append-assoc, append-nil}
 use Prim.Native.Nat.{ℕ, _*_}

@@ -1,4 +1,4 @@
--- Buckets from one on. Assumes nothing.
+-- Buckets from one on.
 use mathlib.Core.Path.{_≡_, refl, ap}
 use Prim.Native.Nat.{ℕ, zero, suc}
 use lib.ListN.{length}

@@ -1,4 +1,4 @@
--- Laws of the order of positions. Assumes nothing.
+-- Laws of the order of positions.
 use mathlib.Core.Path.{_≡_, refl, ap, sym, _∙_}
 use mathlib.Core.Bool.{Bool, true, false}
 use mathlib.Core.Logic.{_⊎_, inl, inr, ⊎-elim}

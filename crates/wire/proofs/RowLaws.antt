@@ -1,4 +1,4 @@
--- A row is written and read back: signed numbers, and a row's body. Assumes nothing.
+-- A row is written and read back: signed numbers, and a row's body.
 use Prim.Native.Nat.{ℕ, _^_, _<_}
 use mathlib.Core.Path.{_≡_, ap, _∙_}
 use mathlib.Core.List.{List, [], _∷_, _++_}

@@ -1,4 +1,4 @@
--- Signed numbers, their bits, and what is counted below zero. Assumes nothing.
+-- Signed numbers, their bits, and what is counted below zero.
 use mathlib.Core.Path.{_≡_, sym, ap, _∙_}
 use mathlib.Core.Bool.{true, false}
 use Prim.Native.Nat.{ℕ, zero, suc, _+_, _≤_, _<_, _^_}

@@ -1,4 +1,4 @@
--- `format_backpointer` meets its contract: the four words are the struct. Assumes nothing.
+-- `format_backpointer` meets its contract: the four words are the struct.
 use borrow.Author.Needs.{needs}
 use Rattle.format_c.proofs.format_backpointer.Statement.{statement}
 use Rattle.format_c.proofs.format_backpointer.Tie as tie

@@ -1,4 +1,4 @@
--- `format_discarded` meets its contract: a value of the right length is read, changed and put back. Assumes nothing.
+-- `format_discarded` meets its contract: a value of the right length is read, changed and put back.
 use borrow.Author.Needs.{needs}
 use native.Mathlib.Omega.{arith}
 use denote.Ref.{now}

@@ -1,4 +1,4 @@
--- `format_new_alloc` meets its contract: the eight words are the struct. Assumes nothing.
+-- `format_new_alloc` meets its contract: the eight words are the struct.
 use borrow.Author.Needs.{needs}
 use Rattle.format.proofs.WordLaws.{all-eight}
 use Rattle.format_c.proofs.format_new_alloc.Statement.{statement}

@@ -13,7 +13,7 @@ use std::time::{Duration, Instant};
 use zerglaz::SUMS;
 
 /// The rows, and those of them that are no applies.
-const ROWS: usize = 15;
+const ROWS: usize = 18;
 const CALL_ROWS: usize = 12;
 /// Repetitions of a row: at least, and at most.
 const LEAST: usize = 101;
@@ -22,6 +22,10 @@ const MOST: usize = 20_001;
 const PAGE: usize = 4_096;
 /// The most bytes that an answer has here.
 const ROOM: usize = 1 << 23;
+/// The calls, by name.
+const CALLS: [(u8, &str); 3] = [(PLACE, "place"), (RELEASE, "release"), (DISCARD, "discard")];
+/// How many keys of a full volume an apply replaces.
+const REPLACED: [(usize, &str); 3] = [(1, "1 key"), (64, "64 keys"), (1_024, "1,024 keys")];
 /// The kinds of bars, by name and colour.
 const KINDS: [(&str, &str); 4] = [
     ("Zerglaz", "#1f6fb2"),
@@ -91,7 +95,7 @@ fn bench(file: &str, seconds: f64) {
     std::fs::write(file, drawn).expect("the chart is written");
 }
 
-/// The row with a number: 12 calls, then 3 applies.
+/// The row with a number: 12 calls, then 6 applies.
 fn row(number: usize) -> Row {
     match number.checked_sub(CALL_ROWS) {
         None => call_row(number),
@@ -101,8 +105,7 @@ fn row(number: usize) -> Row {
 
 /// A call on a bare or full volume, with one or 1,024 requests.
 fn call_row(number: usize) -> Row {
-    let calls = [(PLACE, "place"), (RELEASE, "release"), (DISCARD, "discard")];
-    let (call, name) = calls[number / 4];
+    let (call, name) = CALLS[number / 4];
     let volume = [Volume::Bare, Volume::Full][number / 2 % 2];
     let (count, many) = [(1, "1"), (1_024, "1,024")][number % 2];
     let list = timed::list(call, volume, count).bytes();
@@ -113,9 +116,31 @@ fn call_row(number: usize) -> Row {
     }
 }
 
-/// An apply on a full volume.
+/// An apply on a full volume, or of what a call of 1,024 wrote on its own bare volume.
 fn apply_row(number: usize) -> Row {
-    let (count, many) = [(1, "1 key"), (64, "64 keys"), (1_024, "1,024 keys")][number];
+    match number.checked_sub(REPLACED.len()) {
+        None => replaced_row(number),
+        Some(call) => followed_row(call),
+    }
+}
+
+/// An apply of what a call of 1,024 on a bare volume wrote.
+fn followed_row(number: usize) -> Row {
+    let (call, name) = CALLS[number];
+    let list = timed::list(call, Volume::Bare, 1_024);
+    Row {
+        name: format!("apply what {name} 1,024 wrote"),
+        volume: Volume::Bare,
+        work: Work::Apply {
+            volume: list.volume().bytes(),
+            change: rust(&list.bytes()),
+        },
+    }
+}
+
+/// An apply that replaces keys of a full volume.
+fn replaced_row(number: usize) -> Row {
+    let (count, many) = REPLACED[number];
     let volume = timed::volume();
     let change = timed::change(&volume, count);
     let volume = volume.bytes();

@@ -1,4 +1,4 @@
--- `place_rows::extent_size` meets its contract. Assumes nothing.
+-- `place_rows::extent_size` meets its contract.
 use native.Mathlib.Omega.{arith}
 use Rattle.accounting.proofs.PlaceRowLaws.{words-none, words-one, words-two}
 use Rattle.accounting.proofs.place_rows.extent_size.Statement.{statement}

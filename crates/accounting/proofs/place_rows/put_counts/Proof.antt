@@ -1,4 +1,4 @@
--- `place_rows::put_counts` meets its contract. Assumes nothing.
+-- `place_rows::put_counts` meets its contract.
 use native.Mathlib.Omega.{arith}
 use Rattle.wire.proofs.EmitLaws.{emitted}
 use Rattle.accounting.proofs.RowLaws.{same, pos-fits}

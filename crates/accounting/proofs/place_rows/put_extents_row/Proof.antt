@@ -1,4 +1,4 @@
--- `place_rows::put_extents_row` meets its contract. Assumes nothing.
+-- `place_rows::put_extents_row` meets its contract.
 use native.Mathlib.Omega.{arith}
 use mathlib.Core.Path.{sym, ap, _∙_}
 use mathlib.Core.List.{[], _∷_, map}

@@ -1,4 +1,4 @@
--- `place_rows::put_kinds` meets its contract. Assumes nothing.
+-- `place_rows::put_kinds` meets its contract.
 use mathlib.Core.List.{[], _∷_}
 use Rattle.accounting.proofs.RowLaws.{rows-and}
 use borrow.Author.Needs.{needs}

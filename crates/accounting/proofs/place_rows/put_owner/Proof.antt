@@ -1,4 +1,4 @@
--- `place_rows::put_owner` meets its contract. Assumes nothing.
+-- `place_rows::put_owner` meets its contract.
 use mathlib.Core.Path.{_≡_, sym, ap}
 use mathlib.Core.List.{[], _∷_, map}
 use Prim.Native.Nat.{_+_, _*_, _/_, _%_}

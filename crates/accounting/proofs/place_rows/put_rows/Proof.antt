@@ -1,4 +1,4 @@
--- `place_rows::put_rows` meets its contract. Assumes nothing.
+-- `place_rows::put_rows` meets its contract.
 use mathlib.Core.Path.{_≡_, sym, ap, _∙_}
 use mathlib.Core.List.{[], _∷_, map}
 use lib.ListN.{length, length-map}

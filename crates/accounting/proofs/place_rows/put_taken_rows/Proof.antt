@@ -1,4 +1,4 @@
--- `place_rows::put_taken_rows` meets its contract. Assumes nothing.
+-- `place_rows::put_taken_rows` meets its contract.
 use native.Mathlib.Omega.{arith}
 use mathlib.Core.List.{[], _∷_}
 use Prim.Native.Nat.{_*_, _<_, _^_}

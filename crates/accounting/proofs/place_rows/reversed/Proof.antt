@@ -1,4 +1,4 @@
--- `place_rows::reversed` meets its contract. Assumes nothing.
+-- `place_rows::reversed` meets its contract.
 use Rattle.accounting.proofs.PlaceRowLaws.{reversed-is}
 use borrow.Author.Needs.{needs}
 use Rattle.accounting.proofs.place_rows.reversed.Statement.{statement}

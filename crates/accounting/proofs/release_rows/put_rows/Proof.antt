@@ -1,4 +1,4 @@
--- `release_rows::put_rows` meets its contract. Assumes nothing.
+-- `release_rows::put_rows` meets its contract.
 use mathlib.Core.List.{[], _∷_}
 use Rattle.accounting.proofs.RowLaws.{passed, rows-and}
 use borrow.Author.Needs.{needs}

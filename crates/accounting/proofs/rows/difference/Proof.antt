@@ -1,7 +1,7 @@
--- `rows::difference` meets its contract. Assumes nothing.
+-- `rows::difference` meets its contract.
 use lib.IntN.{ℤ, pos, negℤ, _+ℤ_}
 use Rattle.wire.proofs.SignedLaws.{back}
-use Rattle.calls.proofs.KeyFitsLaws.{differ-fits}
+use Rattle.calls.proofs.encoding.KeyFitsLaws.{differ-fits}
 use borrow.Author.Needs.{needs}
 use Rattle.accounting.proofs.rows.difference.Statement.{statement}
 use Rattle.accounting.proofs.rows.difference.Tie as tie

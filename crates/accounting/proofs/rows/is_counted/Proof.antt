@@ -1,4 +1,4 @@
--- `rows::is_counted` meets its contract. The invariant: the numbers before index i are 0. Assumes nothing.
+-- `rows::is_counted` meets its contract. The invariant: the numbers before index i are 0.
 use native.Mathlib.Omega.{arith}
 use mathlib.Core.Path.{_≡_, refl, sym, _∙_}
 use Prim.Native.Nat.{_-_, _≤_}

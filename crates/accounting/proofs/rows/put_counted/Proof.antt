@@ -1,4 +1,4 @@
--- `rows::put_counted` meets its contract. Assumes nothing.
+-- `rows::put_counted` meets its contract.
 use native.Mathlib.Omega.{arith}
 use mathlib.Core.Path.{sym, ap, _∙_}
 use mathlib.Core.List.{map}

@@ -1,4 +1,4 @@
--- `rows::put_sectors_row` meets its contract. Assumes nothing.
+-- `rows::put_sectors_row` meets its contract.
 use native.Mathlib.Omega.{arith}
 use Rattle.wire.proofs.EmitLaws.{emitted}
 use Rattle.accounting.proofs.RowLaws.{zero-plus}

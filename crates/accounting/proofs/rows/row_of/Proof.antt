@@ -1,4 +1,4 @@
--- `rows::row_of` meets its contract. Assumes nothing.
+-- `rows::row_of` meets its contract.
 use native.Mathlib.Omega.{arith}
 use Rattle.accounting.proofs.RowLaws.{zero-plus}
 use borrow.Author.Needs.{needs}

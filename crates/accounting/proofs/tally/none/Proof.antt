@@ -1,4 +1,4 @@
--- `tally::none` meets its contract. Assumes nothing.
+-- `tally::none` meets its contract.
 use Rattle.accounting.proofs.TallyLaws.{tally-none}
 use Rattle.accounting.proofs.tally.none.Statement.{statement}
 use Rattle.accounting.proofs.tally.none.Tie as tie

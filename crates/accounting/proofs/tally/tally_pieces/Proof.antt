@@ -1,4 +1,4 @@
--- `tally::tally_pieces` meets its contract. The invariant: each tally and what is left are the tally of all. Assumes nothing.
+-- `tally::tally_pieces` meets its contract. The invariant: each tally and what is left are the tally of all.
 use native.Mathlib.Omega.{arith}
 use mathlib.Core.Path.{_≡_, ap, sym, _∙_}
 use mathlib.Core.List.{[], _∷_}

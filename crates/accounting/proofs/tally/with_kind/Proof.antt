@@ -1,4 +1,4 @@
--- `tally::with_kind` meets its contract. Assumes nothing.
+-- `tally::with_kind` meets its contract.
 use mathlib.Core.Path.{sym, ap, _∙_}
 use Rattle.reader.specs.Pieces.{pieceIn}
 use Rattle.accounting.specs.Tally.{tallyOf, sum}

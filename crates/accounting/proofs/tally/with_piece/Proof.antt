@@ -1,4 +1,4 @@
--- `tally::with_piece` meets its contract. Assumes nothing.
+-- `tally::with_piece` meets its contract.
 use Rattle.reader.specs.Pieces.{pieceIn}
 use Rattle.accounting.proofs.TallyLaws.{tally-one}
 use borrow.Author.Needs.{needs}

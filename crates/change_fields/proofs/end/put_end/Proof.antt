@@ -1,4 +1,4 @@
--- `end::put_end` meets its contract. Assumes nothing.
+-- `end::put_end` meets its contract.
 use mathlib.Core.Path.{sym}
 use mathlib.Core.List.{append-nil}
 use Rattle.wire.specs.Encode.{encodeField, headBytes}

@@ -1,4 +1,4 @@
--- `keys::put_deletion` meets its contract. Assumes nothing.
+-- `keys::put_deletion` meets its contract.
 use borrow.Author.Needs.{needs}
 use Rattle.change_fields.proofs.keys.put_deletion.Statement.{statement}
 use Rattle.change_fields.proofs.keys.put_deletion.Tie as tie

@@ -1,4 +1,4 @@
--- `keys::put_new_key` meets its contract. Assumes nothing.
+-- `keys::put_new_key` meets its contract.
 use borrow.Author.Needs.{needs}
 use Rattle.change_fields.proofs.keys.put_new_key.Statement.{statement}
 use Rattle.change_fields.proofs.keys.put_new_key.Tie as tie

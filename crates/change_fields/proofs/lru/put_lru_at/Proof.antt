@@ -1,4 +1,4 @@
--- `lru::put_lru_at` meets its contract. Assumes nothing.
+-- `lru::put_lru_at` meets its contract.
 use native.Mathlib.Omega.{arith}
 use mathlib.Core.Path.{sym, ap, _∙_}
 use Rattle.wire.specs.Positions.{lruAt}

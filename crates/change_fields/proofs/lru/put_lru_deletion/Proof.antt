@@ -1,4 +1,4 @@
--- `lru::put_lru_deletion` meets its contract. Assumes nothing.
+-- `lru::put_lru_deletion` meets its contract.
 use Rattle.calls.specs.Lru.{lruDeletions}
 use borrow.Author.Needs.{needs}
 use Rattle.change_fields.proofs.lru.put_lru_deletion.Statement.{statement}

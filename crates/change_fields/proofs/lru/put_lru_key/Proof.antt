@@ -1,4 +1,4 @@
--- `lru::put_lru_key` meets its contract. Assumes nothing.
+-- `lru::put_lru_key` meets its contract.
 use Rattle.calls.specs.Lru.{lruKeys}
 use borrow.Author.Needs.{needs}
 use Rattle.change_fields.proofs.lru.put_lru_key.Statement.{statement}

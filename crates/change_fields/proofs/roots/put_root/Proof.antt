@@ -1,4 +1,4 @@
--- `roots::put_root` meets its contract. Assumes nothing.
+-- `roots::put_root` meets its contract.
 use native.Mathlib.Omega.{arith}
 use mathlib.Core.Path.{sym, ap, _∙_}
 use borrow.Author.Tests.{not-true, not-false}

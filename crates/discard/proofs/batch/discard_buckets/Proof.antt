@@ -1,4 +1,4 @@
--- `batch::discard_buckets` meets its contract. Assumes nothing.
+-- `batch::discard_buckets` meets its contract.
 use denote.Ref.{now}
 use Rattle.wire.proofs.EmitLaws.{emitted, and-then}
 use Rattle.discard.proofs.EmitLaws.{batch-is}

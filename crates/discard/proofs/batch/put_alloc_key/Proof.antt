@@ -1,4 +1,4 @@
--- `batch::put_alloc_key` meets its contract. Assumes nothing.
+-- `batch::put_alloc_key` meets its contract.
 use native.Mathlib.Omega.{arith}
 use denote.Ref.{now}
 use Prim.Native.Nat.{_≤_}

@@ -1,4 +1,4 @@
--- `batch::put_alloc_keys` meets its contract. The invariant: what is left are the keys from index i on. Assumes nothing.
+-- `batch::put_alloc_keys` meets its contract. The invariant: what is left are the keys from index i on.
 use native.Mathlib.Omega.{arith}
 use Prim.Native.Nat.{_-_}
 use lib.ListN.{length, drop}

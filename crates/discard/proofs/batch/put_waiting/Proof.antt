@@ -1,4 +1,4 @@
--- `batch::put_waiting` meets its contract. Assumes nothing.
+-- `batch::put_waiting` meets its contract.
 use native.Mathlib.Omega.{arith}
 use denote.Ref.{now}
 use Rattle.wire.proofs.EmitLaws.{emitted, nothing}

@@ -1,4 +1,4 @@
--- `changes::discard_freed` meets its contract. The invariant: what is left are the batches from place a on. Assumes nothing.
+-- `changes::discard_freed` meets its contract. The invariant: what is left are the batches from place a on.
 use native.Mathlib.Omega.{arith}
 use denote.Ref.{now}
 use Prim.Native.Nat.{_≤_, _-_}

@@ -1,4 +1,4 @@
--- `changes::discard_into` meets its contract. Assumes nothing.
+-- `changes::discard_into` meets its contract.
 use mathlib.Core.Path.{sym}
 use lib.Seq.{length-take-le}
 use native.Mathlib.Omega.{arith}

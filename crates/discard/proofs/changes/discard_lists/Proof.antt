@@ -1,4 +1,4 @@
--- `changes::discard_lists` meets its contract. Assumes nothing.
+-- `changes::discard_lists` meets its contract.
 use native.Mathlib.Omega.{arith}
 use Rattle.need_discard.proofs.TableLaws.{unfilled}
 use Rattle.discard.proofs.OutcomeLaws.{ready-found}

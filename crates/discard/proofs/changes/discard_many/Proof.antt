@@ -1,4 +1,4 @@
--- `changes::discard_many` meets its contract. Assumes nothing.
+-- `changes::discard_many` meets its contract.
 use mathlib.Core.Path.{refl, sym}
 use Rattle.discard.proofs.OutcomeLaws.{ready-found}
 use borrow.Author.Needs.{needs}

@@ -1,4 +1,4 @@
--- `changes::discard_tabled` meets its contract. Assumes nothing.
+-- `changes::discard_tabled` meets its contract.
 use Rattle.discard.proofs.OutcomeLaws.{ready-found}
 use borrow.Author.Needs.{needs}
 use Rattle.discard.proofs.changes.discard_tabled.Statement.{statement}

@@ -1,11 +1,11 @@
--- `changes::write_changes` meets its contract. Assumes nothing.
+-- `changes::write_changes` meets its contract.
 use native.Mathlib.Omega.{arith}
 use denote.Ref.{now}
 use Rattle.wire.proofs.DryRun.{short, fits, wet}
 use Rattle.discard.specs.Emitted.{changesFrom}
 use mathlib.Core.Path.{refl}
 use lib.ListN.{length}
-use Rattle.calls.proofs.OutcomeLaws.{answer-short, answer-fits, refused, accepted}
+use Rattle.calls.proofs.answers.OutcomeLaws.{answer-short, answer-fits, refused, accepted}
 use borrow.Author.Needs.{needs}
 use Rattle.discard.proofs.changes.write_changes.Statement.{statement}
 use Rattle.discard.proofs.changes.write_changes.Tie as tie

@@ -1,4 +1,4 @@
--- `discard::discard` meets its contract: a list of at most 3,072 bytes has at most 1,024 fields. Assumes nothing.
+-- `discard::discard` meets its contract: a list of at most 3,072 bytes has at most 1,024 fields.
 use native.Mathlib.Omega.{arith}
 use mathlib.Core.Logic.{inl, inr}
 use borrow.Author.Needs.{needs}

@@ -1,8 +1,8 @@
--- `discard::discard_by` meets its contract. Assumes nothing.
+-- `discard::discard_by` meets its contract.
 use mathlib.Core.Path.{refl}
 use denote.Ref.{now}
 use lib.ListN.{length}
-use Rattle.calls.proofs.OutcomeLaws.{refused}
+use Rattle.calls.proofs.answers.OutcomeLaws.{refused}
 use Rattle.discard.proofs.OutcomeLaws.{discard-refused}
 use borrow.Author.Needs.{needs}
 use Rattle.discard.proofs.discard.discard_by.Statement.{statement}

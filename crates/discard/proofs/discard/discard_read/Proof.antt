@@ -1,4 +1,4 @@
--- `discard::discard_read` meets its contract. Assumes nothing.
+-- `discard::discard_read` meets its contract.
 use mathlib.Core.Path.{_≡_, refl, sym, ap, _∙_}
 use native.Mathlib.Omega.{arith}
 use denote.Ref.{now}
@@ -6,7 +6,7 @@ use lib.ListN.{length}
 use lib.Seq.{length-take-le}
 use Rattle.calls.specs.CallList as calls
 use Rattle.calls.specs.Answers.{Answer, outcome}
-use Rattle.calls.proofs.OutcomeLaws.{refused}
+use Rattle.calls.proofs.answers.OutcomeLaws.{refused}
 use Rattle.reader.specs.declared.table.Ends.{Ends}
 use Rattle.reader.proofs.PartsLaws.{Part, alloc-part, need-discard-part}
 use Rattle.discard.proofs.OutcomeLaws.{read-ready, discard-unbatched, discard-after}

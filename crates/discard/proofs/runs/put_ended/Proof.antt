@@ -1,4 +1,4 @@
--- `runs::put_ended` meets its contract. Assumes nothing.
+-- `runs::put_ended` meets its contract.
 use native.Mathlib.Omega.{arith}
 use Rattle.wire.proofs.EmitLaws.{emitted, nothing}
 use Rattle.discard.proofs.RunLaws.{joined-run, ended-run}

@@ -1,4 +1,4 @@
--- `runs::put_runs` meets its contract. The invariant: the runs of the buckets passed are written but for the last. Assumes nothing.
+-- `runs::put_runs` meets its contract. The invariant: the runs of the buckets passed are written but for the last.
 use native.Mathlib.Omega.{arith}
 use mathlib.Core.Path.{_∙_}
 use denote.Ref.{now}

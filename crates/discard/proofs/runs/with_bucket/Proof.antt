@@ -1,4 +1,4 @@
--- `runs::with_bucket` meets its contract. Assumes nothing.
+-- `runs::with_bucket` meets its contract.
 use mathlib.Core.Path.{sym, _∙_}
 use native.Mathlib.Omega.{arith}
 use borrow.Author.Tests.{ltb-true}

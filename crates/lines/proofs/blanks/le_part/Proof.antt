@@ -1,4 +1,4 @@
--- `blanks::le_part` meets its contract. The loop's invariant: the bytes from index i on are read. Assumes nothing.
+-- `blanks::le_part` meets its contract. The loop's invariant: the bytes from index i on are read.
 use native.Mathlib.Omega.{arith}
 use Rattle.lines.proofs.WordLaws.{Lowered, lower-none, lower-fits, lower-more, lowered}
 use Rattle.lines.proofs.blanks.le_part.Statement.{statement}

@@ -1,4 +1,4 @@
--- `blanks::put_next_decimal` meets its contract. Assumes nothing.
+-- `blanks::put_next_decimal` meets its contract.
 use borrow.Author.Needs.{needs}
 use mathlib.Core.Path.{refl}
 use Rattle.wire.proofs.OutputLaws.{then}

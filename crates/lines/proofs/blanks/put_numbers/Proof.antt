@@ -1,4 +1,4 @@
--- `blanks::put_numbers` meets its contract. The loop's invariant: what is left are the numbers from the next place on. Assumes nothing.
+-- `blanks::put_numbers` meets its contract. The loop's invariant: what is left are the numbers from the next place on.
 use native.Mathlib.Omega.{arith}
 use Prim.Native.Nat.{_+_, _*_, _≤_}
 use lib.ListN.{length, drop}

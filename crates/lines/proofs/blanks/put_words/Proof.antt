@@ -1,4 +1,4 @@
--- `blanks::put_words` meets its contract. The loop's invariant: what is left are the words from index i on. Assumes nothing.
+-- `blanks::put_words` meets its contract. The loop's invariant: what is left are the words from index i on.
 use native.Mathlib.Omega.{arith}
 use native.Mathlib.Nat.{sub-zero}
 use Prim.Native.Nat.{_+_, _-_, _/_}

@@ -1,4 +1,4 @@
--- `blanks::word_at` meets its contract. Assumes nothing.
+-- `blanks::word_at` meets its contract.
 use borrow.Author.Needs.{needs}
 use native.Mathlib.Omega.{arith}
 use mathlib.Core.Path.{sym, _∙_}

@@ -1,4 +1,4 @@
--- `change_lines::put_line` meets its contract. Assumes nothing.
+-- `change_lines::put_line` meets its contract.
 use borrow.Author.Needs.{needs}
 use native.Mathlib.Omega.{arith}
 use Prim.Native.Nat.{_≤_}

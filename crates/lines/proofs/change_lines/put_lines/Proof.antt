@@ -1,4 +1,4 @@
--- `change_lines::put_lines` meets its contract. The loop's invariant: what is left are the lines of the fields from the next place on. Assumes nothing.
+-- `change_lines::put_lines` meets its contract. The loop's invariant: what is left are the lines of the fields from the next place on.
 use native.Mathlib.Omega.{arith}
 use Prim.Native.Nat.{_+_, _-_, _≤_}
 use mathlib.Core.Path.{_≡_, sym, _∙_}
@@ -12,7 +12,7 @@ use Rattle.wire.specs.Fields.{Field, fields, fieldAt}
 use Rattle.wire.proofs.FieldLaws.{FieldAt, field-at, stop-at}
 use Rattle.wire.proofs.OutputLaws.{Part, begin, turn, part-length, each-next, each-none}
 use Rattle.wire.proofs.EmitLaws.{done}
-use Rattle.calls.proofs.AllLaws.{first, all-tail}
+use Rattle.calls.proofs.lists.AllLaws.{first, all-tail}
 use Rattle.reader.specs.Bodies.{changeFieldOk}
 use Rattle.lines.specs.Lines.{line, fieldWords, changeLines}
 use Rattle.lines.proofs.LineLaws.{fields-ok}

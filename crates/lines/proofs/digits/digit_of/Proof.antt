@@ -1,4 +1,4 @@
--- `digits::digit_of` meets its contract. Assumes nothing.
+-- `digits::digit_of` meets its contract.
 use borrow.Author.Needs.{needs}
 use Rattle.lines.proofs.DigitLaws.{digit-low, digit-high}
 use Rattle.lines.proofs.digits.digit_of.Statement.{statement}

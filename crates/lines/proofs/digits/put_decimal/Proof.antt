@@ -1,4 +1,4 @@
--- `digits::put_decimal` meets its contract. Assumes nothing.
+-- `digits::put_decimal` meets its contract.
 use borrow.Author.Needs.{needs}
 use native.Mathlib.Omega.{arith}
 use Prim.Native.Nat.{ℕ}

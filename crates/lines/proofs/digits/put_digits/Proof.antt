@@ -1,4 +1,4 @@
--- `digits::put_digits` meets its contract. The loop's invariant: the last digits are stored, and the rest has the others. Assumes nothing.
+-- `digits::put_digits` meets its contract. The loop's invariant: the last digits are stored, and the rest has the others.
 use native.Mathlib.Omega.{arith}
 use Prim.Native.Nat.{_+_, _≤_}
 use native.Mathlib.Nat.{mod-lt}

@@ -1,4 +1,4 @@
--- `digits::put_hexadecimal` meets its contract. Assumes nothing.
+-- `digits::put_hexadecimal` meets its contract.
 use borrow.Author.Needs.{needs}
 use Rattle.lines.specs.Digits.{hexadecimal}
 use Rattle.lines.proofs.digits.put_hexadecimal.Statement.{statement}

@@ -1,4 +1,4 @@
--- `digits::put_signed` meets its contract. Assumes nothing.
+-- `digits::put_signed` meets its contract.
 use borrow.Author.Needs.{needs}
 use native.Mathlib.Omega.{arith}
 use Rattle.wire.proofs.OutputLaws.{then}

@@ -1,4 +1,4 @@
--- `digits::width_of` meets its contract. The loop's invariant: so many digits are counted, and the rest has the others. Assumes nothing.
+-- `digits::width_of` meets its contract. The loop's invariant: so many digits are counted, and the rest has the others.
 use native.Mathlib.Omega.{arith}
 use Rattle.lines.proofs.DigitLaws.{Counted, count-none, count-more, counted}
 use Rattle.lines.proofs.digits.width_of.Statement.{statement}

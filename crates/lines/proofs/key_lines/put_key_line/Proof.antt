@@ -1,4 +1,4 @@
--- `key_lines::put_key_line` meets its contract. Assumes nothing.
+-- `key_lines::put_key_line` meets its contract.
 use borrow.Author.Needs.{needs}
 use native.Mathlib.Omega.{arith}
 use Rattle.wire.proofs.OutputLaws.{then}
@@ -76,9 +76,7 @@ put-key-line-spec =
     tie.close
     (tie.spec
     type-at-requires
-   
     size-at-requires
-   
     pos-at-requires
     put-decimal-requires
     cast-put-next-decimal

@@ -1,4 +1,4 @@
--- `other_lines::put_refused` meets its contract. Assumes nothing.
+-- `other_lines::put_refused` meets its contract.
 use borrow.Author.Needs.{needs}
 use Rattle.lines.specs.Lines.{refusedLine}
 use Rattle.lines.proofs.other_lines.put_refused.Statement.{statement}

@@ -1,4 +1,4 @@
--- `other_lines::put_row` meets its contract. Assumes nothing.
+-- `other_lines::put_row` meets its contract.
 use borrow.Author.Needs.{needs}
 use Rattle.wire.proofs.OutputLaws.{then}
 use Rattle.wire.proofs.EmitLaws.{emitted}

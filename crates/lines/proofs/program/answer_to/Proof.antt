@@ -1,4 +1,4 @@
--- `program::answer_to` meets its contract. Assumes nothing.
+-- `program::answer_to` meets its contract.
 use mathlib.Core.Path.{_≡_, refl, sym, _∙_}
 use native.Mathlib.Omega.{arith}
 use denote.Ref.{now}

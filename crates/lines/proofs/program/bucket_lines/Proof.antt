@@ -1,4 +1,4 @@
--- `program::bucket_lines` meets its contract. Assumes nothing.
+-- `program::bucket_lines` meets its contract.
 use mathlib.Core.Path.{_≡_, sym, ap, _∙_}
 use native.Mathlib.Omega.{arith}
 use denote.Ref.{now}

@@ -1,4 +1,4 @@
--- `program::put_answer` meets its contract. Assumes nothing.
+-- `program::put_answer` meets its contract.
 use mathlib.Core.Path.{_≡_, sym, ap, _∙_}
 use native.Mathlib.Omega.{arith}
 use denote.Ref.{now}

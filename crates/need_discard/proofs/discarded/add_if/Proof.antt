@@ -1,4 +1,4 @@
--- `discarded::add_if` meets its contract. Assumes nothing.
+-- `discarded::add_if` meets its contract.
 use native.Mathlib.Omega.{arith}
 use denote.Ref.{now}
 use Rattle.need_discard.proofs.ChosenLaws.{put-chosen, put-other}

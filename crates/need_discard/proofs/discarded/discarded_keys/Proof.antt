@@ -1,4 +1,4 @@
--- `discarded::discarded_keys` meets its contract. The invariant: what is chosen of the keys passed stands in front. Assumes nothing.
+-- `discarded::discarded_keys` meets its contract. The invariant: what is chosen of the keys passed stands in front.
 use mathlib.Core.Path.{_≡_, refl, _∙_}
 use native.Mathlib.Omega.{arith}
 use denote.Ref.{now}

@@ -1,4 +1,4 @@
--- `discarded::gen_taken` meets its contract. Assumes nothing.
+-- `discarded::gen_taken` meets its contract.
 use Rattle.need_discard.proofs.ChosenLaws.{taken-is}
 use borrow.Author.Needs.{needs}
 use Rattle.need_discard.proofs.discarded.gen_taken.Statement.{statement}

@@ -1,4 +1,4 @@
--- `discarded::is_discarded` meets its contract: each test in turn. Assumes nothing.
+-- `discarded::is_discarded` meets its contract: each test in turn.
 use mathlib.Core.Path.{sym, ap, _∙_}
 use native.Mathlib.Omega.{arith}
 use denote.Ref.{now}

@@ -1,4 +1,4 @@
--- `discarded::is_waiting` meets its contract. Assumes nothing.
+-- `discarded::is_waiting` meets its contract.
 use denote.Ref.{now}
 use Rattle.calls.specs.Discard.{waitingKey}
 use Rattle.reader.specs.KeyHere.{keysHere}

@@ -1,4 +1,4 @@
--- `waiting::entry_of` meets its contract. Assumes nothing.
+-- `waiting::entry_of` meets its contract.
 use native.Mathlib.Omega.{arith}
 use borrow.Author.Tests.{ltb-true}
 use borrow.Author.Needs.{needs}

@@ -1,4 +1,4 @@
--- `waiting::names_bucket` meets its contract. Assumes nothing.
+-- `waiting::names_bucket` meets its contract.
 use denote.Ref.{now}
 use Rattle.need_discard.proofs.TableLaws.{names-this, names-other}
 use borrow.Author.Needs.{needs}

@@ -1,4 +1,4 @@
--- `waiting::note` meets its contract. Assumes nothing.
+-- `waiting::note` meets its contract.
 use mathlib.Core.Path.{_≡_, sym, _∙_}
 use native.Mathlib.Omega.{arith}
 use denote.Ref.{now}

@@ -1,4 +1,4 @@
--- `waiting::note_waiting` meets its contract. The invariant: the table is right for the keys passed. Assumes nothing.
+-- `waiting::note_waiting` meets its contract. The invariant: the table is right for the keys passed.
 use mathlib.Core.Path.{_≡_, ap, _∙_}
 use lib.ListN.{length, take, length-replicate}
 use native.Mathlib.Omega.{arith}

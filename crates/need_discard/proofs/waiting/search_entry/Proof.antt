@@ -1,4 +1,4 @@
--- `waiting::search_entry` meets its contract. The invariant: the entry is right for the keys passed. Assumes nothing.
+-- `waiting::search_entry` meets its contract. The invariant: the entry is right for the keys passed.
 use mathlib.Core.Logic.{⊎-elim}
 use native.Mathlib.Omega.{arith}
 use denote.Ref.{now}

@@ -1,4 +1,4 @@
--- `waiting::waiting_at` meets its contract. Assumes nothing.
+-- `waiting::waiting_at` meets its contract.
 use native.Mathlib.Omega.{arith}
 use Prim.Native.Nat.{_-_}
 use Rattle.need_discard.proofs.KeptLaws.{all-at}

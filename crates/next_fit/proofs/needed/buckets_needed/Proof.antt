@@ -1,4 +1,4 @@
--- `needed::buckets_needed` meets its contract. Assumes nothing.
+-- `needed::buckets_needed` meets its contract.
 use mathlib.Core.Path.{sym, ap, _∙_}
 use native.Mathlib.Omega.{arith}
 use Prim.Native.Nat.{_+_}

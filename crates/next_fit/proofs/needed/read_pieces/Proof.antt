@@ -1,4 +1,4 @@
--- `needed::read_pieces` meets its contract. The invariant is `Filled`. Assumes nothing.
+-- `needed::read_pieces` meets its contract. The invariant is `Filled`.
 use mathlib.Core.Path.{refl, _∙_}
 use native.Mathlib.Omega.{arith}
 use Prim.Native.Nat.{_-_}

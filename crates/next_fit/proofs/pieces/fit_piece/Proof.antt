@@ -1,4 +1,4 @@
--- `pieces::fit_piece` meets its contract. Assumes nothing.
+-- `pieces::fit_piece` meets its contract.
 use native.Mathlib.Omega.{arith}
 use Rattle.next_fit.specs.Fit.{slotIn}
 use Rattle.next_fit.proofs.NextFitLaws.{fit-offset}

@@ -1,6 +1,5 @@
 -- `pieces::layout` meets its contract: a walk of its MIR, by hand, with a loop. A turn copies one record out of the slice and calls `fit_piece`; all that the proof knows of `fit_piece` is that it meets its contract.
 -- The borrow is looked into and shut in each turn. A turn's invariant `At t` stands over a record t of plain facts (`Turn`), and what is left of the slice falls.
--- Assumes nothing.
 use mathlib.Core.Path.{_≡_, refl, sym, _∙_, ap, subst}
 use Prim.Native.Nat.{ℕ, _+_, _-_, _*_, _≤_, _<_, _^_}
 use native.Mathlib.Numerals.{add-one-dec}

@@ -1,6 +1,5 @@
 -- `pieces::layout_of` meets its contract: a walk of its MIR, by hand. The array, passed by value, is copied into a slot of memory, its first n elements are lent as a `&[Piece]` for a lifetime that is made for the call of `layout`, and taken back.
 -- All that the proof knows of `layout` is that it meets its contract. No parameter is needed at exit: each has `stay-dropped`.
--- Assumes nothing.
 use mathlib.Core.Path.{_≡_, refl, sym, _∙_, subst}
 use native.Mathlib.Nat.{zero-add}
 use Prim.Native.Nat.{ℕ, _*_, _≤_, _<_, _^_}

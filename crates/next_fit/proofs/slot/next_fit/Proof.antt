@@ -1,4 +1,4 @@
--- `next_fit::next_fit` meets its contract. Assumes nothing.
+-- `next_fit::next_fit` meets its contract.
 use native.Mathlib.Omega.{arith}
 use Rattle.next_fit.proofs.NextFitLaws.{fits, exceeds}
 use borrow.Author.Needs.{needs}

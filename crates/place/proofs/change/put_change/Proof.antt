@@ -1,4 +1,4 @@
--- `change::put_change` meets its contract. Assumes nothing.
+-- `change::put_change` meets its contract.
 use mathlib.Core.Path.{sym}
 use Rattle.wire.proofs.EmitLaws.{emitted, and-then}
 use Rattle.place.proofs.ChangeLaws.{change-split}

@@ -1,4 +1,4 @@
--- `change::put_keys` meets its contract. Assumes nothing.
+-- `change::put_keys` meets its contract.
 use native.Mathlib.Omega.{arith}
 use mathlib.Core.Path.{sym, ap}
 use mathlib.Core.List.{List}

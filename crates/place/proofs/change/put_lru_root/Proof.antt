@@ -1,4 +1,4 @@
--- `change::put_lru_root` meets its contract. Assumes nothing.
+-- `change::put_lru_root` meets its contract.
 use native.Mathlib.Omega.{arith}
 use Rattle.calls.specs.ChangeList.{rootField}
 use Rattle.wire.proofs.EmitLaws.{emitted, nothing}

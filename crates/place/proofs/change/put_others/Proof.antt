@@ -1,4 +1,4 @@
--- `change::put_others` meets its contract. Assumes nothing.
+-- `change::put_others` meets its contract.
 use native.Mathlib.Omega.{arith}
 use mathlib.Core.Path.{_≡_, sym, ap, _∙_}
 use mathlib.Core.List.{List, map}

@@ -1,4 +1,4 @@
--- `change::put_sectors` meets its contract. Assumes nothing.
+-- `change::put_sectors` meets its contract.
 use mathlib.Core.Path.{refl}
 use Rattle.wire.proofs.OutputLaws.{field}
 use Rattle.wire.proofs.EmitLaws.{emitted}

@@ -1,4 +1,4 @@
--- `change::put_taken` meets its contract. The invariant: what is left are the buckets from index i on. Assumes nothing.
+-- `change::put_taken` meets its contract. The invariant: what is left are the buckets from index i on.
 use native.Mathlib.Omega.{arith}
 use mathlib.Core.List.{map}
 use Prim.Native.Nat.{_-_}

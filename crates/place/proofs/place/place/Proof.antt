@@ -1,4 +1,4 @@
--- `place::place` meets its contract: a list of at most 3,072 bytes has at most 1,024 fields. Assumes nothing.
+-- `place::place` meets its contract: a list of at most 3,072 bytes has at most 1,024 fields.
 use native.Mathlib.Omega.{arith}
 use mathlib.Core.Path.{refl}
 use mathlib.Core.Logic.{inl, inr}

@@ -1,4 +1,4 @@
--- `place::place_buckets` meets its contract. Assumes nothing.
+-- `place::place_buckets` meets its contract.
 use mathlib.Core.Path.{refl, sym, subst}
 use mathlib.Core.List.{List}
 use Prim.Native.Nat.{ℕ, _≤_}

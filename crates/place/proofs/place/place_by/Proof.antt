@@ -1,7 +1,7 @@
--- `place::place_by` meets its contract. Assumes nothing.
+-- `place::place_by` meets its contract.
 use denote.Ref.{now}
 use lib.ListN.{length}
-use Rattle.calls.proofs.OutcomeLaws.{refused}
+use Rattle.calls.proofs.answers.OutcomeLaws.{refused}
 use Rattle.place.proofs.ReadLaws.{place-refused}
 use borrow.Author.Needs.{needs}
 use Rattle.place.proofs.place.place_by.Statement.{statement}

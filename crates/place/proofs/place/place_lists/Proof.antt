@@ -1,4 +1,4 @@
--- `place::place_lists` meets its contract. Assumes nothing.
+-- `place::place_lists` meets its contract.
 use native.Mathlib.Omega.{arith}
 use mathlib.Core.Path.{sym, ap, _∙_}
 use mathlib.Core.List.{List}
@@ -7,7 +7,7 @@ use lib.ListN.{length}
 use lib.Seq.{length-take-le}
 use Rattle.calls.specs.Answers.{Answer, outcome, readCall}
 use Rattle.calls.specs.Place.{placeTests}
-use Rattle.calls.proofs.OutcomeLaws.{refused}
+use Rattle.calls.proofs.answers.OutcomeLaws.{refused}
 use Rattle.place.proofs.CallLaws.{answer-past, answer-refused}
 use Rattle.place.proofs.ChosenLaws.{Choice, chosen}
 use borrow.Author.Needs.{needs}

@@ -1,4 +1,4 @@
--- `place::place_read` meets its contract. Assumes nothing.
+-- `place::place_read` meets its contract.
 use native.Mathlib.Omega.{arith}
 use mathlib.Core.Path.{sym}
 use denote.Ref.{now}

@@ -1,7 +1,7 @@
--- `place::write_change` meets its contract. Assumes nothing.
+-- `place::write_change` meets its contract.
 use native.Mathlib.Omega.{arith}
 use Rattle.wire.proofs.DryRun.{short, fits, wet}
-use Rattle.calls.proofs.OutcomeLaws.{answer-short, answer-fits, refused, accepted}
+use Rattle.calls.proofs.answers.OutcomeLaws.{answer-short, answer-fits, refused, accepted}
 use borrow.Author.Needs.{needs}
 use Rattle.place.proofs.place.write_change.Statement.{statement}
 use Rattle.place.proofs.place.write_change.Tie as tie

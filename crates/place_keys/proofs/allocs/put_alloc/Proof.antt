@@ -1,4 +1,4 @@
--- `allocs::put_alloc` meets its contract. Assumes nothing.
+-- `allocs::put_alloc` meets its contract.
 use Rattle.format.proofs.WordLaws.{all-eight}
 use Rattle.wire.proofs.EmitLaws.{emitted}
 use borrow.Author.Needs.{needs}

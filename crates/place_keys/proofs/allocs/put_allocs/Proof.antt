@@ -1,4 +1,4 @@
--- `allocs::put_allocs` meets its contract. The invariant: what is left are the keys from index i on. Assumes nothing.
+-- `allocs::put_allocs` meets its contract. The invariant: what is left are the keys from index i on.
 use native.Mathlib.Omega.{arith}
 use mathlib.Core.Path.{_≡_, refl, ap, _∙_}
 use mathlib.Core.List.{List, map}

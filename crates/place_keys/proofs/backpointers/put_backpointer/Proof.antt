@@ -1,4 +1,4 @@
--- `backpointers::put_backpointer` meets its contract. Assumes nothing.
+-- `backpointers::put_backpointer` meets its contract.
 use Rattle.calls.specs.Extents.{backpointerKey}
 use Rattle.wire.proofs.EmitLaws.{emitted}
 use borrow.Author.Needs.{needs}

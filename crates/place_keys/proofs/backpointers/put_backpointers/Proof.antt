@@ -1,4 +1,4 @@
--- `backpointers::put_backpointers` meets its contract. The invariant is `Placing`. Assumes nothing.
+-- `backpointers::put_backpointers` meets its contract. The invariant is `Placing`.
 use native.Mathlib.Omega.{arith}
 use Prim.Native.Nat.{_-_}
 use lib.ListN.{length}

@@ -1,4 +1,4 @@
--- `dirty::fill_dirty` meets its contract. The invariant is `Counting`. Assumes nothing.
+-- `dirty::fill_dirty` meets its contract. The invariant is `Counting`.
 use native.Mathlib.Omega.{arith}
 use mathlib.Core.Path.{_≡_, refl}
 use Prim.Native.Nat.{_-_, _<_}

@@ -1,4 +1,4 @@
--- `extents::put_extent` meets its contract. Assumes nothing.
+-- `extents::put_extent` meets its contract.
 use mathlib.Core.Path.{_≡_}
 use lib.ListN.{take}
 use Rattle.calls.specs.Extents.{extentKey}

@@ -1,4 +1,4 @@
--- `extents::put_extents` meets its contract. The invariant is `Placing`. Assumes nothing.
+-- `extents::put_extents` meets its contract. The invariant is `Placing`.
 use native.Mathlib.Omega.{arith}
 use Prim.Native.Nat.{_-_}
 use lib.ListN.{length}

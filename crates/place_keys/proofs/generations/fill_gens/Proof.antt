@@ -1,4 +1,4 @@
--- `generations::fill_gens` meets its contract. The invariant: those of the first i buckets are filled in. Assumes nothing.
+-- `generations::fill_gens` meets its contract. The invariant: those of the first i buckets are filled in.
 use native.Mathlib.Omega.{arith}
 use mathlib.Core.Path.{_≡_, refl, ap, _∙_}
 use Prim.Native.Nat.{_-_, _≤_}

@@ -1,4 +1,4 @@
--- `lru::put_lrus` meets its contract. The invariant: what is left are the keys from index i on. Assumes nothing.
+-- `lru::put_lrus` meets its contract. The invariant: what is left are the keys from index i on.
 use native.Mathlib.Omega.{arith}
 use mathlib.Core.Path.{sym, _≡_, refl, ap, _∙_}
 use mathlib.Core.List.{List, flatMap}

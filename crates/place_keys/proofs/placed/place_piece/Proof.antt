@@ -1,4 +1,4 @@
--- `placed::place_piece` meets its contract. Assumes nothing.
+-- `placed::place_piece` meets its contract.
 use native.Mathlib.Omega.{arith}
 use mathlib.Core.Path.{_≡_, ap, _∙_}
 use Prim.Native.Nat.{_+_, _<_}

@@ -1,4 +1,4 @@
--- `queue::put_passed` meets its contract. Assumes nothing.
+-- `queue::put_passed` meets its contract.
 use native.Mathlib.Omega.{arith}
 use mathlib.Core.Path.{ap, sym, _∙_}
 use Rattle.wire.specs.Encode.{keyField}

@@ -1,4 +1,4 @@
--- `queue::put_queue` meets its contract. The invariant: what is left are the keys from index i on. Assumes nothing.
+-- `queue::put_queue` meets its contract. The invariant: what is left are the keys from index i on.
 use native.Mathlib.Omega.{arith}
 use mathlib.Core.Path.{_≡_, refl, ap, sym, _∙_}
 use mathlib.Core.List.{[], append-nil}

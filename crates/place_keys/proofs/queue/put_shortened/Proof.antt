@@ -1,4 +1,4 @@
--- `queue::put_shortened` meets its contract. Assumes nothing.
+-- `queue::put_shortened` meets its contract.
 use native.Mathlib.Omega.{arith}
 use mathlib.Core.Path.{ap}
 use Rattle.wire.specs.Keys.{Key}

@@ -1,4 +1,4 @@
--- `spots::put_spot` meets its contract. Assumes nothing.
+-- `spots::put_spot` meets its contract.
 use mathlib.Core.Path.{refl}
 use Rattle.wire.proofs.OutputLaws.{then, field}
 use Rattle.calls.specs.ChangeList.{spotBody}

@@ -1,4 +1,4 @@
--- `spots::put_spots` meets its contract. The invariant is `Placing`. Assumes nothing.
+-- `spots::put_spots` meets its contract. The invariant is `Placing`.
 use native.Mathlib.Omega.{arith}
 use Prim.Native.Nat.{_-_}
 use lib.ListN.{length}

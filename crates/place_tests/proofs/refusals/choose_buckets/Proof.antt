@@ -1,4 +1,4 @@
--- `choose_buckets` meets its contract. Assumes nothing.
+-- `choose_buckets` meets its contract.
 use native.Mathlib.Omega.{arith}
 use mathlib.Core.Path.{_≡_, sym, _∙_}
 use mathlib.Core.Bool.{false}

@@ -1,4 +1,4 @@
--- `enough_free` meets its contract. Assumes nothing.
+-- `enough_free` meets its contract.
 use mathlib.Core.Path.{ap}
 use Prim.Native.Nat.{ℕ, _+_}
 use lib.Dec.{leb}

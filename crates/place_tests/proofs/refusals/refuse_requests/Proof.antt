@@ -1,4 +1,4 @@
--- `refuse_requests` meets its contract: each test passed leaves the tests from the next one on. Assumes nothing.
+-- `refuse_requests` meets its contract: each test passed leaves the tests from the next one on.
 use mathlib.Core.Path.{_≡_, sym, ap, _∙_}
 use mathlib.Core.Bool.{not, _&&_}
 use mathlib.Core.List.{[]}

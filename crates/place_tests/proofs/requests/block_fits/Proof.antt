@@ -1,4 +1,4 @@
--- `block_fits` meets its contract. Assumes nothing.
+-- `block_fits` meets its contract.
 use mathlib.Core.Path.{sym, ap, _∙_}
 use mathlib.Core.Bool.{Bool, _&&_}
 use Rattle.calls.specs.Pieces.{divides}

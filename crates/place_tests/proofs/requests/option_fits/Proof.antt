@@ -1,4 +1,4 @@
--- `option_fits` meets its contract. Assumes nothing.
+-- `option_fits` meets its contract.
 use borrow.Author.Tests.{eq-eqb, ne-eqb}
 use borrow.Author.Needs.{needs}
 use Rattle.place_tests.proofs.requests.option_fits.Statement.{statement}

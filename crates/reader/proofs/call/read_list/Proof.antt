@@ -45,8 +45,8 @@ loop-holds : tie.Need-loop-holds Inv-loop μ-loop
 loop-holds c =
     let e = place (c .before .before) in (
       rw e
-      (going-start _ _ _ _ _ (first (c .before .before)) (c .before .before .before .before .before .before .pre)
-      (c .head-within .ensures ∙ ap headWithin (rw e at (c .before .read-head .ensures)))),
+          (going-start _ _ _ _ _ (first (c .before .before)) (c .before .before .before .before .before .before .pre)
+          (c .head-within .ensures ∙ ap headWithin (rw e at (c .before .read-head .ensures)))),
       refl,
     )
 

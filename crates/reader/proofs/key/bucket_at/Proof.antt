@@ -1,4 +1,4 @@
--- `key::bucket_at` meets its contract. Assumes nothing.
+-- `key::bucket_at` meets its contract.
 use mathlib.Core.Path.{ap, _∙_}
 use Rattle.wire.specs.Positions.{bucketIn}
 use borrow.Author.Needs.{needs}

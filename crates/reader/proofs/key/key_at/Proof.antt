@@ -1,4 +1,4 @@
--- `key::key_at` meets its contract. Assumes nothing.
+-- `key::key_at` meets its contract.
 use mathlib.Core.Path.{ap, _∙_}
 use Prim.Native.Nat.{ℕ}
 use lib.ListN.{take, drop}

@@ -46,9 +46,7 @@ returns-3 c =
 
 pub ascends-spec : {M : Type 1} → statement M
 ascends-spec = tie.close (tie.spec
-   
     pos-at-requires
-   
     pos-at-requires-2
     pos-less-requires
     returns

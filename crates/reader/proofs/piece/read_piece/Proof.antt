@@ -1,4 +1,4 @@
--- `piece::read_piece` meets its contract. Assumes nothing.
+-- `piece::read_piece` meets its contract.
 use Rattle.reader.proofs.PieceLaws.{piece-at}
 use borrow.Author.Needs.{needs}
 use Rattle.reader.proofs.piece.read_piece.Statement.{statement}

@@ -1,4 +1,4 @@
--- `lists::change_length` meets its contract. Assumes nothing.
+-- `lists::change_length` meets its contract.
 use native.Mathlib.Omega.{arith}
 use borrow.Author.Needs.{needs}
 use Rattle.release.proofs.lists.change_length.Statement.{statement}

@@ -1,4 +1,4 @@
--- `lists::free_and_cut` meets its contract. Assumes nothing.
+-- `lists::free_and_cut` meets its contract.
 use native.Mathlib.Omega.{arith}
 use mathlib.Core.Path.{sym, ap, _∙_}
 use mathlib.Core.List.{map, flatMap}

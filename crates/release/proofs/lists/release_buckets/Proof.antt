@@ -1,4 +1,4 @@
--- `lists::release_buckets` meets its contract. Assumes nothing.
+-- `lists::release_buckets` meets its contract.
 use native.Mathlib.Omega.{arith}
 use mathlib.Core.Path.{refl}
 use lib.ListN.{length, take}

@@ -1,11 +1,11 @@
--- `lists::release_lists` meets its contract. Assumes nothing.
+-- `lists::release_lists` meets its contract.
 use native.Mathlib.Omega.{arith}
 use mathlib.Core.Path.{refl, sym, _∙_}
 use Prim.Native.Nat.{_≤_}
 use lib.ListN.{length}
 use lib.Seq.{length-take-le}
 use borrow.Author.Tests.{not-true, not-false}
-use Rattle.calls.proofs.ReleaseFits.{named-few}
+use Rattle.calls.proofs.release.ReleaseFits.{named-few}
 use Rattle.reader.specs.KeyHere.{keysHere}
 use Rattle.reader.specs.Heads.{headIn}
 use Rattle.release_sums.specs.Freeds.{freedsIn}

@@ -1,4 +1,4 @@
--- `lists::release_tables` meets its contract. Assumes nothing.
+-- `lists::release_tables` meets its contract.
 use native.Mathlib.Omega.{arith}
 use mathlib.Core.Path.{_≡_, sym, ap}
 use Prim.Native.Nat.{_≤_}

@@ -1,10 +1,10 @@
--- `lists::sum_up` meets its contract. Assumes nothing.
+-- `lists::sum_up` meets its contract.
 use native.Mathlib.Omega.{arith}
 use mathlib.Core.Path.{ap, _∙_}
 use mathlib.Core.List.{List, _++_}
 use Prim.Native.Nat.{ℕ}
 use lib.ListN.{length, replicate}
-use Rattle.calls.proofs.ReleaseFits.{named-few}
+use Rattle.calls.proofs.release.ReleaseFits.{named-few}
 use Rattle.release_sums.specs.Freeds.{freedsIn}
 use Rattle.release_sums.proofs.FoundLaws.{found-freed}
 use Rattle.release.proofs.BatchLaws.{listed-freed}

@@ -1,4 +1,4 @@
--- `lists::write_change` meets its contract. Assumes nothing.
+-- `lists::write_change` meets its contract.
 use native.Mathlib.Omega.{arith}
 use mathlib.Core.Path.{sym, ap}
 use mathlib.Core.List.{[], _∷_}
@@ -8,7 +8,7 @@ use Rattle.wire.proofs.DryRun.{fits, wet}
 use Rattle.wire.proofs.EmitLaws.{emitted}
 use Rattle.calls.specs.ChangeList.{changeBytes}
 use Rattle.calls.specs.Release.{releaseBatch}
-use Rattle.calls.proofs.OutcomeLaws.{answer-short, answer-fits, refused, accepted}
+use Rattle.calls.proofs.answers.OutcomeLaws.{answer-short, answer-fits, refused, accepted}
 use Rattle.release_sums.specs.Freeds.{freedsIn}
 use Rattle.release.proofs.BatchLaws.{one-batch}
 use borrow.Author.Needs.{needs}

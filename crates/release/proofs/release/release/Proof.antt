@@ -1,4 +1,4 @@
--- `release::release` meets its contract. Assumes nothing.
+-- `release::release` meets its contract.
 use mathlib.Core.Path.{refl, ap, _∙_}
 use native.Mathlib.Omega.{arith}
 use Prim.Native.Nat.{ℕ, _≤_}

@@ -1,4 +1,4 @@
--- `release::release_by` meets its contract. Assumes nothing.
+-- `release::release_by` meets its contract.
 use mathlib.Core.Path.{sym, _∙_}
 use Rattle.release.proofs.ReadLaws.{read-outcome, scratch-long}
 use Rattle.release.proofs.TopLaws.{cleared-is}

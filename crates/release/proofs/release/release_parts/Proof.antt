@@ -1,4 +1,4 @@
--- `release::release_parts` meets its contract. Assumes nothing.
+-- `release::release_parts` meets its contract.
 use native.Mathlib.Omega.{arith}
 use mathlib.Core.Path.{sym, _∙_}
 use lib.Seq.{length-take-le}

@@ -1,4 +1,4 @@
--- `alloc_keys::free_part` meets its contract. Assumes nothing.
+-- `alloc_keys::free_part` meets its contract.
 use native.Mathlib.Omega.{arith}
 use mathlib.Core.Path.{ap, _∙_}
 use mathlib.Core.List.{List}

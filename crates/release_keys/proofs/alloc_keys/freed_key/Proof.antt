@@ -1,4 +1,4 @@
--- `alloc_keys::freed_key` meets its contract. Assumes nothing.
+-- `alloc_keys::freed_key` meets its contract.
 use native.Mathlib.Omega.{arith}
 use mathlib.Core.Path.{_≡_, ap, _∙_}
 use Prim.Native.Nat.{_-_, _≤_}

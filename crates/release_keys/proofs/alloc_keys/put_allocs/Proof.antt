@@ -1,4 +1,4 @@
--- `alloc_keys::put_allocs` meets its contract. Assumes nothing.
+-- `alloc_keys::put_allocs` meets its contract.
 use native.Mathlib.Omega.{arith}
 use mathlib.Core.Path.{_≡_, refl, ap, _∙_}
 use mathlib.Core.List.{List, map}

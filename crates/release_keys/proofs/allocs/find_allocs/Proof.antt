@@ -1,4 +1,4 @@
--- `allocs::find_allocs` meets its contract. Assumes nothing.
+-- `allocs::find_allocs` meets its contract.
 use native.Mathlib.Omega.{arith}
 use mathlib.Core.Path.{subst}
 use Prim.Native.Nat.{_-_}

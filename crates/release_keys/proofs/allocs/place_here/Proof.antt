@@ -1,4 +1,4 @@
--- `allocs::place_here` meets its contract. Assumes nothing.
+-- `allocs::place_here` meets its contract.
 use mathlib.Core.Path.{sym, ap, _∙_}
 use Rattle.wire.specs.Order.{posSame}
 use Rattle.wire.specs.declared.bpos.Bpos.{Bpos}

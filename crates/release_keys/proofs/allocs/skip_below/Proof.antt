@@ -1,4 +1,4 @@
--- `allocs::skip_below` meets its contract. Assumes nothing.
+-- `allocs::skip_below` meets its contract.
 use native.Mathlib.Omega.{arith}
 use mathlib.Core.Path.{sym, ap, _∙_}
 use Prim.Native.Nat.{_-_}

@@ -1,4 +1,4 @@
--- `backpointers::put_backpointers` meets its contract. Assumes nothing.
+-- `backpointers::put_backpointers` meets its contract.
 use native.Mathlib.Omega.{arith}
 use mathlib.Core.Path.{ap}
 use Prim.Native.Nat.{_-_, _≤_}

@@ -1,4 +1,4 @@
--- `counts::count_bucket` meets its contract. Assumes nothing.
+-- `counts::count_bucket` meets its contract.
 use native.Mathlib.Omega.{arith}
 use borrow.Author.Tests.{eq-eqb, ne-eqb}
 use borrow.Author.Needs.{needs}

@@ -1,4 +1,4 @@
--- `counts::unused_in` meets its contract. Assumes nothing.
+-- `counts::unused_in` meets its contract.
 use native.Mathlib.Omega.{arith}
 use mathlib.Core.Path.{_≡_}
 use mathlib.Core.List.{List}
@@ -8,8 +8,8 @@ use lib.Dec.{eqb}
 use Rattle.wire.specs.Kinds.{bucketsIn}
 use Rattle.calls.specs.CallList.{Volume, Freed}
 use Rattle.calls.specs.Lists.{total}
-use Rattle.calls.proofs.View.{bucket}
-use Rattle.calls.proofs.BoolLaws.{cond-most}
+use Rattle.calls.proofs.history.View.{bucket}
+use Rattle.calls.proofs.lists.BoolLaws.{cond-most}
 use Rattle.release_keys.specs.Counting.{keptOf, lostOf}
 use Rattle.release_keys.specs.Tables.{FreedTables}
 use Rattle.release_keys.proofs.CountLaws.{total-next, total-none, kept-is, lost-is}

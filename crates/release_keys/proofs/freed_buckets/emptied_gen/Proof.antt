@@ -1,4 +1,4 @@
--- `freed_buckets::emptied_gen` meets its contract. Assumes nothing.
+-- `freed_buckets::emptied_gen` meets its contract.
 use native.Mathlib.Omega.{arith}
 use mathlib.Core.Path.{_∙_}
 use lib.ListN.{getD}

@@ -1,4 +1,4 @@
--- `freed_buckets::find_emptied` meets its contract. Assumes nothing.
+-- `freed_buckets::find_emptied` meets its contract.
 use native.Mathlib.Omega.{arith}
 use mathlib.Core.Path.{_≡_, refl, _∙_}
 use mathlib.Core.Logic.{⊎-elim}
@@ -10,7 +10,7 @@ use Rattle.wire.specs.Kinds.{bucketsIn}
 use Rattle.calls.specs.CallList.{Volume, Freed}
 use Rattle.calls.specs.Lists.{those}
 use Rattle.calls.specs.Release.{isEmptied, emptiedGen}
-use Rattle.calls.proofs.View.{bucket}
+use Rattle.calls.proofs.history.View.{bucket}
 use Rattle.release_sums.proofs.FoundLaws.{Picking, pick-starts, pick-hit, pick-miss, pick-ends}
 use Rattle.release_keys.specs.Tables.{FreedTables}
 use Rattle.release_keys.proofs.FreedBucketLaws.{bucket-at, buckets-next, buckets-none, by-number}

@@ -1,4 +1,4 @@
--- `gen_records::new_record` meets its contract. Assumes nothing.
+-- `gen_records::new_record` meets its contract.
 use native.Mathlib.Omega.{arith}
 use Rattle.wire.proofs.KeyLaws.{key-equal}
 use mathlib.Core.Path.{refl}

@@ -1,4 +1,4 @@
--- `gen_records::next_record` meets its contract. Assumes nothing.
+-- `gen_records::next_record` meets its contract.
 use native.Mathlib.Omega.{arith}
 use mathlib.Core.Path.{_≡_, ap, _∙_}
 use Prim.Native.Nat.{_+_}

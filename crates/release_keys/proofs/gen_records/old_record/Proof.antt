@@ -1,4 +1,4 @@
--- `gen_records::old_record` meets its contract. Assumes nothing.
+-- `gen_records::old_record` meets its contract.
 use native.Mathlib.Omega.{arith}
 use mathlib.Core.Path.{_≡_, sym, ap, _∙_}
 use mathlib.Core.List.{List}

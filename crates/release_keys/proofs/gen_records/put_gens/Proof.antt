@@ -1,4 +1,4 @@
--- `gen_records::put_gens` meets its contract. Assumes nothing.
+-- `gen_records::put_gens` meets its contract.
 use native.Mathlib.Omega.{arith}
 use mathlib.Core.Path.{_≡_, refl, _∙_}
 use mathlib.Core.List.{List, map}

@@ -1,4 +1,4 @@
--- `gen_records::with_generation` meets its contract. Assumes nothing.
+-- `gen_records::with_generation` meets its contract.
 use native.Mathlib.Omega.{arith}
 use mathlib.Core.Path.{sym, ap, _∙_}
 use mathlib.Core.List.{List}

@@ -1,4 +1,4 @@
--- `lru_keys::put_bucket_lru` meets its contract. Assumes nothing.
+-- `lru_keys::put_bucket_lru` meets its contract.
 use mathlib.Core.Path.{sym}
 use Prim.Native.Nat.{_-_}
 use Rattle.calls.specs.Lru.{lruKeys, lruDeletions}

@@ -1,4 +1,4 @@
--- `lru_keys::put_lrus` meets its contract. Assumes nothing.
+-- `lru_keys::put_lrus` meets its contract.
 use native.Mathlib.Omega.{arith}
 use mathlib.Core.Path.{_≡_, refl, ap, _∙_}
 use mathlib.Core.List.{List, flatMap}
@@ -11,7 +11,7 @@ use Rattle.wire.proofs.OutputLaws.{Part, begin, turn, wrote-length}
 use Rattle.wire.proofs.EmitLaws.{emitted, done}
 use Rattle.calls.specs.CallList.{Volume, Freed}
 use Rattle.calls.specs.Release.{freedBuckets, releasedLru}
-use Rattle.calls.proofs.View.{bucket}
+use Rattle.calls.proofs.history.View.{bucket}
 use Rattle.change_fields.specs.FieldBytes.{keysBytes}
 use Rattle.release_keys.specs.Tables.{FreedTables}
 use Rattle.change_fields.proofs.FieldLists.{flat-next, flat-none}

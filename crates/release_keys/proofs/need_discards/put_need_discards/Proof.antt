@@ -1,4 +1,4 @@
--- `need_discards::put_need_discards` meets its contract. Assumes nothing.
+-- `need_discards::put_need_discards` meets its contract.
 use native.Mathlib.Omega.{arith}
 use Prim.Native.Nat.{_-_}
 use lib.ListN.{length, drop}

@@ -1,4 +1,4 @@
--- `refusals::bucket_refusal` meets its contract. Assumes nothing.
+-- `refusals::bucket_refusal` meets its contract.
 use native.Mathlib.Omega.{arith}
 use mathlib.Core.Path.{_≡_, sym, _∙_}
 use Prim.Native.Nat.{_≤_}

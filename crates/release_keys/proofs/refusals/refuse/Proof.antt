@@ -1,4 +1,4 @@
--- `refusals::refuse` meets its contract. Assumes nothing.
+-- `refusals::refuse` meets its contract.
 use native.Mathlib.Omega.{arith}
 use mathlib.Core.Path.{_≡_, refl, sym, _∙_}
 use mathlib.Core.List.{List, map}

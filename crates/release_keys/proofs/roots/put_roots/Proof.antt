@@ -1,4 +1,4 @@
--- `roots::put_roots` meets its contract. Assumes nothing.
+-- `roots::put_roots` meets its contract.
 use native.Mathlib.Omega.{arith}
 use mathlib.Core.Path.{sym}
 use Rattle.wire.proofs.EmitLaws.{emitted, and-then, nothing}

@@ -1,4 +1,4 @@
--- `requests::all_freed_ok` meets its contract. Assumes nothing.
+-- `requests::all_freed_ok` meets its contract.
 use native.Mathlib.Omega.{arith}
 use mathlib.Core.Path.{_≡_, refl, sym, _∙_}
 use Prim.Native.Nat.{_-_, _≤_}

@@ -1,4 +1,4 @@
--- `requests::freed_at` meets its contract. Assumes nothing.
+-- `requests::freed_at` meets its contract.
 use native.Mathlib.Omega.{arith}
 use mathlib.Core.Path.{_∙_}
 use borrow.Author.Needs.{needs}

@@ -1,4 +1,4 @@
--- `requests::freed_ok` meets its contract. Assumes nothing.
+-- `requests::freed_ok` meets its contract.
 use native.Mathlib.Omega.{arith}
 use mathlib.Core.Path.{sym, _∙_}
 use native.Mathlib.Nat.{mod-lt}

@@ -1,4 +1,4 @@
--- `requests::read_freed` meets its contract. Assumes nothing.
+-- `requests::read_freed` meets its contract.
 use Rattle.release_sums.proofs.FreedLaws.{freed-read}
 use borrow.Author.Needs.{needs}
 use Rattle.release_sums.proofs.requests.read_freed.Statement.{statement}

@@ -1,4 +1,4 @@
--- `sums::add_up` meets its contract. Assumes nothing.
+-- `sums::add_up` meets its contract.
 use native.Mathlib.Omega.{arith}
 use mathlib.Core.Path.{_≡_, sym, ap, _∙_}
 use mathlib.Core.List.{_∷_}

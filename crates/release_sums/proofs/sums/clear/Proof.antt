@@ -1,4 +1,4 @@
--- `sums::clear` meets its contract. Assumes nothing.
+-- `sums::clear` meets its contract.
 use native.Mathlib.Omega.{arith}
 use mathlib.Core.Path.{_≡_, refl, ap, _∙_}
 use mathlib.Core.List.{List, _++_}

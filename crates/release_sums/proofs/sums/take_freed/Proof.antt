@@ -1,4 +1,4 @@
--- `sums::take_freed` meets its contract. Assumes nothing.
+-- `sums::take_freed` meets its contract.
 use native.Mathlib.Omega.{arith}
 use mathlib.Core.Path.{_≡_, refl, _∙_}
 use mathlib.Core.Logic.{⊎-elim}

@@ -1,4 +1,4 @@
--- `sums::take_group` meets its contract. Assumes nothing.
+-- `sums::take_group` meets its contract.
 use native.Mathlib.Omega.{arith}
 use mathlib.Core.Path.{_≡_, refl}
 use mathlib.Core.Logic.{⊎-elim}

@@ -1,4 +1,4 @@
--- `emit::put_bucket` meets its contract. Assumes nothing.
+-- `emit::put_bucket` meets its contract.
 use Rattle.wire.proofs.OutputLaws.{field}
 use borrow.Author.Needs.{needs}
 use Rattle.wire.proofs.emit.put_bucket.Statement.{statement}

@@ -1,4 +1,4 @@
--- `emit::put_bytes` meets its contract: nothing fits, all fits, or some. Assumes nothing.
+-- `emit::put_bytes` meets its contract: nothing fits, all fits, or some.
 use native.Mathlib.Omega.{arith}
 use Rattle.wire.proofs.OutputLaws.{skipped, stretch-length}
 use borrow.Author.Needs.{needs}

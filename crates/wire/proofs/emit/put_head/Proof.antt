@@ -1,4 +1,4 @@
--- `emit::put_head` meets its contract. Assumes nothing.
+-- `emit::put_head` meets its contract.
 use Rattle.wire.specs.Encode.{headBytes}
 use Rattle.wire.proofs.OutputLaws.{then}
 use borrow.Author.Needs.{needs}

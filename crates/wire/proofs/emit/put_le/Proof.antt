@@ -1,4 +1,4 @@
--- `emit::put_le` meets its contract: nothing fits, all fits, or some. Assumes nothing.
+-- `emit::put_le` meets its contract: nothing fits, all fits, or some.
 use native.Mathlib.Omega.{arith}
 use Rattle.wire.proofs.NumberLaws.{le-length}
 use Rattle.wire.proofs.OutputLaws.{skipped}

@@ -1,4 +1,4 @@
--- `emit::put_u8` meets its contract. Assumes nothing.
+-- `emit::put_u8` meets its contract.
 use native.Mathlib.Omega.{arith}
 use mathlib.Core.Path.{_≡_, refl, sym, ap, _∙_}
 use mathlib.Core.Logic.{⊎-elim}

@@ -1,4 +1,4 @@
--- `emit::put_value` meets its contract. Assumes nothing.
+-- `emit::put_value` meets its contract.
 use native.Mathlib.Omega.{arith}
 use mathlib.Core.Path.{_≡_, sym, _∙_}
 use lib.ListN.{length, length-map}

@@ -1,4 +1,4 @@
--- `emit::put_words` meets its contract. The invariant: what is left are the words from index i on. Assumes nothing.
+-- `emit::put_words` meets its contract. The invariant: what is left are the words from index i on.
 use native.Mathlib.Omega.{arith}
 use mathlib.Core.Path.{_≡_}
 use Prim.Native.Nat.{_-_}

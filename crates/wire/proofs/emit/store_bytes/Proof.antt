@@ -1,4 +1,4 @@
--- `emit::store_bytes` meets its contract. The invariant: what is left are the bytes from index i on. Assumes nothing.
+-- `emit::store_bytes` meets its contract. The invariant: what is left are the bytes from index i on.
 use native.Mathlib.Omega.{arith}
 use native.Mathlib.Numerals.{unary-clauses}
 use Prim.Native.Nat.{_+_, _-_, _≤_}

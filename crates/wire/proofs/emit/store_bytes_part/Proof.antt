@@ -1,4 +1,4 @@
--- `emit::store_bytes_part` meets its contract. The invariant: what is left are the bytes from index i on. Assumes nothing.
+-- `emit::store_bytes_part` meets its contract. The invariant: what is left are the bytes from index i on.
 use native.Mathlib.Omega.{arith}
 use Prim.Native.Nat.{_-_}
 use lib.ListN.{take, drop}

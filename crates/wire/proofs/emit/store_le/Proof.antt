@@ -1,4 +1,4 @@
--- `emit::store_le` meets its contract. The invariant: what is left of the bytes of x are the n - i bytes of y. Assumes nothing.
+-- `emit::store_le` meets its contract. The invariant: what is left of the bytes of x are the n - i bytes of y.
 use native.Mathlib.Omega.{arith}
 use native.Mathlib.Numerals.{unary-clauses}
 use mathlib.Core.Path.{_≡_}

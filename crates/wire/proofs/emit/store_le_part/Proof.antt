@@ -1,4 +1,4 @@
--- `emit::store_le_part` meets its contract. The invariant: what is left of the bytes of x are the `left` bytes of y. Assumes nothing.
+-- `emit::store_le_part` meets its contract. The invariant: what is left of the bytes of x are the `left` bytes of y.
 use native.Mathlib.Omega.{arith}
 use mathlib.Core.Path.{_≡_}
 use Rattle.wire.specs.Numbers.{leBytes}

@@ -1,4 +1,4 @@
--- `emit_key::put_bare_key` meets its contract. Assumes nothing.
+-- `emit_key::put_bare_key` meets its contract.
 use Rattle.wire.proofs.OutputLaws.{field}
 use Rattle.wire.proofs.EncodeLaws.{bare-is}
 use borrow.Author.Needs.{needs}

@@ -1,4 +1,4 @@
--- `emit_key::put_key_start` meets its contract. Assumes nothing.
+-- `emit_key::put_key_start` meets its contract.
 use Rattle.wire.specs.Encode.{keyStart}
 use Rattle.wire.proofs.OutputLaws.{then}
 use borrow.Author.Needs.{needs}

@@ -1,4 +1,4 @@
--- `emit_key::put_pos` meets its contract. Assumes nothing.
+-- `emit_key::put_pos` meets its contract.
 use Rattle.wire.specs.Encode.{posBytes}
 use Rattle.wire.proofs.OutputLaws.{then}
 use borrow.Author.Needs.{needs}

@@ -1,4 +1,4 @@
--- `emit_key::put_words_key` meets its contract. Assumes nothing.
+-- `emit_key::put_words_key` meets its contract.
 use native.Mathlib.Omega.{arith}
 use Rattle.wire.specs.Encode.{keyStart, keyBody}
 use Rattle.wire.proofs.OutputLaws.{then, field, resize}

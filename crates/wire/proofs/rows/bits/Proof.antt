@@ -1,4 +1,4 @@
--- `rows::bits` meets its contract. Assumes nothing.
+-- `rows::bits` meets its contract.
 use native.Mathlib.Omega.{arith}
 use mathlib.Core.Path.{_≡_}
 use Prim.Native.Nat.{_-_, _<_, _^_}

@@ -1,4 +1,4 @@
--- `rows::minus` meets its contract. Assumes nothing.
+-- `rows::minus` meets its contract.
 use lib.IntN.{pos, negℤ}
 use mir.Syntax.{w64}
 use mir.ValLaws.{toZ-ofZ}

@@ -1,4 +1,4 @@
--- `rows::plus` meets its contract. Assumes nothing.
+-- `rows::plus` meets its contract.
 use native.Mathlib.Omega.{arith}
 use mir.Syntax.{w64}
 use mir.ValLaws.{toZ-pos}

@@ -1,4 +1,4 @@
--- `rows::put_i64` meets its contract. Assumes nothing.
+-- `rows::put_i64` meets its contract.
 use mir.Syntax.{w64}
 use mir.ValLaws.{toZ-ofZ}
 use Rattle.wire.specs.Rows.{signedBytes}

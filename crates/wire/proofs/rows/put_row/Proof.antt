@@ -1,4 +1,4 @@
--- `rows::put_row` meets its contract. The invariant: what is left are the numbers from index i on. Assumes nothing.
+-- `rows::put_row` meets its contract. The invariant: what is left are the numbers from index i on.
 use native.Mathlib.Omega.{arith}
 use mathlib.Core.Path.{_≡_, sym, _∙_}
 use Prim.Native.Nat.{_-_}

@@ -1,0 +1,52 @@
+-- Refusals that do not come: each test of an accepted call held.
+use mathlib.Core.Path.{_≡_, refl}
+use mathlib.Core.Bool.{Bool, true, false, _||_, cond}
+use mathlib.Core.List.{List, [], _∷_, _++_, map}
+use Prim.Native.Nat.{ℕ, _<_}
+use native.Mathlib.Omega.{arith}
+use lib.Dec.{eqb}
+use borrow.Author.Tests.{eqb-true, eqb-false}
+use Rattle.wire.specs.Kinds.{sameBucket}
+use Rattle.wire.specs.declared.kinds.Bucket.{Bucket}
+use Rattle.calls.specs.Lists.{anyOf}
+use Rattle.calls.specs.Freespace.{isIn}
+use Rattle.calls.specs.Refusals.{test, verdict}
+use Rattle.calls.proofs.lists.BoolLaws.{clash}
+use Rattle.calls.proofs.freespace.BucketLaws.{same-path}
+
+pub verdict-ok : (n : ℕ) (ns : List ℕ) → verdict (n ∷ ns) ≡ 0 → (n ≡ 0) × (verdict ns ≡ 0)
+unfolding verdict
+verdict-ok n ns e = go (eqb n 0) refl e
+  where
+    go : (t : Bool) → eqb n 0 ≡ t → cond t (verdict ns) n ≡ 0 → (n ≡ 0) × (verdict ns ≡ 0)
+    go true d q = (eqb-true n 0 d, q)
+    go false d q = absurd (eqb-false n 0 d q)
+
+pub test-ok : (n : ℕ) (t : Bool) → 0 < n → test n t ≡ 0 → t ≡ true
+test-ok n true p e = refl
+test-ok n false p e = absurd (omega arith)
+
+-- the tests before 21
+pub verdict-front : (ns ms : List ℕ) → verdict (ns ++ ms) ≡ 0 → verdict ns ≡ 0
+unfolding verdict
+verdict-front [] ms h = refl
+verdict-front (n ∷ ns) ms h = go (eqb n 0) h (verdict-front ns ms)
+  where
+    go : (t : Bool) → cond t (verdict (ns ++ ms)) n ≡ 0 → (verdict (ns ++ ms) ≡ 0 → verdict ns ≡ 0) → cond t (verdict ns) n ≡ 0
+    go true e ih = ih e
+    go false e ih = e
+
+-- and the last one
+pub verdict-last : (ns : List ℕ) (n : ℕ) → verdict (ns ++ (n ∷ [])) ≡ 0 → n ≡ 0
+verdict-last [] n h = verdict-ok n [] h .0
+verdict-last (m ∷ ns) n h = verdict-last ns n (verdict-ok m (ns ++ (n ∷ [])) h .1)
+
+-- the lowest of a list of buckets, where none has a number
+pub verdict-map : (f : Bucket → ℕ) (bs : List Bucket) → verdict (map f bs) ≡ 0 → (b : Bucket) → isIn bs b ≡ true → f b ≡ 0
+unfolding isIn anyOf
+verdict-map f [] e b m = absurd (clash m refl)
+verdict-map f (c ∷ cs) e b m = let v = verdict-ok (f c) (map f cs) e in go (sameBucket c b) refl m (v .0) (λ q. verdict-map f cs (v .1) b q)
+  where
+    go : (t : Bool) → sameBucket c b ≡ t → (t || isIn cs b) ≡ true → f c ≡ 0 → (isIn cs b ≡ true → f b ≡ 0) → f b ≡ 0
+    go true d q z ih = rw (← same-path c b d) z
+    go false d q z ih = ih q

@@ -1,0 +1,8 @@
+-- Lists and their bytes: what is written is read back, what is read is written again, and every number fits its bytes.
+pub mod Blocks
+pub mod FieldBytes
+pub mod TreeFields
+pub mod KeyFitsLaws
+pub mod VolumeTrip
+pub mod ChangeTrip
+pub mod ApplyLaws

@@ -1,0 +1,44 @@
+-- Totals over a list.
+use mathlib.Core.Path.{_≡_, refl}
+use mathlib.Core.List.{List, [], _∷_, _++_, map, List·Memᴰ, List·Memᴰ·head, List·Memᴰ·tail}
+use Prim.Native.Nat.{ℕ, _+_, _*_, _^_, _≤_, _<_}
+use native.Mathlib.Omega.{arith}
+use lib.ListN.{length}
+use Rattle.wire.specs.Bytes.{All, none, more}
+use Rattle.calls.specs.Lists.{total}
+use Rattle.calls.proofs.lists.AllLaws.{all-imp}
+
+pub total-append : {A : Type 0} (f : A → ℕ) (l m : List A) → total f (l ++ m) ≡ total f l + total f m
+unfolding total
+total-append f [] m = omega arith
+total-append f (x ∷ xs) m = omega (arith, total-append f xs m)
+
+pub total-map : {A C : Type 0} (f : C → ℕ) (g : A → C) (l : List A) → total f (map g l) ≡ total (λ (a : A). f (g a)) l
+unfolding total
+total-map f g [] = refl
+total-map f g (x ∷ xs) = omega (arith, total-map f g xs)
+
+pub total-same : {A : Type 0} (f g : A → ℕ) {l : List A} → All (λ (a : A). f a ≡ g a) l → total f l ≡ total g l
+unfolding total
+total-same f g none = refl
+total-same f g (more h r) = omega (arith, total-same f g r)
+
+-- one element's part
+pub total-mem : {A : Type 0} (f : A → ℕ) (a : A) (l : List A) → List·Memᴰ a l → f a ≤ total f l
+unfolding total
+total-mem f a (x ∷ xs) (List·Memᴰ·head e) = rw e (omega arith)
+total-mem f a (x ∷ xs) (List·Memᴰ·tail m) = omega (arith, total-mem f a xs m)
+
+pub total-le : {A : Type 0} (f g : A → ℕ) {l : List A} → All (λ (a : A). f a ≤ g a) l → total f l ≤ total g l
+unfolding total
+total-le f g none = omega arith
+total-le f g (more h r) = omega (arith, total-le f g r)
+
+pub total-most : {A : Type 0} (f : A → ℕ) (m : ℕ) {l : List A} → All (λ (a : A). f a ≤ m) l → total f l ≤ length l * m
+unfolding total
+total-most f m none = omega arith
+total-most f m (more h r) = omega (arith, total-most f m r)
+
+-- a sum over 1,024 requests
+pub total-small : {A : Type 0} (f : A → ℕ) {l : List A} → All (λ a. f a < 2 ^ 16) l → length l ≤ 1024 → total f l < 2 ^ 26
+total-small f h n = omega (arith, total-most f 65535 (all-imp (λ a k. omega arith) h))

@@ -1,0 +1,6 @@
+-- An accepted placement.
+pub mod FitLaws
+pub mod PlaceFits
+pub mod PlaceLaws
+pub mod PlacePhases
+pub mod PointerLaws
