@@ -30,6 +30,10 @@ pub record Marking {A : Type 0} (is : A → Bucket → Bool) (all rest : List A)
   pub size : length bits ≡ 8192
   pub told : (b : Bucket) → bucketInRange b ≡ true → (marked bits b || anyOf (λ a. is a b) rest) ≡ anyOf (λ a. is a b) all
 
+or-none : (t : Bool) → t ≡ t || false
+or-none true = refl
+or-none false = refl
+
 or-swap : (a b c : Bool) → ((a || b) || c) ≡ (b || (a || c))
 or-swap true true c = refl
 or-swap true false c = refl
@@ -69,10 +73,6 @@ module _ {A : Type 0} (is : A → Bucket → Bool) (all : List A) where
             or-none (marked bits b) ∙ ap (λ (r : List A). marked bits b || anyOf (λ a. is a b) r) (sym (drop-of-length-le all h))
             ∙ m .told b l;
       }
-    where
-      or-none : (t : Bool) → t ≡ t || false
-      or-none true = refl
-      or-none false = refl
 
 -- the buckets in use, by the keys of which one is
 abbrev pub usesBucket : Key → Bucket → Bool
@@ -151,10 +151,6 @@ used-any b (k ∷ ks) s z =
         let q = pos-cmp .eq-path (allocAt b) (k .pos) e in
         let n : anyOf (λ j. usesBucket j b) ks ≡ false = none-after b ks zs (rw q s) in
         decides k b e ∙ or-none (usesBucket k b) ∙ ap (λ (t : Bool). usesBucket k b || t) (sym n)
-      where
-        or-none : (t : Bool) → t ≡ t || false
-        or-none true = refl
-        or-none false = refl
 
 -- what the code marks of an alloc key, by its tests
 module _ (k : Key) (bits : List ℕ) where

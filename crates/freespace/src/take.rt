@@ -86,7 +86,7 @@ fn walk_run(
     }
 }
 
-// Walks one key, if it is a run.
+// Walks one key, if it is a run. `take_buckets` shows what is asked, here and above.
 fn walk_key(
     s: &[u8],
     at: usize,

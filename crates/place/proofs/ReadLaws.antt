@@ -1,40 +1,23 @@
 -- From a list that was read to its parts, and from its answer after refusals 2 and 3 to the answer of the definition.
 use mathlib.Core.Path.{_≡_, ap, sym, _∙_}
-use mathlib.Core.Bool.{true}
 use mathlib.Core.List.{List, [], _∷_}
 use Prim.Native.Nat.{ℕ, _-_, _<_}
 use native.Mathlib.Omega.{arith}
-use lib.Dec.{leb}
-use lib.ListN.{length, take, drop, length-take}
-use Rattle.wire.specs.Kinds.{bucketInRange, baseInRange}
+use lib.ListN.{take, drop, length-take}
+use Rattle.wire.specs.Kinds.{baseInRange}
 use Rattle.calls.specs.Answers.{Answer, answer, made, outcome, place, readCall, readVolume}
 use Rattle.calls.specs.CallList as calls
-use Rattle.calls.specs.CallList.{Volume}
 use Rattle.calls.specs.ChangeList.{changeBytes}
-use Rattle.calls.specs.Limits.{countsOk, bucketsOk, volumeWithin}
-use Rattle.calls.specs.Lists.{allOf}
 use Rattle.calls.specs.Place.{placeTests}
 use Rattle.calls.proofs.answers.AnswerLaws.{place-is}
-use Rattle.calls.proofs.lists.BoolLaws.{parts}
-use Rattle.calls.proofs.encoding.KeyFitsLaws.{list-within}
 use Rattle.reader.specs.Located.{KeysAt}
 use Rattle.reader.specs.Readings.{callRefusal, ListRead}
 use Rattle.reader.specs.declared.head.Head.{Head}
 use Rattle.reader.specs.declared.table.Ends.{Ends}
 use Rattle.reader.proofs.PartsLaws.{passed, read-on, read-refused, between, Part, alloc-part, freespace-part, gens-part, reserved-part, pieces-part}
 use Rattle.place_tests.specs.Called.{Called}
-use Rattle.reader.proofs.CheckedLaws.{checked}
+use Rattle.reader.proofs.CheckedLaws.{checked, base-range}
 use Rattle.place.specs.Change.{placement}
-
--- refusal 3 shows the base's bound
-base-in : (v : Volume) → volumeWithin v ≡ true → baseInRange (v .head .base) ≡ true
-unfolding volumeWithin
-base-in v h =
-    let a = parts (countsOk (v .trees)) _ h in
-    let b = parts (bucketsOk (v .trees)) _ (a .1) in
-    let d = parts (leb (length (v .reserved)) 4096) _ (b .1) in
-    let e = parts (allOf bucketInRange (v .reserved)) _ (d .1) in
-    parts (leb (v .head .reserve) 65536) (baseInRange (v .head .base)) (e .1) .1
 
 module _ (s index : List ℕ) (h : Head) (e : Ends) (z : 0 ≡ callRefusal 1 s) (q : ListRead 1 s index h e) where
   -- the parts of the table that are lent
@@ -58,16 +41,16 @@ module _ (s index : List ℕ) (h : Head) (e : Ends) (z : 0 ≡ callRefusal 1 s) 
   pub called : Called s h (take (e .alloc) index) (between (e .lru) (e .freespace) index) (between (e .gens) (e .reserved) index) (between (e .reserved) (e .requests) index)
   called =
       let p = passed 1 s z in
-      let w = list-within (readCall s) (p .within) .0 in
+      let k = checked 1 s (p .laid) (p .within) in
       record {
-        checked = checked 1 s (p .laid) (p .within);
+        checked = k;
         head = q .head;
         alloc = alloc-part 1 s index h e z q .1;
         runs = freespace-part 1 s index h e z q .1;
         reserved = reserved-part 1 s index h e z q .1;
         pieces = pieces-part s index h e z q .1;
         few = omega (arith, length-take (e .requests - e .reserved) (drop (e .reserved) index), pieces-part s index h e z q .0 .few);
-        base = ap (λ (x : calls.Head). baseInRange (x .base)) (q .head) ∙ base-in (readVolume s) w;
+        base = ap (λ (x : calls.Head). baseInRange (x .base)) (q .head) ∙ base-range k;
       }
 
   pub gens-called : KeysAt s (between (e .backpointers) (e .gens) index) (readVolume s .trees .gens)

@@ -1,4 +1,4 @@
-// Where each piece of a placement lies, and the keys written for the pieces and their buckets.
+// Where each piece of a placement lies, the keys written for the pieces and their buckets, and the clock.
 pub mod allocs;
 pub mod backpointers;
 pub mod clock;

@@ -30,7 +30,8 @@ module _ {s : List ℕ} (c : Checked s) where
   pub trees-in-order : EachTree InOrder (readVolume s .trees)
   trees-in-order = trees-order (c .trees)
 
-  limited : (bucketsOk (readVolume s .trees) ≡ true) × (allOf bucketInRange (readVolume s .reserved) ≡ true)
+  limited :
+      (bucketsOk (readVolume s .trees) ≡ true) × (allOf bucketInRange (readVolume s .reserved) ≡ true) × (baseInRange (readVolume s .head .base) ≡ true)
   unfolding volumeWithin
   limited =
       let v = readVolume s in
@@ -40,10 +41,14 @@ module _ {s : List ℕ} (c : Checked s) where
       let p = and-true (countsOk (v .trees)) (bucketsOk (v .trees) && b) (c .limits) in
       let q = and-true (bucketsOk (v .trees)) b (p .1) in
       let r = and-true (leb (length (v .reserved)) 4096) d (q .1) in
-      (q .0, and-true (allOf bucketInRange (v .reserved)) e (r .1) .0)
+      let t = and-true (allOf bucketInRange (v .reserved)) e (r .1) in
+      (q .0, t .0, and-true (leb (v .head .reserve) 65536) (baseInRange (v .head .base)) (t .1) .1)
 
   pub reserved-range : allOf bucketInRange (readVolume s .reserved) ≡ true
   reserved-range = limited .1
+
+  pub base-range : baseInRange (readVolume s .head .base) ≡ true
+  base-range = limited .2
 
   tree-ranges :
       (allOf inRange (readVolume s .trees .alloc) ≡ true)

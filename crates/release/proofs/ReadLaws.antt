@@ -6,21 +6,16 @@ use Prim.Native.Nat.{ℕ, suc, _-_, _≤_, _<_}
 use native.Mathlib.Omega.{arith}
 use lib.ListN.{length, getD, take, drop, replicate, length-append, length-take, length-drop, length-replicate, List·getD-append}
 use lib.Seq.{drop-at}
-use lib.Dec.{eqb}
 use borrow.Author.Tests.{le-leb, lt-leb, lt-ltb, le-ltb, ltb-true}
-use Rattle.wire.specs.Fields.{fields, whole}
 use Rattle.wire.specs.Keys.{Key}
-use Rattle.wire.specs.Kinds.{bucketBelow}
 use Rattle.calls.specs.CallList as calls
-use Rattle.calls.specs.CallList.{Volume, Freed, freedOf, bodies, shaped, volumeShapes, requestShapes, tagsAscend, keysOk, treesOk, headOk, laidOut, callLaidOut}
-use Rattle.calls.specs.Lists.{allOf, inOrder}
+use Rattle.calls.specs.CallList.{Volume, Freed, freedOf, keysOk, callLaidOut}
 use Rattle.calls.specs.Limits.{listWithin}
 use Rattle.calls.specs.Answers.{Answer, answer, readCall, readVolume, release, made, outcome, scratchAfter}
 use Rattle.calls.specs.ChangeList.{changeBytes}
 use Rattle.calls.specs.Refusals.{test}
 use Rattle.calls.specs.Release.{allocValue, dirtyAt, isEmptied, bucketRefusal, releaseTests, releasedKey, releasedLru, emptiedGen, unusedChange, releaseRows, releaseBatch}
 use Rattle.calls.proofs.answers.AnswerLaws.{release-is}
-use Rattle.calls.proofs.lists.BoolLaws.{parts}
 use Rattle.calls.proofs.answers.OutcomeLaws.{answer-next, answer-stops, refused}
 use Rattle.calls.proofs.trees.SixTrees.{EachTree, trees-each}
 use Rattle.reader.specs.KeyHere.{keysHere}
@@ -29,6 +24,7 @@ use Rattle.reader.specs.Located.{KeysAt, FreedAt, noFreed, FreedsAt}
 use Rattle.reader.specs.Readings.{callRefusal, ListRead}
 use Rattle.reader.specs.declared.head.Head.{Head}
 use Rattle.reader.specs.declared.table.Ends.{Ends}
+use Rattle.reader.proofs.CheckedLaws.{checked}
 use Rattle.reader.proofs.KeyHereLaws.{keyed, keys-here}
 use Rattle.reader.proofs.PartsLaws.{passed, read-on, read-refused, between, Part, alloc-part, gens-part, freeds-part}
 use Rattle.release_sums.specs.Freeds.{freedsIn, Requested}
@@ -110,21 +106,8 @@ module _ (s : List ℕ) (n room : ℕ) where
       ∙ sym (past-1 l ∙ read-on 2 s later bytes room z)
 
 -- the layout's trees
-trees-laid : (call : ℕ) (s : List ℕ) → callLaidOut call s ≡ true → treesOk (readVolume s .trees) ≡ true
-unfolding callLaidOut laidOut
-trees-laid call s h =
-    let ss = volumeShapes ++ requestShapes call in
-    let v = readVolume s in
-    let l = parts (laidOut ss s) (eqb (v .head .call) call) h .0 in
-    let a = parts (whole s) _ l in
-    let b = parts (allOf (shaped ss) (fields s)) _ (a .1) in
-    let c = parts (tagsAscend (fields s)) _ (b .1) in
-    let d = parts (eqb (length (bodies 1 (fields s))) 1) _ (c .1) in
-    let e = parts (headOk (v .head)) _ (d .1) in
-    parts (treesOk (v .trees)) (inOrder bucketBelow (v .reserved)) (e .1) .0
-
 trees-ok : (s : List ℕ) → 0 ≡ callRefusal 2 s → EachTree (λ ks. keysOk ks ≡ true) (readVolume s .trees)
-trees-ok s z = trees-each (readVolume s .trees) (trees-laid 2 s (passed 2 s z .laid))
+trees-ok s z = let p = passed 2 s z in trees-each (readVolume s .trees) (checked 2 s (p .laid) (p .within) .trees)
 
 -- ---- the scratch
 pub scratch-short : (l : List ℕ) → length l < 65536 → l ≡ scratchAfter l
