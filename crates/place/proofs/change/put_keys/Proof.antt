@@ -9,7 +9,8 @@ use Rattle.calls.specs.Place.{placedOf}
 use Rattle.calls.specs.Answers.{readCall, readVolume}
 use Rattle.place_keys.specs.Plan.{AllocsOf}
 use Rattle.wire.proofs.EmitLaws.{emitted, and-then}
-use Rattle.place_keys.proofs.StepLaws.{buckets-length, gens-length}
+use Rattle.place_keys.proofs.StepLaws.{gens-length}
+use Rattle.change_fields.proofs.BucketTables.{table-length}
 use Rattle.place.proofs.ChangeLaws.{keys-of, zero-at}
 use borrow.Author.Needs.{needs}
 use Rattle.place.proofs.change.put_keys.Statement.{statement}
@@ -32,7 +33,7 @@ allocs-of : (a : tie.Start) → AllocsOf (volume a) (bucketsIn (a .args .taken .
 allocs-of a = record { number = ap (λ (x : Head). x .journal) (sym (a .pre .0 .head)); gens = a .pre .0 .gens; time = a .pre .1 .1 }
 
 fill-dirty-requires : tie.Need-fill-dirty-requires
-fill-dirty-requires c κs = let a = start c in (a .pre .0, (omega (arith, a .pre .0 .short, buckets-length (a .args .taken .now)), λ k. zero-at 1024 k))
+fill-dirty-requires c κs = let a = start c in (a .pre .0, (omega (arith, a .pre .0 .short, table-length (a .args .taken .now)), λ k. zero-at 1024 k))
 
 put-extents-requires : tie.Need-put-extents-requires
 put-extents-requires c κs = search needs
@@ -44,7 +45,7 @@ put-allocs-requires : tie.Need-put-allocs-requires
 put-allocs-requires c κs =
     let f = c .before .before .before .before .before .before .before in
     let a = start (f .before) in
-    ((omega (arith, gens-length (a .pre .0), buckets-length (a .args .taken .now)), omega (arith, f .fill-dirty .kept .0, a .pre .0 .short, buckets-length (a .args .taken .now))), (record { volume = volume a; allocs = allocs-of a }, record { placed = placed a; dirty = f .fill-dirty .ensures }))
+    ((omega (arith, gens-length (a .pre .0), table-length (a .args .taken .now)), omega (arith, f .fill-dirty .kept .0, a .pre .0 .short, table-length (a .args .taken .now))), (record { volume = volume a; allocs = allocs-of a }, record { placed = placed a; dirty = f .fill-dirty .ensures }))
 
 slice-aggregate-put-lrus : tie.Need-slice-aggregate-put-lrus
 slice-aggregate-put-lrus c = search needs
@@ -56,7 +57,7 @@ put-lrus-requires : tie.Need-put-lrus-requires
 put-lrus-requires c κs =
     let f = c .before .before .before .before .before .before .before .before .before .before .before .before .before in
     let a = start (f .before) in
-    ((omega (arith, f .fill-dirty .kept .0, a .pre .0 .short, buckets-length (a .args .taken .now)), a .pre .0 .sectors), record { placed = placed a; dirty = f .fill-dirty .ensures })
+    ((omega (arith, f .fill-dirty .kept .0, a .pre .0 .short, table-length (a .args .taken .now)), a .pre .0 .sectors), record { placed = placed a; dirty = f .fill-dirty .ensures })
 
 put-queue-requires : tie.Need-put-queue-requires
 put-queue-requires c κs = c .before .before .before .before .before .before .before .before .before .before .before .before .before .before .before .before .before .before .before .before .before .before .before .before .before .pre .1 .0
