@@ -1,17 +1,18 @@
 // The change list of a placement.
 ghost use mathlib.Core.Path.{_≡_};
-ghost use Prim.Native.Nat.{_<_};
+ghost use Prim.Native.Nat.{_<_, _≤_};
+ghost use lib.ListN.{length};
 ghost use mathlib.Core.Bool.{_&&_};
 ghost use mathlib.Core.List.{[], _∷_, map};
 ghost use Rattle.wire.specs.Encode.{encode, encodeField};
 ghost use Rattle.calls.specs.Clock.{clockOf};
 ghost use Rattle.calls.specs.Lru.{lruWanted};
 ghost use Rattle.calls.specs.ChangeList.{takenField, sectorsField, changeBytes};
-ghost use Rattle.calls.specs.Place.{rootMissing, rootsIf};
-ghost use Rattle.calls.specs.Answers.{readVolume};
+ghost use Rattle.calls.specs.Place.{rootMissing, rootsIf, placedOf};
+ghost use Rattle.calls.specs.Answers.{readCall, readVolume};
 ghost use Rattle.change_fields.specs.FieldBytes.{rootsBytes};
 ghost use Rattle.wire.specs.Kinds.{bucketsIn};
-ghost use Rattle.place_keys.specs.Plan.{Plan};
+ghost use Rattle.place_keys.specs.Plan.{Plan, Dirty};
 ghost use Rattle.place_keys.specs.Queue.{Walk};
 ghost use Rattle.wire.specs.Output.{Emitted};
 ghost use Rattle.place.specs.Change.{placement, keyFields, otherFields};
@@ -19,9 +20,9 @@ use accounting::place_rows;
 use accounting::tally as tallies;
 use change_fields::end;
 use change_fields::roots as root_fields;
+use freespace::take::Walked;
 use place_keys::allocs;
 use place_keys::backpointers;
-use place_keys::dirty;
 use place_keys::extents;
 use place_keys::lru;
 use place_keys::queue;
@@ -38,23 +39,21 @@ pub fn put_keys(
     pieces: &[u32],
     taken: &[u64],
     gens: &[u8],
+    dirty: &[u32],
     runs: &[u32],
-    passed: usize,
-    left: u32,
+    w: Walked,
     h: Head,
     clock: u64,
 ) -> usize
     requires { ⌜ Plan (now s) (now pieces) (bucketsIn (now taken)) (now gens) h ⌝ }
-    requires { ⌜ Walk (now s) (now runs) passed left ⌝ }
-    requires { ⌜ clockOf (readVolume (now s) .trees .alloc) ≡ clock ⌝ }
+    requires { ⌜ (length (now taken) ≤ length (now dirty)) × Dirty (placedOf (readCall (now s))) (bucketsIn (now taken)) (now dirty) ⌝ }
+    requires { ⌜ Walk (now s) (now runs) (w .passed) (w .left) × (clockOf (readVolume (now s) .trees .alloc) ≡ clock) ⌝ }
     ensures { λ r. ⌜ Emitted (now (out .entry)) at (encode (keyFields (placement (now (s .entry))))) (now (out .exit)) r ⌝ }
 {
-    let mut dirty = [0u32; 1024];
-    dirty::fill_dirty(&mut dirty, s, pieces, taken, gens, h);
     let p = extents::put_extents(out, at, s, pieces, taken, gens, h);
-    let p = allocs::put_allocs(out, p, taken, gens, &dirty, h.journal, clock);
-    let p = lru::put_lrus(out, p, taken, &dirty, h.bucket_sectors as u64);
-    let p = queue::put_queue(out, p, s, runs, passed, left);
+    let p = allocs::put_allocs(out, p, taken, gens, dirty, h.journal, clock);
+    let p = lru::put_lrus(out, p, taken, dirty, h.bucket_sectors as u64);
+    let p = queue::put_queue(out, p, s, runs, w.passed, w.left);
     backpointers::put_backpointers(out, p, s, pieces, taken, gens, h)
 }
 
@@ -121,29 +120,17 @@ pub fn put_change(
     pieces: &[u32],
     taken: &[u64],
     gens: &[u8],
+    dirty: &[u32],
     runs: &[u32],
-    passed: usize,
-    left: u32,
+    w: Walked,
     h: Head,
     clock: u64,
 ) -> usize
     requires { ⌜ Plan (now s) (now pieces) (bucketsIn (now taken)) (now gens) h ⌝ }
-    requires { ⌜ Walk (now s) (now runs) passed left ⌝ }
-    requires { ⌜ clockOf (readVolume (now s) .trees .alloc) ≡ clock ⌝ }
+    requires { ⌜ (length (now taken) ≤ length (now dirty)) × Dirty (placedOf (readCall (now s))) (bucketsIn (now taken)) (now dirty) ⌝ }
+    requires { ⌜ Walk (now s) (now runs) (w .passed) (w .left) × (clockOf (readVolume (now s) .trees .alloc) ≡ clock) ⌝ }
     ensures { λ r. ⌜ Emitted (now (out .entry)) at (changeBytes (placement (now (s .entry)) ∷ [])) (now (out .exit)) r ⌝ }
 {
-    let p = put_keys(
-        out,
-        at,
-        s,
-        pieces,
-        taken,
-        gens,
-        runs,
-        passed,
-        left,
-        h,
-        clock,
-    );
+    let p = put_keys(out, at, s, pieces, taken, gens, dirty, runs, w, h, clock);
     put_others(out, p, s, pieces, taken, gens, h)
 }

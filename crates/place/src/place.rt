@@ -1,24 +1,27 @@
 // The call: a list is read, then answered.
 ghost use mathlib.Core.Path.{_≡_};
 ghost use mathlib.Core.List.{[], _∷_};
+ghost use Prim.Native.Nat.{_≤_};
 ghost use lib.ListN.{length};
 ghost use Rattle.wire.specs.Kinds.{bucketsIn};
 ghost use Rattle.calls.specs.Answers as answers;
 ghost use Rattle.calls.specs.Answers.{answer, made, outcome, readCall, readVolume};
 ghost use Rattle.calls.specs.ChangeList.{changeBytes};
 ghost use Rattle.calls.specs.Clock.{clockOf};
-ghost use Rattle.calls.specs.Place.{placeTests};
+ghost use Rattle.calls.specs.Place.{placeTests, placedOf};
 ghost use Rattle.reader.specs.Located.{KeysAt};
 ghost use Rattle.reader.specs.Readings.{callRefusal, ListRead};
 ghost use Rattle.reader.specs.Table.{Fits};
 ghost use Rattle.place_tests.specs.Called.{Called};
 ghost use Rattle.place.specs.Change.{placement};
 ghost use Rattle.place.specs.Planned.{PlanFor};
-ghost use Rattle.place_keys.specs.Plan.{Plan};
+ghost use Rattle.place_keys.specs.Plan.{Plan, Dirty};
 ghost use Rattle.place_keys.specs.Queue.{Walk};
 use crate::change;
+use freespace::take::Walked;
 use gens::records;
 use place_keys::clock;
+use place_keys::dirty;
 use place_keys::generations;
 use place_tests::refusals;
 use reader::call;
@@ -34,14 +37,15 @@ fn write_change(
     pieces: &[u32],
     taken: &[u64],
     gens: &[u8],
-    passed: usize,
-    left: u32,
+    dirty: &[u32],
+    w: Walked,
     clock: u64,
     out: &mut [u8],
     written: &mut usize,
 ) -> u32
     requires { ⌜ Plan (now s) (now pieces) (bucketsIn (now taken)) (now gens) h ⌝ }
-    requires { ⌜ Walk (now s) (now runs) passed left × (clockOf (readVolume (now s) .trees .alloc) ≡ clock) × (now written ≡ 0) ⌝ }
+    requires { ⌜ (length (now taken) ≤ length (now dirty)) × Dirty (placedOf (readCall (now s))) (bucketsIn (now taken)) (now dirty) ⌝ }
+    requires { ⌜ Walk (now s) (now runs) (w .passed) (w .left) × (clockOf (readVolume (now s) .trees .alloc) ≡ clock) × (now written ≡ 0) ⌝ }
     ensures { λ r. ⌜ made r (now (written .exit)) (now (out .exit)) ≡ outcome (answer [] (changeBytes (placement (now (s .entry)) ∷ [])) (length (now (out .entry)))) (now (out .entry)) ⌝ }
 {
     let mut one = [0u8; 1];
@@ -52,20 +56,20 @@ fn write_change(
         pieces,
         taken,
         gens,
+        dirty,
         runs,
-        passed,
-        left,
+        w,
         h,
         clock,
     );
     if out.len() < n {
         return 21;
     }
-    *written = change::put_change(out, 0, s, pieces, taken, gens, runs, passed, left, h, clock);
+    *written = change::put_change(out, 0, s, pieces, taken, gens, dirty, runs, w, h, clock);
     0
 }
 
-// The answer where the buckets are taken: their generations and the clock, and the change list.
+// The answer where the buckets are taken: their generations, their dirty counts and the clock, and the change list.
 fn place_buckets(
     s: &[u8],
     h: Head,
@@ -74,20 +78,21 @@ fn place_buckets(
     gens: &[u32],
     pieces: &[u32],
     taken: &[u64],
-    passed: usize,
-    left: u32,
+    w: Walked,
     out: &mut [u8],
     written: &mut usize,
 ) -> u32
     requires { ⌜ PlanFor (now s) h (now pieces) (bucketsIn (now taken)) ⌝ }
-    requires { ⌜ Walk (now s) (now runs) passed left × KeysAt (now s) (now alloc) (readVolume (now s) .trees .alloc) × KeysAt (now s) (now gens) (readVolume (now s) .trees .gens) × (now written ≡ 0) ⌝ }
+    requires { ⌜ Walk (now s) (now runs) (w .passed) (w .left) × KeysAt (now s) (now alloc) (readVolume (now s) .trees .alloc) × KeysAt (now s) (now gens) (readVolume (now s) .trees .gens) × (now written ≡ 0) ⌝ }
     ensures { λ r. ⌜ made r (now (written .exit)) (now (out .exit)) ≡ outcome (answer [] (changeBytes (placement (now (s .entry)) ∷ [])) (length (now (out .entry)))) (now (out .entry)) ⌝ }
 {
     let n = taken.len();
     let mut records = [0u32; 256];
     let mut generations = [0u8; 1024];
+    let mut dirty = [0u32; 1024];
     records::find_records(s, gens, &mut records);
     generations::fill_gens(&mut generations, s, &records, taken);
+    dirty::fill_dirty(&mut dirty, s, pieces, taken, &generations[..n], h);
     let clock = clock::write_clock(s, alloc);
     write_change(
         s,
@@ -96,8 +101,8 @@ fn place_buckets(
         pieces,
         taken,
         &generations[..n],
-        passed,
-        left,
+        &dirty,
+        w,
         clock,
         out,
         written,
@@ -133,8 +138,7 @@ fn place_lists(
         gens,
         pieces,
         &taken[..n],
-        w.passed,
-        w.left,
+        w,
         out,
         written,
     )

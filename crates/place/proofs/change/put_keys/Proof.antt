@@ -11,16 +11,10 @@ use Rattle.place_keys.specs.Plan.{AllocsOf}
 use Rattle.wire.proofs.EmitLaws.{emitted, and-then}
 use Rattle.place_keys.proofs.StepLaws.{gens-length}
 use Rattle.change_fields.proofs.BucketTables.{table-length}
-use Rattle.place.proofs.ChangeLaws.{keys-of, zero-at}
+use Rattle.place.proofs.ChangeLaws.{keys-of}
 use borrow.Author.Needs.{needs}
 use Rattle.place.proofs.change.put_keys.Statement.{statement}
 use Rattle.place.proofs.change.put_keys.Tie as tie
-
-slice-aggregate-fill-dirty : tie.Need-slice-aggregate-fill-dirty
-slice-aggregate-fill-dirty c = search needs
-
-abbrev start : tie.After-dirty → tie.Start
-start c = c .before .before .before .before .before .before .before
 
 -- the volume and the placed pieces that the keys are of
 abbrev volume : tie.Start → Volume
@@ -30,40 +24,32 @@ abbrev placed : tie.Start → List calls.Placed
 placed a = placedOf (readCall (a .args .s .now))
 
 allocs-of : (a : tie.Start) → AllocsOf (volume a) (bucketsIn (a .args .taken .now)) (a .args .gens .now) (a .args .h .journal) (a .args .clock)
-allocs-of a = record { number = ap (λ (x : Head). x .journal) (sym (a .pre .0 .head)); gens = a .pre .0 .gens; time = a .pre .1 .1 }
+allocs-of a = record { number = ap (λ (x : Head). x .journal) (sym (a .pre .0 .head)); gens = a .pre .0 .gens; time = a .pre .1 .1 .1 }
 
-fill-dirty-requires : tie.Need-fill-dirty-requires
-fill-dirty-requires c κs = let a = start c in (a .pre .0, (omega (arith, a .pre .0 .short, table-length (a .args .taken .now)), λ k. zero-at 1024 k))
+abbrev start : tie.After-put-extents → tie.Start
+start c = c .before .before .before .before .before .before .before .before .before
 
 put-extents-requires : tie.Need-put-extents-requires
 put-extents-requires c κs = search needs
 
-slice-aggregate-put-allocs : tie.Need-slice-aggregate-put-allocs
-slice-aggregate-put-allocs c = search needs
-
 put-allocs-requires : tie.Need-put-allocs-requires
 put-allocs-requires c κs =
-    let f = c .before .before .before .before .before .before .before in
-    let a = start (f .before) in
-    ((omega (arith, gens-length (a .pre .0), table-length (a .args .taken .now)), omega (arith, f .fill-dirty .kept .0, a .pre .0 .short, table-length (a .args .taken .now))), (record { volume = volume a; allocs = allocs-of a }, record { placed = placed a; dirty = f .fill-dirty .ensures }))
-
-slice-aggregate-put-lrus : tie.Need-slice-aggregate-put-lrus
-slice-aggregate-put-lrus c = search needs
+    let a = start (c .before .before .before) in (
+      (omega (arith, gens-length (a .pre .0), table-length (a .args .taken .now)), a .pre .1 .0 .0),
+      (record { volume = volume a; allocs = allocs-of a }, record { placed = placed a; dirty = a .pre .1 .0 .1 }),
+    )
 
 cast-put-lrus : tie.Need-cast-put-lrus
 cast-put-lrus c = search needs
 
 put-lrus-requires : tie.Need-put-lrus-requires
-put-lrus-requires c κs =
-    let f = c .before .before .before .before .before .before .before .before .before .before .before .before .before in
-    let a = start (f .before) in
-    ((omega (arith, f .fill-dirty .kept .0, a .pre .0 .short, table-length (a .args .taken .now)), a .pre .0 .sectors), record { placed = placed a; dirty = f .fill-dirty .ensures })
+put-lrus-requires c κs = let a = start (c .before .before .before .before .before .before .before .before) in ((a .pre .1 .0 .0, a .pre .0 .sectors), record { placed = placed a; dirty = a .pre .1 .0 .1 })
 
 put-queue-requires : tie.Need-put-queue-requires
-put-queue-requires c κs = c .before .before .before .before .before .before .before .before .before .before .before .before .before .before .before .before .before .before .before .before .before .before .before .before .before .pre .1 .0
+put-queue-requires c κs = start (c .before .before .before .before .before .before .before .before .before .before .before .before) .pre .1 .1 .0
 
 put-backpointers-requires : tie.Need-put-backpointers-requires
-put-backpointers-requires c κs = c .before .before .before .before .before .before .before .before .before .before .before .before .before .before .before .before .before .before .before .before .before .before .before .before .before .before .before .before .before .pre .0
+put-backpointers-requires c κs = start (c .before .before .before .before .before .before .before .before .before .before .before .before .before .before .before .before) .pre .0
 
 same-length : tie.Need-same-length
 same-length c = search needs
@@ -73,25 +59,20 @@ returns c =
     let b = c .before .before in
     let q = b .before .before .before .before in
     let l = q .before .before .before .before in
-    let m = l .before .before .before .before .before .before in
-    let e = m .before .before .before .before .before in
-    let f = e .before .before .before in
-    let a = start (f .before) in
+    let m = l .before .before .before .before .before in
+    let e = m .before .before .before .before in
+    let a = start e in
     emitted (sym (keys-of (a .pre .0)))
     (and-then (e .put-extents .ensures)
-    (and-then (m .put-allocs .ensures (volume a) (placed a) (allocs-of a) (f .fill-dirty .ensures))
-    (and-then (l .put-lrus .ensures (placed a) (f .fill-dirty .ensures)) (and-then (q .put-queue .ensures) (b .put-backpointers .ensures)))))
+    (and-then (m .put-allocs .ensures (volume a) (placed a) (allocs-of a) (a .pre .1 .0 .1))
+    (and-then (l .put-lrus .ensures (placed a) (a .pre .1 .0 .1)) (and-then (q .put-queue .ensures) (b .put-backpointers .ensures)))))
 
 pub put-keys-spec : {M : Type 1} → statement M
 put-keys-spec =
     tie.close
     (tie.spec
-    slice-aggregate-fill-dirty
-    fill-dirty-requires
     put-extents-requires
-    slice-aggregate-put-allocs
     put-allocs-requires
-    slice-aggregate-put-lrus
     cast-put-lrus
     put-lrus-requires
     put-queue-requires
