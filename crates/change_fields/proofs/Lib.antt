@@ -1,2 +1,3 @@
+pub mod BucketTables
 pub mod FieldLists
 pub mod LruLaws

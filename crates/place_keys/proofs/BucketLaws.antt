@@ -4,14 +4,13 @@ use mathlib.Core.Bool.{Bool, true, false, cond}
 use mathlib.Core.List.{List, [], _∷_}
 use Prim.Native.Nat.{ℕ, _+_, _*_, _≤_, _<_}
 use native.Mathlib.Omega.{arith}
-use lib.ListN.{length, drop, getD, set, length-set, List·getD-map, drop-of-length-le}
+use lib.ListN.{length, getD, set, length-set}
 use lib.Seq.{getD-set-same, getD-set-other}
 use lib.Dec.{eqb}
 use borrow.Author.Tests.{eq-eqb, eqb-true}
-use Rattle.wire.specs.Kinds.{noBucket, sameBucket, bucketIs, bucketsIn}
+use Rattle.wire.specs.Kinds.{noBucket, sameBucket}
 use Rattle.wire.specs.Positions.{allocAt}
 use Rattle.wire.specs.declared.kinds.Bucket.{Bucket}
-use Rattle.wire.proofs.OutputLaws.{drop-next}
 use Rattle.format.specs.AllocV4.{newAlloc}
 use Rattle.calls.specs.Lists.{total}
 use Rattle.calls.specs.CallList.{Volume}
@@ -24,18 +23,8 @@ use Rattle.reader.specs.declared.head.Head.{Head}
 use Rattle.place_keys.specs.Plan.{Plan, Reached, Stepped, Dirty, AllocsOf, placedFrom}
 use Rattle.place_keys.specs.declared.placed.Cursor.{Cursor}
 use Rattle.place_keys.specs.declared.placed.Step.{Step}
-use Rattle.place_keys.proofs.StepLaws.{buckets-length, map-at}
+use Rattle.place_keys.proofs.StepLaws.{map-at}
 use Rattle.place_keys.proofs.WalkLaws.{first, from-first, reached-first, no-more}
-
--- the buckets from index i on
-pub taken-next : (ns : List ℕ) (i : ℕ) → i < length ns → drop i (bucketsIn ns) ≡ bucketIs (getD ns i 0) ∷ drop (i + 1) (bucketsIn ns)
-unfolding bucketsIn
-taken-next ns i h =
-    drop-next noBucket (bucketsIn ns) i (omega (arith, buckets-length ns))
-    ∙ ap (λ b. b ∷ drop (i + 1) (bucketsIn ns)) (List·getD-map bucketIs ns i 0)
-
-pub taken-none : (ns : List ℕ) (i : ℕ) → length ns ≤ i → drop i (bucketsIn ns) ≡ []
-taken-none ns i h = drop-of-length-le (bucketsIn ns) {i = i} (omega (arith, buckets-length ns))
 
 -- the alloc key of the bucket at an index
 pub alloc-key : {v : Volume} {ps : List calls.Placed} {bs : List Bucket} {gs ds : List ℕ} {journal clock : ℕ} (i : ℕ) {b : Bucket} → AllocsOf v bs gs journal clock

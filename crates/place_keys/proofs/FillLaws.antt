@@ -8,7 +8,7 @@ use lib.ListN.{length, take, drop, getD, set}
 use lib.Seq.{take-suc-set, append-snoc}
 use Rattle.wire.specs.declared.kinds.Bucket.{Bucket}
 use Rattle.wire.specs.Kinds.{bucketIs, bucketsIn}
-use Rattle.place_keys.proofs.BucketLaws.{taken-next, taken-none}
+use Rattle.change_fields.proofs.BucketTables.{table-next, table-none}
 
 module _ (g : Bucket → ℕ) (ns : List ℕ) where
   -- those of the first i are filled in
@@ -21,12 +21,12 @@ module _ (g : Bucket → ℕ) (ns : List ℕ) where
       let rest = map g (drop (i + 1) (bucketsIn ns)) in
       let w : take (i + 1) (set out i x) ≡ take i out ++ (x ∷ []) = rw add-one (take-suc-set out i x l) in
       ap (λ (a : List ℕ). a ++ rest) w ∙ append-snoc (take i out) x rest
-      ∙ ap (λ (bs : List Bucket). take i out ++ map g bs) (sym (taken-next ns i h))
+      ∙ ap (λ (bs : List Bucket). take i out ++ map g bs) (sym (table-next ns i h))
       ∙ f
 
   pub filled-end : (out : List ℕ) (i : ℕ) → Filled out i → i ≤ length ns → length ns ≤ i → take (length ns) out ≡ map g (bucketsIn ns)
   filled-end out i f l h =
       let e : length ns ≡ i = omega arith in
       ap (λ (n : ℕ). take n out) e ∙ sym (append-nil (take i out))
-      ∙ ap (λ (bs : List Bucket). take i out ++ map g bs) (sym (taken-none ns i h))
+      ∙ ap (λ (bs : List Bucket). take i out ++ map g bs) (sym (table-none ns i h))
       ∙ f

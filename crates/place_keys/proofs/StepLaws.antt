@@ -42,10 +42,6 @@ bucket-at [] i = refl
 bucket-at (n ∷ ns) zero = refl
 bucket-at (n ∷ ns) (suc i) = bucket-at ns i
 
-pub buckets-length : (ns : List ℕ) → length (bucketsIn ns) ≡ length ns
-unfolding bucketsIn
-buckets-length ns = length-map ns bucketIs
-
 pub map-at : (f : Bucket → ℕ) (bs : List Bucket) (i : ℕ) → i < length bs → getD (map f bs) i 0 ≡ f (bucketAt noBucket bs i)
 unfolding bucketAt
 map-at f [] i h = absurd (omega arith)

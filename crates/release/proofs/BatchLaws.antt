@@ -36,7 +36,7 @@ use Rattle.release_sums.proofs.FoundLaws.{freed-up, found-freed}
 use Rattle.release_keys.specs.Counting.{keptOf, lostOf}
 use Rattle.change_fields.specs.FieldBytes.{keysBytes, rootsBytes}
 use Rattle.release_keys.specs.Tables.{Unrefused, UnrefusedIn, UnrefusedAt}
-use Rattle.release_keys.proofs.FreedBucketLaws.{buckets-length}
+use Rattle.change_fields.proofs.BucketTables.{table-length}
 use Rattle.release.specs.Outcomes.{BatchTables}
 
 -- ---- the batch
@@ -120,7 +120,7 @@ module _ {s : List ℕ} {h : Head} {requests buckets freed places records emptie
   tables-few =
       omega (
         arith,
-        buckets-length buckets,
+        table-length buckets,
         ap length (d .tables .summed .named),
         named-few (h .bucketSectors) rs,
         d .tables .summed .requested .count,
@@ -131,8 +131,8 @@ module _ {s : List ℕ} {h : Head} {requests buckets freed places records emptie
   emptied-few =
       omega (
         arith,
-        buckets-length emptied,
-        buckets-length buckets,
+        table-length emptied,
+        table-length buckets,
         ap length (d .chosen),
         those-length (isEmptied (d .tables .volume) rs) (bucketsIn buckets),
         tables-few,
@@ -177,4 +177,4 @@ one-batch b = ap encode (append-nil (batchFields b))
 -- no more are picked than there are
 pub listed-short : (t : Bucket → Bool) (bs : List ℕ) {value : Bucket → ℕ} {buckets freed : List ℕ} {n : ℕ} → BucketsListed (those t (bucketsIn bs)) value buckets freed n
     → n ≤ length bs
-listed-short t bs l = omega (arith, l .count, those-length t (bucketsIn bs), buckets-length bs)
+listed-short t bs l = omega (arith, l .count, those-length t (bucketsIn bs), table-length bs)

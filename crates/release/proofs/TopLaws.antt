@@ -23,8 +23,8 @@ use Rattle.release_sums.specs.Freeds.{freedsIn, Requested}
 use Rattle.release_sums.specs.Summing.{Cleared, BucketsListed}
 use Rattle.release_sums.proofs.FoundLaws.{freed-up}
 use Rattle.release_keys.specs.Tables.{PlacesOf, FreedTables, Unrefused}
-use Rattle.release_keys.proofs.FreedBucketLaws.{bucket-at, buckets-length}
 use Rattle.release_keys.proofs.GenRecordLaws.{generation-at}
+use Rattle.change_fields.proofs.BucketTables.{table-at, table-length}
 use Rattle.release.specs.Outcomes.{Summed, VolumeTables, BatchTables, bucketTests}
 use Rattle.release.proofs.BatchLaws.{in-at}
 
@@ -49,7 +49,7 @@ module _ {s : List ℕ} {sectors : ℕ} {requests buckets freed : List ℕ} (m :
 
   pub summed-few : length buckets ≤ 1024
   summed-few =
-      omega (arith, buckets-length buckets, ap length (m .named), named-few sectors pieces, m .requested .count, m .few)
+      omega (arith, table-length buckets, ap length (m .named), named-few sectors pieces, m .requested .count, m .few)
 
   pub summed-up : inOrder bucketBelow (bucketsIn buckets) ≡ true
   summed-up = rw (m .named) (up-order 0 (freedBuckets sectors pieces) (freed-up sectors pieces))
@@ -60,14 +60,14 @@ module _ {s : List ℕ} {sectors : ℕ} {requests buckets freed : List ℕ} (m :
       let a : freed ≡ map (freedIn sectors pieces) (bucketsIn buckets) = m .sums ∙ ap (map (freedIn sectors pieces)) (sym (m .named)) in
       record {
         named = m .named ∙ ap (λ (n : ℕ). freedBuckets n pieces) (sym e);
-        sums = ap length a ∙ length-map (bucketsIn buckets) (freedIn sectors pieces) ∙ buckets-length buckets;
+        sums = ap length a ∙ length-map (bucketsIn buckets) (freedIn sectors pieces) ∙ table-length buckets;
         keys = p .count;
         at = λ i h.
-            rw (bucket-at buckets i)
+            rw (table-at buckets i)
             (record {
               low = lt-ltb (getD buckets i 0) 65536 (named-range sectors pieces (m .checked) (bucket (getD buckets i 0)) (ap (λ (l : List Bucket). isIn l (bucket (getD buckets i 0))) (sym (m .named)) ∙ in-at buckets i h));
               freed = generation-at freed buckets (freedIn sectors pieces) i h a ∙ ap (λ (n : ℕ). freedIn n pieces (bucket (getD buckets i 0))) (sym e);
-              key = rw (bucket-at buckets i) at (p .at i h);
+              key = rw (table-at buckets i) at (p .at i h);
             });
       }
 

@@ -24,11 +24,11 @@ use Rattle.calls.proofs.trees.TreeLaws.{onEq-ne}
 use Rattle.calls.proofs.history.View.{bucket}
 use Rattle.reader.specs.KeyHere.{keysHere}
 use Rattle.reader.specs.Located.{noKey}
+use Rattle.change_fields.proofs.BucketTables.{table-at}
 use Rattle.release_keys.specs.Places.{Keyed, PlaceOf, missing, found}
 use Rattle.release_keys.specs.Skipping.{Skipped}
 use Rattle.release_keys.specs.Tables.{PlacesOf}
 use Rattle.release_keys.proofs.PlaceLaws.{keyed-next}
-use Rattle.release_keys.proofs.FreedBucketLaws.{bucket-at}
 
 -- a key that stands before p is not at q, which does not
 pub look-past : (q p : Bpos) (k : Key) (ks : List Key) → posLess (k .pos) p ≡ true → posLess q p ≡ false → lookup q (k ∷ ks) ≡ lookup q ks
@@ -182,5 +182,5 @@ pub walk-ends : {s buckets places₀ places : List ℕ} {ks : List Key} {i k : �
 walk-ends {buckets = buckets} {places = places} c w h =
     record {
       count = length-take-le (length buckets) places (omega (arith, w .size));
-      at = λ j l. rw (getD-take (length buckets) places j 0 l, bucket-at buckets j) (w .done j (omega arith));
+      at = λ j l. rw (getD-take (length buckets) places j 0 l, table-at buckets j) (w .done j (omega arith));
     }

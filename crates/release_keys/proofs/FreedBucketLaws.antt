@@ -2,13 +2,12 @@
 use mathlib.Core.Bool.{true}
 use mathlib.Core.Path.{_≡_, sym, ap, _∙_}
 use mathlib.Core.List.{List, [], _∷_, map}
-use Prim.Native.Nat.{ℕ, zero, suc, _+_, _≤_, _<_}
+use Prim.Native.Nat.{ℕ, zero, suc, _≤_, _<_}
 use native.Mathlib.Omega.{arith}
-use lib.ListN.{length, getD, drop, length-map, drop-of-length-le, List·getD-map}
+use lib.ListN.{length, getD, drop}
 use Rattle.wire.specs.Keys.{Key}
 use Rattle.wire.specs.Kinds.{noBucket, bucketsIn, bucketInRange}
 use Rattle.wire.specs.declared.kinds.Bucket.{Bucket}
-use Rattle.wire.proofs.OutputLaws.{drop-next}
 use Rattle.format.specs.Packing.{get}
 use Rattle.format.specs.AllocV4.{dirtySectors}
 use Rattle.calls.specs.CallList.{Volume, Freed}
@@ -19,40 +18,22 @@ use Rattle.calls.proofs.answers.RefusalLaws.{verdict-ok}
 use Rattle.calls.proofs.release.ReleaseLaws.{Held, held-of}
 use Rattle.calls.proofs.history.View.{bucket}
 use Rattle.reader.specs.KeyHere.{keyHere, Whole}
-use Rattle.release_sums.proofs.FreedLaws.{all-drop, all-first}
+use Rattle.reader.proofs.AllLaws.{all-drop, all-first}
+use Rattle.change_fields.proofs.BucketTables.{table-at, table-next}
 use Rattle.release_keys.specs.FreedBuckets.{freedBucketOf}
 use Rattle.release_keys.specs.declared.freed_buckets.FreedBucket.{FreedBucket}
 use Rattle.release_keys.specs.Tables.{FreedEntry, FreedTables, Unrefused}
 use Rattle.release_keys.proofs.PlaceLaws.{place-some, place-found}
 use Rattle.release_keys.proofs.RefusalLaws.{dirty-is}
 
--- the bucket at an index
-pub bucket-at : (ns : List ℕ) (k : ℕ) → getD (bucketsIn ns) k noBucket ≡ bucket (getD ns k 0)
-unfolding bucketsIn
-bucket-at ns k = List·getD-map bucket ns k 0
-
--- as many as there are numbers
-pub buckets-length : (ns : List ℕ) → length (bucketsIn ns) ≡ length ns
-unfolding bucketsIn
-buckets-length ns = length-map ns bucket
-
--- what is left from an index on: the bucket there, and the rest
-pub buckets-next : (ns : List ℕ) (k : ℕ) → k < length ns → drop k (bucketsIn ns) ≡ bucket (getD ns k 0) ∷ drop (k + 1) (bucketsIn ns)
-buckets-next ns k h =
-    drop-next noBucket (bucketsIn ns) k (omega (arith, buckets-length ns))
-    ∙ ap (λ (b : Bucket). b ∷ drop (k + 1) (bucketsIn ns)) (bucket-at ns k)
-
-pub buckets-none : (ns : List ℕ) (k : ℕ) → length ns ≤ k → drop k (bucketsIn ns) ≡ []
-buckets-none ns k h = let l : length (bucketsIn ns) ≤ k = omega (arith, buckets-length ns) in drop-of-length-le (bucketsIn ns) l
-
 -- each is within the limit
 pub range-at : (ns : List ℕ) → allOf bucketInRange (bucketsIn ns) ≡ true → (k : ℕ) → k < length ns → bucketInRange (bucket (getD ns k 0)) ≡ true
-range-at ns o k h = all-first bucketInRange (buckets-next ns k h) (all-drop bucketInRange k (bucketsIn ns) o)
+range-at ns o k h = all-first bucketInRange (all-drop bucketInRange (bucketsIn ns) k o) (table-next ns k h)
 
 -- what the tables say of the bucket at an index
 pub entry-at : {s : List ℕ} {v : Volume} {rs : List Freed} {buckets freed places : List ℕ} → FreedTables s v rs buckets freed places → (k : ℕ) → k < length buckets
     → FreedEntry s v rs (bucket (getD buckets k 0)) (getD freed k 0) (getD places k 0)
-entry-at {buckets = buckets} t k h = rw (bucket-at buckets k) at (t .at k h)
+entry-at {buckets = buckets} t k h = rw (table-at buckets k) at (t .at k h)
 
 -- a test over the buckets of tables is one over those that requests name
 pub tabled-verdict : {s : List ℕ} {v : Volume} {rs : List Freed} {buckets freed places : List ℕ} {sectors : ℕ} → FreedTables s v rs buckets freed places
@@ -80,7 +61,7 @@ pub record AllocHeld (s : List ℕ) (sectors sum place : ℕ) : Type 0 where
 module _ {s buckets freed places : List ℕ} (p : Unrefused s buckets freed places) (k : ℕ) (h : k < length buckets) where
   pub held-at : Held (p .volume) (p .requests) (bucket (getD buckets k 0))
   held-at =
-      let e = ap (drop k) (sym (p .tabled .named)) ∙ buckets-next buckets k h in
+      let e = ap (drop k) (sym (p .tabled .named)) ∙ table-next buckets k h in
       held-of (p .volume) (p .requests) (bucket (getD buckets k 0))
       (verdict-first (bucketRefusal (p .volume) (p .requests)) e (verdict-drop (bucketRefusal (p .volume) (p .requests)) k _ (p .none-refuses)))
 
@@ -108,7 +89,7 @@ freed-bucket-is {v = v} {rs} {b} {place = place} a r e =
 -- the freed bucket at an index, by its number
 pub by-number : (v : Volume) (rs : List Freed) (buckets : List ℕ) (k : ℕ) {x : FreedBucket} → x ≡ freedBucketOf v rs (getD (bucketsIn buckets) k noBucket)
     → x ≡ freedBucketOf v rs (bucket (getD buckets k 0))
-by-number v rs buckets k e = e ∙ ap (freedBucketOf v rs) (bucket-at buckets k)
+by-number v rs buckets k e = e ∙ ap (freedBucketOf v rs) (table-at buckets k)
 
 -- a bucket holds what is freed of it
 pub freed-held : {s buckets freed places : List ℕ} (p : Unrefused s buckets freed places) (k : ℕ) → k < length buckets → (x : FreedBucket)

@@ -32,11 +32,11 @@ use Rattle.calls.proofs.history.View.{bucket}
 use Rattle.reader.specs.KeyHere.{keyHere}
 use Rattle.gens.specs.Records.{recordAt}
 use Rattle.change_fields.specs.FieldBytes.{keysBytes}
+use Rattle.change_fields.proofs.BucketTables.{table-length, table-next, table-none}
 use Rattle.release_keys.specs.GenRecords.{GenerationsKnown, continued, Next}
 use Rattle.release_keys.specs.declared.gen_records.Queued.{Queued}
 use Rattle.change_fields.proofs.FieldLists.{fields-next, fields-none}
 use Rattle.release_keys.proofs.AllocLaws.{order-at}
-use Rattle.release_keys.proofs.FreedBucketLaws.{buckets-length, buckets-next, buckets-none}
 
 -- ---- a bucket's record in the tree, by its entry
 module _ (s : List ℕ) (gens : List Key) (b : Bucket) (at : ℕ) (e : recordAt s at ≡ genRecord gens b) where
@@ -114,7 +114,7 @@ module _ {gens : List Key} {generationOf : Bucket → ℕ} {emptied out₀ out :
       let i = queued-is generation next e n in
       record {
         records = key ∷ q .records;
-        part = turn _ (q .part) (queue-next generationOf (q .records) (buckets-next emptied k h)) (subst (λ (x : Key). Wrote out p m (encodeField (keyField 14 x)) zs r) i w);
+        part = turn _ (q .part) (queue-next generationOf (q .records) (table-next emptied k h)) (subst (λ (x : Key). Wrote out p m (encodeField (keyField 14 x)) zs r) i w);
         continues = λ j l m. go j l m (eqb (next .after) (getD emptied j 0 / 256 + 1)) refl;
         ahead = λ j l m. omega (arith, n .after, order-at emptied o k j (omega arith) m);
       }
@@ -141,7 +141,7 @@ module _ {gens : List Key} {generationOf : Bucket → ℕ} {emptied out₀ out :
 
 -- as many generations as buckets
 pub generations-count : {generations emptied : List ℕ} → GenerationsKnown generations emptied → length generations ≡ length emptied
-generations-count {emptied = emptied} a = ap length (a .are) ∙ length-map (bucketsIn emptied) (a .generationOf) ∙ buckets-length emptied
+generations-count {emptied = emptied} a = ap length (a .are) ∙ length-map (bucketsIn emptied) (a .generationOf) ∙ table-length emptied
 
 -- the generation at an index
 pub generation-at : (generations emptied : List ℕ) (generationOf : Bucket → ℕ) (k : ℕ) → k < length emptied → generations ≡ map generationOf (bucketsIn emptied) → getD generations k 0 ≡ generationOf (bucket (getD emptied k 0))
@@ -157,4 +157,4 @@ pub queue-ends : {gens : List Key} {generationOf : Bucket → ℕ} {emptied out�
     → length emptied ≤ k → Emitted out₀ at (keysBytes 14 (gensQueued generationOf gens (bucketsIn emptied))) out p
 unfolding gensQueued
 queue-ends {generationOf = generationOf} {emptied} {k = k} q h =
-    done (q .part) (fields-none (keyField 14) (ap (gensQueued generationOf (q .records)) (buckets-none emptied k h)))
+    done (q .part) (fields-none (keyField 14) (ap (gensQueued generationOf (q .records)) (table-none emptied k h)))

@@ -9,7 +9,8 @@ use Rattle.calls.specs.Place.{placedOf}
 use Rattle.calls.specs.Answers.{readCall, readVolume}
 use Rattle.place_keys.specs.Plan.{AllocsOf}
 use Rattle.wire.proofs.EmitLaws.{emitted, and-then}
-use Rattle.place_keys.proofs.StepLaws.{buckets-length, gens-length}
+use Rattle.place_keys.proofs.StepLaws.{gens-length}
+use Rattle.change_fields.proofs.BucketTables.{table-length}
 use Rattle.place.proofs.ChangeLaws.{keys-of}
 use borrow.Author.Needs.{needs}
 use Rattle.place.proofs.change.put_keys.Statement.{statement}
@@ -34,7 +35,7 @@ put-extents-requires c κs = search needs
 put-allocs-requires : tie.Need-put-allocs-requires
 put-allocs-requires c κs =
     let a = start (c .before .before .before) in (
-      (omega (arith, gens-length (a .pre .0), buckets-length (a .args .taken .now)), a .pre .1 .0 .0),
+      (omega (arith, gens-length (a .pre .0), table-length (a .args .taken .now)), a .pre .1 .0 .0),
       (record { volume = volume a; allocs = allocs-of a }, record { placed = placed a; dirty = a .pre .1 .0 .1 }),
     )
 

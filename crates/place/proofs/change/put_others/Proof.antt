@@ -8,8 +8,8 @@ use Rattle.calls.specs.Answers.{readCall}
 use Rattle.accounting.specs.Tally.{talliesOf}
 use Rattle.wire.specs.Kinds.{bucketsIn}
 use Rattle.wire.proofs.EmitLaws.{emitted, and-then}
-use Rattle.place_keys.proofs.StepLaws.{buckets-length}
 use Rattle.accounting.proofs.PlaceRowLaws.{placed-pieces}
+use Rattle.change_fields.proofs.BucketTables.{table-length}
 use Rattle.place.proofs.ChangeLaws.{others-of}
 use borrow.Author.Needs.{needs}
 use Rattle.place.proofs.change.put_others.Statement.{statement}
@@ -41,7 +41,7 @@ put-rows-requires : tie.Need-put-rows-requires
 put-rows-requires c κs =
     let k = c .before .before .before .before .before .before .before .before .before .before .before .before .before .before .before in
     let a = k .before .before .before .before .before .before in
-    ((omega (arith, a .pre .short, buckets-length (a .args .taken .now)), a .pre .option), record { buckets = bucketsIn (a .args .taken .now); placed = placed a; count = buckets-length (a .args .taken .now); tallied = record { is = tallied k; small = k .tally-pieces .ensures .small } })
+    ((omega (arith, a .pre .short, table-length (a .args .taken .now)), a .pre .option), record { buckets = bucketsIn (a .args .taken .now); placed = placed a; count = table-length (a .args .taken .now); tallied = record { is = tallied k; small = k .tally-pieces .ensures .small } })
 
 put-sectors-requires : tie.Need-put-sectors-requires
 put-sectors-requires c κs = search needs
@@ -62,7 +62,7 @@ returns c =
     let r = t .before .before .before .before in
     let k = r .before .before .before .before in
     let a = k .before .before .before .before .before .before in
-    let rows = w .put-rows .ensures (bucketsIn (a .args .taken .now)) (placed a) (buckets-length (a .args .taken .now)) (tallied k) in
+    let rows = w .put-rows .ensures (bucketsIn (a .args .taken .now)) (placed a) (table-length (a .args .taken .now)) (tallied k) in
     emitted (sym (others-of (a .pre) (k .tally-pieces .result) (k .tally-pieces .ensures .is)))
     (and-then (r .put-lru-root .ensures)
     (and-then (t .put-taken .ensures)

@@ -9,7 +9,7 @@ use Rattle.calls.specs.ChangeList.{takenField}
 use Rattle.wire.specs.Kinds.{bucketsIn}
 use Rattle.wire.proofs.EmitLaws.{done}
 use Rattle.change_fields.proofs.FieldLists.{fields-next, fields-none}
-use Rattle.place_keys.proofs.BucketLaws.{taken-next, taken-none}
+use Rattle.change_fields.proofs.BucketTables.{table-next, table-none}
 use Rattle.place.proofs.change.put_taken.Statement.{statement}
 use Rattle.place.proofs.change.put_taken.Tie as tie
 
@@ -42,7 +42,7 @@ loop-again c =
     let k = c .before .before in
     let l = k .before .before .before .before in
     let a = l .before .before .before in
-    turn _ (l .loop .inv) (fields-next takenField (taken-next (a .args .taken .now) (l .loop .i) (omega arith))) (k .put-bucket .ensures)
+    turn _ (l .loop .inv) (fields-next takenField (table-next (a .args .taken .now) (l .loop .i) (omega arith))) (k .put-bucket .ensures)
 
 same-length : tie.Need-same-length Inv-loop μ-loop
 same-length c = part-length (c .before .loop .inv)
@@ -50,7 +50,7 @@ same-length c = part-length (c .before .loop .inv)
 returns : tie.Need-returns Inv-loop μ-loop
 returns c =
     let l = c .before in
-    done (l .loop .inv) (fields-none takenField (taken-none (l .before .before .before .args .taken .now) (l .loop .i) (omega arith)))
+    done (l .loop .inv) (fields-none takenField (table-none (l .before .before .before .args .taken .now) (l .loop .i) (omega arith)))
 
 pub put-taken-spec : {M : Type 1} → statement M
 put-taken-spec =

@@ -10,7 +10,7 @@ use Rattle.wire.specs.Kinds.{bucketsIn}
 use Rattle.reader.proofs.KeyHereLaws.{keys-here, keyed}
 use Rattle.gens.specs.Records.{RecordsFound}
 use Rattle.place_keys.specs.Plan.{Plan}
-use Rattle.place_keys.proofs.StepLaws.{buckets-length}
+use Rattle.change_fields.proofs.BucketTables.{table-length}
 use Rattle.place.proofs.ChangeLaws.{zero-at}
 use borrow.Author.Needs.{needs}
 use Rattle.place.proofs.place.place_buckets.Statement.{statement}
@@ -21,7 +21,7 @@ start c = c .before .before .before .before .before .before .before .before .bef
 
 -- there is room for the generations
 short : (a : tie.Start) → length (a .args .taken .now) ≤ 1024
-short a = omega (arith, a .pre .0 .short, buckets-length (a .args .taken .now))
+short a = omega (arith, a .pre .0 .short, table-length (a .args .taken .now))
 
 find-records-requires : tie.Need-find-records-requires
 find-records-requires c κs =

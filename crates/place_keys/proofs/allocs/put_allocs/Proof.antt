@@ -10,11 +10,12 @@ use Rattle.calls.specs.CallList.{Volume}
 use Rattle.calls.specs.Extents as calls
 use Rattle.calls.specs.Place.{newAllocKey}
 use Rattle.wire.specs.Kinds.{bucketsIn}
+use Rattle.change_fields.proofs.BucketTables.{table-length, table-next, table-none}
 use Rattle.place_keys.specs.Plan.{Dirty, AllocsOf}
 use Rattle.wire.proofs.EmitLaws.{emitted, done}
 use Rattle.change_fields.proofs.FieldLists.{fields-next, fields-none}
-use Rattle.place_keys.proofs.StepLaws.{bucket-at, buckets-length}
-use Rattle.place_keys.proofs.BucketLaws.{taken-next, taken-none, alloc-key}
+use Rattle.place_keys.proofs.StepLaws.{bucket-at}
+use Rattle.place_keys.proofs.BucketLaws.{alloc-key}
 use Rattle.place_keys.proofs.allocs.put_allocs.Statement.{statement}
 use Rattle.place_keys.proofs.allocs.put_allocs.Tie as tie
 
@@ -63,8 +64,8 @@ loop-again c =
     let i = l .loop .i in
     let m : i < length (a .args .taken .now) = omega arith in (
       wrote-length (k .put-alloc .ensures) ∙ l .loop .inv .0,
-      λ v ps f d. turn _ (l .loop .inv .1 v ps f d) (fields-next (keyField 4) (ap (map (newAllocKey v ps)) (taken-next (a .args .taken .now) i m)))
-          (emitted (ap (λ k. encodeField (keyField 4 k)) (alloc-key i f d (omega (arith, m, buckets-length (a .args .taken .now))) (bucket-at (a .args .taken .now) i))) (k .put-alloc .ensures)),
+      λ v ps f d. turn _ (l .loop .inv .1 v ps f d) (fields-next (keyField 4) (ap (map (newAllocKey v ps)) (table-next (a .args .taken .now) i m)))
+          (emitted (ap (λ k. encodeField (keyField 4 k)) (alloc-key i f d (omega (arith, m, table-length (a .args .taken .now))) (bucket-at (a .args .taken .now) i))) (k .put-alloc .ensures)),
     )
 
 same-length : tie.Need-same-length Inv-loop μ-loop
@@ -74,7 +75,7 @@ returns : tie.Need-returns Inv-loop μ-loop
 returns c =
     let l = c .before in
     let a = l .before .before .before .before .before in
-    λ v ps f d. done (l .loop .inv .1 v ps f d) (fields-none (keyField 4) (ap (map (newAllocKey v ps)) (taken-none (a .args .taken .now) (l .loop .i) (omega arith))))
+    λ v ps f d. done (l .loop .inv .1 v ps f d) (fields-none (keyField 4) (ap (map (newAllocKey v ps)) (table-none (a .args .taken .now) (l .loop .i) (omega arith))))
 
 pub put-allocs-spec : {M : Type 1} → statement M
 put-allocs-spec =

@@ -3,9 +3,9 @@ use native.Mathlib.Omega.{arith}
 use mathlib.Core.Path.{_≡_, refl}
 use Prim.Native.Nat.{_-_, _<_}
 use lib.ListN.{length, length-set}
+use Rattle.change_fields.proofs.BucketTables.{table-length}
 use Rattle.place_keys.specs.Plan.{Plan}
 use Rattle.wire.specs.Kinds.{bucketsIn}
-use Rattle.place_keys.proofs.StepLaws.{buckets-length}
 use Rattle.place_keys.proofs.BucketLaws.{Counting, counting-first, counting-next, counting-end}
 use Rattle.place_keys.proofs.dirty.fill_dirty.Statement.{statement}
 use Rattle.place_keys.proofs.dirty.fill_dirty.Tie as tie
@@ -23,13 +23,13 @@ start c = c .before .before .before .before .before .before
 low : (c : tie.After-place-piece Inv-loop μ-loop) → c .place-piece .result .next .index < length (c .before .before .loop .dirty)
 low c =
     let l = c .before .before in
-    omega (arith, c .place-piece .ensures .index, l .loop .inv .0, start (l .before) .pre .1 .0, buckets-length (start (l .before) .args .taken .now))
+    omega (arith, c .place-piece .ensures .index, l .loop .inv .0, start (l .before) .pre .1 .0, table-length (start (l .before) .args .taken .now))
 
 start-requires : tie.Need-start-requires Inv-loop μ-loop
 start-requires c κs = tt
 
 loop-holds : tie.Need-loop-holds Inv-loop μ-loop
-loop-holds c = (refl, λ plan. rw (c .start .ensures) (counting-first plan (omega (arith, start c .pre .1 .0, buckets-length (start c .args .taken .now))) (start c .pre .1 .1)))
+loop-holds c = (refl, λ plan. rw (c .start .ensures) (counting-first plan (omega (arith, start c .pre .1 .0, table-length (start c .args .taken .now))) (start c .pre .1 .1)))
 
 place-piece-requires : tie.Need-place-piece-requires Inv-loop μ-loop
 place-piece-requires c κs = let a = start (c .before .before) in (a .pre .0, (omega arith, c .before .loop .inv .1 (a .pre .0) .reached))

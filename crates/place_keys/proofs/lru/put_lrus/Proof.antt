@@ -11,11 +11,11 @@ use Rattle.calls.specs.Lru.{lruKeys}
 use Rattle.calls.specs.Place.{dirtyIn}
 use Rattle.change_fields.specs.FieldBytes.{keysBytes}
 use Rattle.wire.specs.Kinds.{bucketIs, bucketsIn}
+use Rattle.change_fields.proofs.BucketTables.{table-length, table-next, table-none}
 use Rattle.place_keys.specs.Plan.{Dirty}
 use Rattle.wire.proofs.EmitLaws.{emitted, done}
 use Rattle.change_fields.proofs.FieldLists.{flat-next, flat-none}
-use Rattle.place_keys.proofs.StepLaws.{bucket-at, buckets-length}
-use Rattle.place_keys.proofs.BucketLaws.{taken-next, taken-none}
+use Rattle.place_keys.proofs.StepLaws.{bucket-at}
 use Rattle.place_keys.proofs.lru.put_lrus.Statement.{statement}
 use Rattle.place_keys.proofs.lru.put_lrus.Tie as tie
 
@@ -63,8 +63,8 @@ loop-again c =
     let n = a .args .sectors in
     let b = bucketIs (getD (a .args .taken .now) i 0) in (
       wrote-length (k .put-lru-key .ensures) ∙ l .loop .inv .0,
-      λ ps d. turn _ (l .loop .inv .1 ps d) (flat-next (keyField 10) (λ b. lruKeys n b (dirtyIn ps b)) (taken-next (a .args .taken .now) i m))
-          (emitted (ap (λ z. keysBytes 10 (lruKeys n b z)) (d .at i (omega (arith, m, buckets-length (a .args .taken .now))) ∙ ap (dirtyIn ps) (sym (bucket-at (a .args .taken .now) i)))) (k .put-lru-key .ensures)),
+      λ ps d. turn _ (l .loop .inv .1 ps d) (flat-next (keyField 10) (λ b. lruKeys n b (dirtyIn ps b)) (table-next (a .args .taken .now) i m))
+          (emitted (ap (λ z. keysBytes 10 (lruKeys n b z)) (d .at i (omega (arith, m, table-length (a .args .taken .now))) ∙ ap (dirtyIn ps) (sym (bucket-at (a .args .taken .now) i)))) (k .put-lru-key .ensures)),
     )
 
 same-length : tie.Need-same-length Inv-loop μ-loop
@@ -74,7 +74,7 @@ returns : tie.Need-returns Inv-loop μ-loop
 returns c =
     let l = c .before in
     let a = l .before .before .before .before in
-    λ ps d. done (l .loop .inv .1 ps d) (flat-none (keyField 10) (λ b. lruKeys (a .args .sectors) b (dirtyIn ps b)) (taken-none (a .args .taken .now) (l .loop .i) (omega arith)))
+    λ ps d. done (l .loop .inv .1 ps d) (flat-none (keyField 10) (λ b. lruKeys (a .args .sectors) b (dirtyIn ps b)) (table-none (a .args .taken .now) (l .loop .i) (omega arith)))
 
 pub put-lrus-spec : {M : Type 1} → statement M
 put-lrus-spec =

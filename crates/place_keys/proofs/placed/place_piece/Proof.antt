@@ -8,7 +8,8 @@ use Rattle.wire.specs.Kinds.{bucketInRange, bucketsIn}
 use Rattle.calls.specs.CallList.{pieceOf}
 use Rattle.reader.specs.Pieces.{pieceIn}
 use Rattle.reader.specs.declared.piece.Piece.{Piece}
-use Rattle.place_keys.proofs.StepLaws.{bucket-at, buckets-length, low-at, gens-length, slot-index, slot-offset, slot-used, stepped}
+use Rattle.change_fields.proofs.BucketTables.{table-length}
+use Rattle.place_keys.proofs.StepLaws.{bucket-at, low-at, gens-length, slot-index, slot-offset, slot-used, stepped}
 use borrow.Author.Needs.{needs}
 use Rattle.place_keys.proofs.placed.place_piece.Statement.{statement}
 use Rattle.place_keys.proofs.placed.place_piece.Tie as tie
@@ -44,7 +45,7 @@ got : (k : tie.After-next-fit) → pieceIn (p k) ≡ pieceOf (take 13 (drop (get
 got k = k .before .before .before .read-piece .ensures
 
 index : (k : tie.After-next-fit) → k .next-fit .result .index < length (start k .args .taken .now)
-index k = let a = start k in omega (arith, buckets-length (a .args .taken .now), slot-index (a .pre .0) (a .args .i) (a .pre .1 .0) (p k) (got k) (a .args .o) (a .pre .1 .1) (k .next-fit .result) (k .next-fit .ensures))
+index k = let a = start k in omega (arith, table-length (a .args .taken .now), slot-index (a .pre .0) (a .args .i) (a .pre .1 .0) (p k) (got k) (a .args .o) (a .pre .1 .1) (k .next-fit .result) (k .next-fit .ensures))
 
 offset : (k : tie.After-next-fit) → k .next-fit .result .offset < 65536
 offset k = let a = start k in slot-offset (a .pre .0) (a .args .i) (a .pre .1 .0) (p k) (got k) (a .args .o) (a .pre .1 .1) (k .next-fit .result) (k .next-fit .ensures)
@@ -72,7 +73,7 @@ sector-at-requires c κs =
     (ltb-true _ 65536 (ap bucketInRange (bucket-at ns i) ∙ low-at (bucketsIn ns) (start k .pre .0 .low) i), omega arith, offset k)
 
 shared-slice-read-t24 : tie.Need-shared-slice-read-t24
-shared-slice-read-t24 c = let k = c .before .before .before .before .before in omega (arith, index k, gens-length (start k .pre .0), buckets-length (start k .args .taken .now))
+shared-slice-read-t24 c = let k = c .before .before .before .before .before in omega (arith, index k, gens-length (start k .pre .0), table-length (start k .args .taken .now))
 
 add-t21 : tie.Need-add-t21
 add-t21 c = omega (arith, used (c .before .before .before .before .before .before))

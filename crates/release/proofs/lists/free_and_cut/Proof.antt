@@ -20,7 +20,7 @@ use Rattle.calls.specs.Lru.{needDiscardKey}
 use Rattle.release_sums.specs.Freeds.{freedsIn}
 use Rattle.change_fields.specs.FieldBytes.{keysBytes, rootsBytes}
 use Rattle.release_keys.specs.Counting.{keptOf, lostOf}
-use Rattle.release_keys.proofs.FreedBucketLaws.{buckets-length}
+use Rattle.change_fields.proofs.BucketTables.{table-length}
 use Rattle.release.proofs.BatchLaws.{batch-bytes, rows-are, sectors-are, tables-at, tables-in, tables-bounded, tables-few, emptied-few, emptied-are, emptied-up, emptied-low}
 use borrow.Author.Needs.{needs}
 use Rattle.release.proofs.lists.free_and_cut.Statement.{statement}
@@ -39,7 +39,7 @@ whole c d =
     let emptied = bucketsIn (a .args .emptied .now) in
     let size = sectors-are d in
     let journal = ap (λ (h : Head). h .journal) (d .tables .head) in
-    let many = sym (buckets-length (a .args .emptied .now)) in
+    let many = sym (table-length (a .args .emptied .now)) in
     let u = c .before .before .before .before .before .before .before .before .before .before .before .before .before .before .before .before .before .before .before .before .before .before .before .before .before .before .before .before .before .before .before .before .unused-in .ensures .2 v rs t size in
     let n = t .named in
     let ones = emitted (ap (λ (k : ℕ). keysBytes 10 (flatMap (releasedLru v rs) (freedBuckets k rs))) (sym size)) (c .before .before .before .before .before .before .before .before .before .before .before .before .before .before .before .before .before .before .before .before .before .before .before .before .before .before .put-lrus .ensures v rs t size) in

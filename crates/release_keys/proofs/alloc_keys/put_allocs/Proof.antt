@@ -12,9 +12,10 @@ use Rattle.wire.proofs.EmitLaws.{emitted, done}
 use Rattle.calls.specs.CallList.{Volume, Freed}
 use Rattle.calls.specs.Release.{releasedKey}
 use Rattle.change_fields.specs.FieldBytes.{keysBytes}
+use Rattle.change_fields.proofs.BucketTables.{table-next, table-none}
 use Rattle.release_keys.specs.Tables.{FreedTables}
 use Rattle.change_fields.proofs.FieldLists.{fields-next, fields-none, emitted-key}
-use Rattle.release_keys.proofs.FreedBucketLaws.{AllocHeld, ready, entry-at, by-number, freed-held, buckets-next, buckets-none}
+use Rattle.release_keys.proofs.FreedBucketLaws.{AllocHeld, ready, entry-at, by-number, freed-held}
 use Rattle.release_keys.proofs.KeyLaws.{released-key}
 use Rattle.release_keys.proofs.alloc_keys.put_allocs.Statement.{statement}
 use Rattle.release_keys.proofs.alloc_keys.put_allocs.Tie as tie
@@ -66,7 +67,7 @@ loop-again c =
       wrote-length w ∙ l .loop .inv .1,
       λ v rs t e.
           let r = released-key (entry-at t k (c .before .before .before .before .before .before .before .loop-test .taken)) (its (c .before .before .before .before .before .before .before)) e (c .before .before .before .before .before .before .freed-bucket .result) (by-number v rs (a .args .buckets .now) k (c .before .before .before .before .before .before .freed-bucket .ensures v rs t)) (c .before .before .before .before .freed-key .ensures .1) in
-          turn _ (l .loop .inv .2 v rs t e) (fields-next (keyField 4) (ap (map (releasedKey v rs)) (buckets-next (a .args .buckets .now) k (omega arith)))) (emitted-key 4 r w),
+          turn _ (l .loop .inv .2 v rs t e) (fields-next (keyField 4) (ap (map (releasedKey v rs)) (table-next (a .args .buckets .now) k (omega arith)))) (emitted-key 4 r w),
     )
 
 same-length : tie.Need-same-length Inv-loop μ-loop
@@ -78,7 +79,7 @@ returns c =
     let l = c .before in
     let a = l .before .before .before .before .before .before in
     emitted (ap (λ (l : List Bucket). keysBytes 4 (map (releasedKey v rs) l)) (t .named))
-    (done (l .loop .inv .2 v rs t e) (fields-none (keyField 4) (ap (map (releasedKey v rs)) (buckets-none (a .args .buckets .now) (l .loop .k) (omega arith)))))
+    (done (l .loop .inv .2 v rs t e) (fields-none (keyField 4) (ap (map (releasedKey v rs)) (table-none (a .args .buckets .now) (l .loop .k) (omega arith)))))
 
 pub put-allocs-spec : {M : Type 1} → statement M
 put-allocs-spec =

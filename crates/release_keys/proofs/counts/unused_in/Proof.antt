@@ -10,10 +10,11 @@ use Rattle.calls.specs.CallList.{Volume, Freed}
 use Rattle.calls.specs.Lists.{total}
 use Rattle.calls.proofs.history.View.{bucket}
 use Rattle.calls.proofs.lists.BoolLaws.{cond-most}
+use Rattle.change_fields.proofs.BucketTables.{table-next, table-none}
 use Rattle.release_keys.specs.Counting.{keptOf, lostOf}
 use Rattle.release_keys.specs.Tables.{FreedTables}
 use Rattle.release_keys.proofs.CountLaws.{total-next, total-none, kept-is, lost-is}
-use Rattle.release_keys.proofs.FreedBucketLaws.{by-number, freed-held, freed-small, buckets-next, buckets-none}
+use Rattle.release_keys.proofs.FreedBucketLaws.{by-number, freed-held, freed-small}
 use Rattle.release_keys.proofs.counts.unused_in.Statement.{statement}
 use Rattle.release_keys.proofs.counts.unused_in.Tie as tie
 
@@ -62,7 +63,7 @@ loop-again c =
       λ v rs d e.
           let b = bucket (getD (a .args .buckets .now) (l .loop .k) 0) in
           let i = by-number v rs (a .args .buckets .now) (l .loop .k) (c .before .freed-bucket .ensures v rs d) in
-          let n = buckets-next (a .args .buckets .now) (l .loop .k) (c .before .before .loop-test .taken) in
+          let n = table-next (a .args .buckets .now) (l .loop .k) (c .before .before .loop-test .taken) in
           let h = l .loop .inv .3 v rs d e in (
             omega (arith, r .0, h .0, total-next (keptOf v rs) n, kept-is v rs b x i),
             omega (arith, r .1, h .1, total-next (lostOf v rs) n, lost-is v rs b x i (a .args .sectors) e),
@@ -76,7 +77,7 @@ returns c =
       omega (arith, l .loop .inv .1, l .loop .inv .0, a .pre .1),
       omega (arith, l .loop .inv .2, l .loop .inv .0, a .pre .1),
       λ v rs d e.
-          let n = buckets-none (a .args .buckets .now) (l .loop .k) (omega arith) in
+          let n = table-none (a .args .buckets .now) (l .loop .k) (omega arith) in
           let h = l .loop .inv .3 v rs d e in
           record { kept = omega (arith, h .0, total-none (keptOf v rs) n); lost = omega (arith, h .1, total-none (lostOf v rs) n) },
     )

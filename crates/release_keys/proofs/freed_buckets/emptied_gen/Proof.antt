@@ -3,7 +3,8 @@ use native.Mathlib.Omega.{arith}
 use mathlib.Core.Path.{_∙_}
 use lib.ListN.{getD}
 use Rattle.reader.proofs.KeyHereLaws.{value-within}
-use Rattle.release_keys.proofs.FreedBucketLaws.{AllocHeld, bucket-at, entry-at, ready}
+use Rattle.change_fields.proofs.BucketTables.{table-at}
+use Rattle.release_keys.proofs.FreedBucketLaws.{AllocHeld, entry-at, ready}
 use Rattle.release_keys.proofs.KeyLaws.{emptied-gen-is}
 use borrow.Author.Needs.{needs}
 use Rattle.release_keys.proofs.freed_buckets.emptied_gen.Statement.{statement}
@@ -34,7 +35,7 @@ next-gen-requires : tie.Need-next-gen-requires
 next-gen-requires c κs = search needs
 
 returns : tie.Need-returns
-returns c = λ v rs t. let a = c .before .before .before .before .before .before .before .before in rw (bucket-at (a .args .buckets .now) (a .args .k)) (c .next-gen .ensures ∙ emptied-gen-is (entry-at t (a .args .k) (a .pre .1)) (its a) _ _ (c .before .before .value-at .ensures) (c .before .generation .ensures))
+returns c = λ v rs t. let a = c .before .before .before .before .before .before .before .before in rw (table-at (a .args .buckets .now) (a .args .k)) (c .next-gen .ensures ∙ emptied-gen-is (entry-at t (a .args .k) (a .pre .1)) (its a) _ _ (c .before .before .value-at .ensures) (c .before .generation .ensures))
 
 pub emptied-gen-spec : {M : Type 1} → statement M
 emptied-gen-spec =

@@ -12,8 +12,9 @@ use Rattle.calls.specs.Lists.{those}
 use Rattle.calls.specs.Release.{isEmptied, emptiedGen}
 use Rattle.calls.proofs.history.View.{bucket}
 use Rattle.release_sums.proofs.FoundLaws.{Picking, pick-starts, pick-hit, pick-miss, pick-ends}
+use Rattle.change_fields.proofs.BucketTables.{table-at, table-next, table-none}
 use Rattle.release_keys.specs.Tables.{FreedTables}
-use Rattle.release_keys.proofs.FreedBucketLaws.{bucket-at, buckets-next, buckets-none, by-number}
+use Rattle.release_keys.proofs.FreedBucketLaws.{by-number}
 use Rattle.release_keys.proofs.KeyLaws.{emptied-is, those-hit, those-miss, those-none}
 use Rattle.release_keys.proofs.freed_buckets.find_emptied.Statement.{statement}
 use Rattle.release_keys.proofs.freed_buckets.find_emptied.Tie as tie
@@ -72,8 +73,8 @@ loop-again c =
       λ v rs t.
           let b = bucket (getD (a .args .buckets .now) k 0) in
           let e = emptied-is v rs b x (by-number v rs (a .args .buckets .now) k (c .before .before .freed-bucket .ensures v rs t)) ∙ eq-eqb (x .freed) (x .dirty) (w .0 .taken) in
-          rw (w .3, w .4, w .5, w .2 .ensures v rs t, bucket-at (a .args .buckets .now) k)
-          (pick-hit (l .loop .inv .4 v rs t) (those-hit (isEmptied v rs) (buckets-next (a .args .buckets .now) k (omega arith)) e) (omega (arith, a .pre .1, l .loop .inv .2)) (omega (arith, a .pre .2, l .loop .inv .3))),
+          rw (w .3, w .4, w .5, w .2 .ensures v rs t, table-at (a .args .buckets .now) k)
+          (pick-hit (l .loop .inv .4 v rs t) (those-hit (isEmptied v rs) (table-next (a .args .buckets .now) k (omega arith)) e) (omega (arith, a .pre .1, l .loop .inv .2)) (omega (arith, a .pre .2, l .loop .inv .3))),
     ))
     (λ w. (
       omega arith,
@@ -83,7 +84,7 @@ loop-again c =
       λ v rs t.
           let b = bucket (getD (a .args .buckets .now) k 0) in
           let e = emptied-is v rs b x (by-number v rs (a .args .buckets .now) k (c .before .before .freed-bucket .ensures v rs t)) ∙ ne-eqb (x .freed) (x .dirty) (w .0 .left) in
-          rw (w .1, w .2, w .3) (pick-miss (l .loop .inv .4 v rs t) (those-miss (isEmptied v rs) (buckets-next (a .args .buckets .now) k (omega arith)) e)),
+          rw (w .1, w .2, w .3) (pick-miss (l .loop .inv .4 v rs t) (those-miss (isEmptied v rs) (table-next (a .args .buckets .now) k (omega arith)) e)),
     ))
     (c .if1 .came)
 
@@ -97,7 +98,7 @@ returns : tie.Need-returns Inv-loop μ-loop
 returns c =
     λ v rs t.
     let l = c .before in
-    pick-ends (l .loop .inv .4 v rs t) (those-none (isEmptied v rs) (buckets-none (l .before .before .before .before .before .before .before .args .buckets .now) (l .loop .k) (omega arith)))
+    pick-ends (l .loop .inv .4 v rs t) (those-none (isEmptied v rs) (table-none (l .before .before .before .before .before .before .before .args .buckets .now) (l .loop .k) (omega arith)))
 
 pub find-emptied-spec : {M : Type 1} → statement M
 find-emptied-spec =

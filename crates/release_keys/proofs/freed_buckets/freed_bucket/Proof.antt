@@ -4,8 +4,9 @@ use mathlib.Core.Path.{_∙_}
 use lib.ListN.{getD}
 use Rattle.format.specs.AllocV4.{dirtySectors}
 use Rattle.reader.proofs.KeyHereLaws.{value-within}
+use Rattle.change_fields.proofs.BucketTables.{table-at}
 use Rattle.release_keys.proofs.PlaceLaws.{member-there}
-use Rattle.release_keys.proofs.FreedBucketLaws.{AllocHeld, bucket-at, entry-at, ready, freed-bucket-is}
+use Rattle.release_keys.proofs.FreedBucketLaws.{AllocHeld, entry-at, ready, freed-bucket-is}
 use borrow.Author.Needs.{needs}
 use Rattle.release_keys.proofs.freed_buckets.freed_bucket.Statement.{statement}
 use Rattle.release_keys.proofs.freed_buckets.freed_bucket.Tie as tie
@@ -47,7 +48,7 @@ shared-slice-read-t17 : tie.Need-shared-slice-read-t17
 shared-slice-read-t17 c = omega (arith, c .before .before .before .before .before .before .before .before .before .pre .0 .tabled .sums)
 
 returns : tie.Need-returns
-returns c = λ v rs t. let a = c .before .before .before .before .before .before .before .before .before in rw (bucket-at (a .args .buckets .now) (a .args .k)) (freed-bucket-is (entry-at t (a .args .k) (a .pre .1)) (its a) (c .before .dirty-sectors .ensures ∙ member-there (its a .there) dirtySectors (omega (arith, its a .long)) _ (c .before .before .value-at .ensures)))
+returns c = λ v rs t. let a = c .before .before .before .before .before .before .before .before .before in rw (table-at (a .args .buckets .now) (a .args .k)) (freed-bucket-is (entry-at t (a .args .k) (a .pre .1)) (its a) (c .before .dirty-sectors .ensures ∙ member-there (its a .there) dirtySectors (omega (arith, its a .long)) _ (c .before .before .value-at .ensures)))
 
 pub freed-bucket-spec : {M : Type 1} → statement M
 freed-bucket-spec =

@@ -13,9 +13,10 @@ use Rattle.calls.specs.CallList.{Volume, Freed}
 use Rattle.calls.specs.Release.{freedBuckets, releasedLru}
 use Rattle.calls.proofs.history.View.{bucket}
 use Rattle.change_fields.specs.FieldBytes.{keysBytes}
+use Rattle.change_fields.proofs.BucketTables.{table-next, table-none}
 use Rattle.release_keys.specs.Tables.{FreedTables}
 use Rattle.change_fields.proofs.FieldLists.{flat-next, flat-none}
-use Rattle.release_keys.proofs.FreedBucketLaws.{by-number, freed-held, buckets-next, buckets-none}
+use Rattle.release_keys.proofs.FreedBucketLaws.{by-number, freed-held}
 use Rattle.release_keys.proofs.KeyLaws.{lru-is}
 use Rattle.release_keys.proofs.lru_keys.put_lrus.Statement.{statement}
 use Rattle.release_keys.proofs.lru_keys.put_lrus.Tie as tie
@@ -51,7 +52,7 @@ loop-again c =
       wrote-length w ∙ l .loop .inv .1,
       λ v rs t e.
           let r = lru-is v rs (bucket (getD (a .args .buckets .now) k 0)) (c .before .before .before .before .freed-bucket .result) (by-number v rs (a .args .buckets .now) k (c .before .before .before .before .freed-bucket .ensures v rs t)) (a .args .sectors) e in
-          turn _ (l .loop .inv .2 v rs t e) (flat-next (keyField 10) (releasedLru v rs) (buckets-next (a .args .buckets .now) k (omega arith))) (emitted (ap (keysBytes 10) r) w),
+          turn _ (l .loop .inv .2 v rs t e) (flat-next (keyField 10) (releasedLru v rs) (table-next (a .args .buckets .now) k (omega arith))) (emitted (ap (keysBytes 10) r) w),
     )
 
 same-length : tie.Need-same-length Inv-loop μ-loop
@@ -63,7 +64,7 @@ returns c =
     let l = c .before in
     let a = l .before .before .before .before .before .before in
     emitted (ap (λ (l : List Bucket). keysBytes 10 (flatMap (releasedLru v rs) l)) (t .named ∙ ap (λ (n : ℕ). freedBuckets n rs) e))
-    (done (l .loop .inv .2 v rs t e) (flat-none (keyField 10) (releasedLru v rs) (buckets-none (a .args .buckets .now) (l .loop .k) (omega arith))))
+    (done (l .loop .inv .2 v rs t e) (flat-none (keyField 10) (releasedLru v rs) (table-none (a .args .buckets .now) (l .loop .k) (omega arith))))
 
 pub put-lrus-spec : {M : Type 1} → statement M
 put-lrus-spec =

@@ -11,7 +11,7 @@ use Rattle.wire.proofs.EmitLaws.{done}
 use Rattle.calls.specs.Lru.{needDiscardKey}
 use Rattle.change_fields.specs.FieldBytes.{keysBytes}
 use Rattle.change_fields.proofs.FieldLists.{fields-next, fields-none, emitted-key}
-use Rattle.release_keys.proofs.FreedBucketLaws.{buckets-next, buckets-none}
+use Rattle.change_fields.proofs.BucketTables.{table-next, table-none}
 use Rattle.release_keys.proofs.KeyLaws.{wait-is}
 use Rattle.release_keys.proofs.need_discards.put_need_discards.Statement.{statement}
 use Rattle.release_keys.proofs.need_discards.put_need_discards.Tie as tie
@@ -51,7 +51,7 @@ loop-again c =
     let l = c .before .before .before .before .before .before .before in
     let a = l .before .before .before in
     let w = emitted-key 12 (wait-is (a .args .journal) _ _ (c .before .before .before .before .need-discard-at .ensures)) (c .before .before .put-new-key .ensures) in
-    turn _ (l .loop .inv) (fields-next (keyField 12) (ap (map (needDiscardKey (a .args .journal))) (buckets-next (a .args .emptied .now) (l .loop .k) (omega arith)))) w
+    turn _ (l .loop .inv) (fields-next (keyField 12) (ap (map (needDiscardKey (a .args .journal))) (table-next (a .args .emptied .now) (l .loop .k) (omega arith)))) w
 
 same-length : tie.Need-same-length Inv-loop μ-loop
 same-length c = part-length (c .before .loop .inv)
@@ -60,7 +60,7 @@ returns : tie.Need-returns Inv-loop μ-loop
 returns c =
     let l = c .before in
     let a = l .before .before .before in
-    done (l .loop .inv) (fields-none (keyField 12) (ap (map (needDiscardKey (a .args .journal))) (buckets-none (a .args .emptied .now) (l .loop .k) (omega arith))))
+    done (l .loop .inv) (fields-none (keyField 12) (ap (map (needDiscardKey (a .args .journal))) (table-none (a .args .emptied .now) (l .loop .k) (omega arith))))
 
 pub put-need-discards-spec : {M : Type 1} → statement M
 put-need-discards-spec =
