@@ -1,7 +1,7 @@
 -- Reading released pieces, and tests over all of them.
-use mathlib.Core.Path.{_≡_, refl, sym, ap, _∙_}
-use mathlib.Core.Bool.{Bool, true, false, _&&_}
-use Prim.Native.Nat.{ℕ, zero, suc, _+_, _≤_, _<_}
+use mathlib.Core.Path.{_≡_, _∙_}
+use mathlib.Core.Bool.{true, _&&_}
+use Prim.Native.Nat.{ℕ, _+_, _≤_, _<_}
 use native.Mathlib.Nat.{add-zero}
 use native.Mathlib.Omega.{arith}
 use mathlib.Core.List.{List, [], _∷_}
@@ -13,7 +13,6 @@ use Rattle.wire.specs.Kinds.{bucketOf, offsetIn, bucketInRange}
 use Rattle.wire.proofs.NumberLaws.{body-le}
 use Rattle.wire.proofs.OutputLaws.{drop-next}
 use Rattle.calls.specs.CallList.{Freed, freedOf}
-use Rattle.calls.specs.Lists.{allOf}
 use Rattle.calls.specs.Release.{freedOk}
 use Rattle.calls.proofs.lists.BoolLaws.{parts}
 use Rattle.reader.specs.Located.{noFreed}
@@ -35,29 +34,6 @@ freeds-next s offsets i q h e = drop-next noFreed (freedsIn s offsets) i (omega 
 -- past the last none is left
 pub freeds-none : (s offsets : List ℕ) (i : ℕ) → Requested s offsets → length offsets ≤ i → drop i (freedsIn s offsets) ≡ []
 freeds-none s offsets i q h = let l : length (freedsIn s offsets) ≤ i = omega (arith, q .count) in drop-of-length-le (freedsIn s offsets) l
-
-module _ {A : Type 0} (t : A → Bool) where
-  pub all-next : {l : List A} {x : A} {rest : List A} → l ≡ x ∷ rest → t x ≡ true → allOf t l ≡ allOf t rest
-  unfolding allOf
-  all-next {rest = rest} e h = ap (allOf t) e ∙ ap (λ (b : Bool). b && allOf t rest) h
-
-  pub all-stops : {l : List A} {x : A} {rest : List A} → l ≡ x ∷ rest → t x ≡ false → allOf t l ≡ false
-  unfolding allOf
-  all-stops {rest = rest} e h = ap (allOf t) e ∙ ap (λ (b : Bool). b && allOf t rest) h
-
-  pub all-none : {l : List A} → l ≡ [] → allOf t l ≡ true
-  unfolding allOf
-  all-none e = ap (allOf t) e
-
-  pub all-drop : (i : ℕ) (l : List A) → allOf t l ≡ true → allOf t (drop i l) ≡ true
-  unfolding allOf
-  all-drop zero l h = h
-  all-drop (suc i) [] h = refl
-  all-drop (suc i) (x ∷ l) h = all-drop i l (parts (t x) (allOf t l) h .1)
-
-  pub all-first : {l : List A} {x : A} {rest : List A} → l ≡ x ∷ rest → allOf t l ≡ true → t x ≡ true
-  unfolding allOf
-  all-first {x = x} {rest = rest} e h = parts (t x) (allOf t rest) (sym (ap (allOf t) e) ∙ h) .0
 
 -- what refusal 14 shows of a piece
 pub record Within (sectors : ℕ) (r : Freed) : Type 0 where
