@@ -17,11 +17,13 @@ use Rattle.calls.specs.Pieces.{nextFit}
 use Rattle.calls.specs.Place.{placeRows, placedOf, slotsOf}
 use Rattle.calls.specs.CallList as calls
 use Rattle.calls.specs.Accounting.{countedRows, sectorsRow, bucketsRow, kindRow, extentsRow, ownerRow, swapped}
+use Rattle.calls.proofs.lists.ThoseLaws.{those-map}
+use Rattle.calls.proofs.lists.TotalLaws.{total-map, total-constant}
 use Rattle.accounting.specs.Tally.{tallyOf, ofKind, talliesOf, countsRow, kindCounts, ownerCounts}
 use Rattle.accounting.specs.declared.tally.Tally.{Tally}
 use Rattle.accounting.specs.declared.tally.Tallies.{Tallies}
 use Rattle.wire.proofs.EncodeLaws.{words-count}
-use Rattle.accounting.proofs.TallyLaws.{those-map, total-map, total-same, tally-equal}
+use Rattle.accounting.proofs.TallyLaws.{tally-equal}
 
 -- how many words an extent's value has
 
@@ -52,7 +54,7 @@ extents-row h n stored ps e =
     λ p. let k = words-count (extentWords (h .option) (p .piece .kind) (p .piece .stored) (p .piece .file) (p .piece .checksum) (pointer (p .first) (p .generation))) in
     omega (arith, k, e (p .piece .kind) (p .piece .stored) (p .piece .file) (p .piece .checksum) (pointer (p .first) (p .generation))) in
     let sums : total (λ k. 40 + length (k .value)) (map (extentKey h) ps) ≡ length ps * (40 + 8 * n) =
-    sym (total-map (extentKey h) (λ k. 40 + length (k .value)) ps) ∙ total-same (λ p. 40 + length (extentKey h p .value)) (40 + 8 * n) one ps in
+    total-map (λ k. 40 + length (k .value)) (extentKey h) ps ∙ total-constant (λ p. 40 + length (extentKey h p .value)) (40 + 8 * n) one ps in
     rw (length-map ps (extentKey h), sums)
 
 -- the owner's place
@@ -76,18 +78,18 @@ owner-offset y = omega arith
 pub kind-row : (kind : ℕ) (ps : List Placed) → kindRow kind ps ≡ kindCounts kind (tallyOf (ofKind kind (map (λ p. p .piece) ps)))
 unfolding ofKind
 kind-row kind ps =
-    let e = those-map (λ (p : Placed). p .piece) (λ (p : Piece). eqb (p .kind) kind) ps in
+    let e = sym (those-map (λ (p : Piece). eqb (p .kind) kind) (λ (p : Placed). p .piece) ps) in
     let qs = those (λ (p : Placed). eqb (p .piece .kind) kind) ps in
     let t : _≡_ {A = Tally} (record { count = length qs; file = total (λ p. p .piece .file) qs; stored = total (λ p. p .piece .stored) qs }) (tallyOf (those (λ p. eqb (p .kind) kind) (map (λ p. p .piece) ps))) =
     tally-equal _ _ (sym (length-map qs (λ p. p .piece)) ∙ ap length e)
-    (total-map (λ p. p .piece) (λ p. p .file) qs ∙ ap (total (λ p. p .file)) e)
-    (total-map (λ p. p .piece) (λ p. p .stored) qs ∙ ap (total (λ p. p .stored)) e) in
+    (sym (total-map (λ p. p .file) (λ p. p .piece) qs) ∙ ap (total (λ p. p .file)) e)
+    (sym (total-map (λ p. p .stored) (λ p. p .piece) qs) ∙ ap (total (λ p. p .stored)) e) in
     ap (kindCounts kind) t
 
 pub all-tally : (ps : List Placed)
     → _≡_ {A = Tally} (record { count = length ps; file = total (λ p. p .piece .file) ps; stored = total (λ p. p .piece .stored) ps }) (tallyOf (map (λ p. p .piece) ps))
 all-tally ps =
-    tally-equal _ _ (sym (length-map ps (λ p. p .piece))) (total-map (λ p. p .piece) (λ p. p .file) ps) (total-map (λ p. p .piece) (λ p. p .stored) ps)
+    tally-equal _ _ (sym (length-map ps (λ p. p .piece))) (sym (total-map (λ p. p .file) (λ p. p .piece) ps)) (sym (total-map (λ p. p .stored) (λ p. p .piece) ps))
 
 -- all rows, by the tallies
 pub place-rows : (h : Head) (bs : List Bucket) (ps : List Placed) (extents : List Key) (t : Tallies) → t ≡ talliesOf (map (λ p. p .piece) ps)

@@ -1,7 +1,7 @@
 -- Laws of rows: those that are left out, rows one after the other, signed arguments.
 use mathlib.Core.Path.{_≡_, refl, sym, ap, _∙_}
 use mathlib.Core.Bool.{Bool, true, false, not}
-use mathlib.Core.List.{List, [], _∷_, _++_, map, append-assoc}
+use mathlib.Core.List.{List, [], _∷_, _++_, map}
 use Prim.Native.Nat.{ℕ, _<_, _^_}
 use lib.IntN.{ℤ, pos, negsuc, _+ℤ_, +ℤ-idl}
 use lib.Signed.{mag}
@@ -13,11 +13,11 @@ use Rattle.wire.specs.Output.{Emitted}
 use Rattle.wire.specs.Rows.{Counters, rowField}
 use Rattle.wire.proofs.EmitLaws.{emitted, and-then}
 use Rattle.wire.proofs.SignedLaws.{back}
-use Rattle.calls.specs.Lists.{those, anyOf}
+use Rattle.calls.specs.Lists.{anyOf}
 use Rattle.calls.specs.Accounting.{isZero, countedRows}
+use Rattle.calls.proofs.lists.ThoseLaws.{those-append, those-one, those-other}
 use Rattle.change_fields.proofs.FieldLists.{fields-append}
 use Rattle.accounting.specs.RowBytes.{rowsBytes}
-use Rattle.accounting.proofs.TallyLaws.{those-next, those-one, those-other}
 
 -- the bits of a number are 0 where it is
 pub zero-bits : (z : ℤ) → mag z < 2 ^ 63 → ofZ w64 z ≡ 0 → isZero z ≡ true
@@ -27,21 +27,9 @@ pub other-bits : (z : ℤ) → (ofZ w64 z ≡ 0 → ⊥) → isZero z ≡ false
 other-bits (pos n) h = ne-eqb n 0 (λ e. h (ap (λ (k : ℕ). ofZ w64 (pos k)) e))
 other-bits (negsuc n) h = refl
 
--- a row has a number other than 0: what the numbers from index i on say
+-- a row has a number other than 0
 abbrev pub isOther : ℤ → Bool
 isOther z = not (isZero z)
-
-pub any-zero : {l rest : List ℤ} {z : ℤ} → l ≡ z ∷ rest → isZero z ≡ true → anyOf isOther l ≡ anyOf isOther rest
-unfolding anyOf
-any-zero e h = rw (e, h)
-
-pub any-other : {l rest : List ℤ} {z : ℤ} → l ≡ z ∷ rest → isZero z ≡ false → anyOf isOther l ≡ true
-unfolding anyOf
-any-other e h = rw (e, h)
-
-pub any-none : {l : List ℤ} → l ≡ [] → anyOf isOther l ≡ false
-unfolding anyOf
-any-none e = rw e
 
 pub counted-one : (r : Counters) → anyOf isOther (r .numbers) ≡ true → countedRows (r ∷ []) ≡ r ∷ []
 unfolding countedRows
@@ -67,13 +55,6 @@ pub zero-plus : (z : ℤ) → SFits w64 z → pos 0 +ℤ toZ w64 (ofZ w64 z) ≡
 zero-plus z f = +ℤ-idl (toZ w64 (ofZ w64 z)) ∙ same z f
 
 -- rows one after the other
-
-those-append : {A : Type 0} (t : A → Bool) (a b : List A) → those t (a ++ b) ≡ those t a ++ those t b
-unfolding those
-those-append t [] b = refl
-those-append t (x ∷ a) b =
-    those-next t x (a ++ b) ∙ ap (λ l. those t (x ∷ []) ++ l) (those-append t a b) ∙ sym (append-assoc (those t (x ∷ [])) (those t a) (those t b))
-    ∙ ap (λ l. l ++ those t b) (sym (those-next t x a))
 
 pub rows-and : {xs : List ℕ} {at : ℕ} {ys : List ℕ} {p : ℕ} {zs : List ℕ} {q : ℕ} (rs ts : List Counters) → Emitted xs at (rowsBytes rs) ys p
     → Emitted ys p (rowsBytes ts) zs q → Emitted xs at (rowsBytes (rs ++ ts)) zs q

@@ -1,62 +1,19 @@
 -- Laws of tallies.
 use mathlib.Core.Path.{_≡_, refl, sym, ap, _∙_}
 use mathlib.Core.Bool.{Bool, true, false, cond}
-use mathlib.Core.List.{List, [], _∷_, _++_, map}
-use Prim.Native.Nat.{ℕ, _+_, _-_, _*_, _≤_, _<_}
+use mathlib.Core.List.{List, [], _∷_, _++_}
+use Prim.Native.Nat.{ℕ, _+_, _-_, _≤_, _<_}
 use native.Mathlib.Omega.{arith}
-use native.Mathlib.Nat.{zero-mul, suc-mul, add-comm}
 use lib.ListN.{length, length-append}
 use lib.Dec.{eqb}
 use borrow.Author.Tests.{eq-eqb, ne-eqb}
 use Rattle.calls.specs.Lists.{those, total}
 use Rattle.calls.specs.CallList.{Piece}
+use Rattle.calls.proofs.lists.ThoseLaws.{those-append, those-one, those-other}
+use Rattle.calls.proofs.lists.TotalLaws.{total-append}
 use Rattle.accounting.specs.Tally.{tallyOf, ofKind, sum, Small}
 use Rattle.accounting.specs.declared.tally.Tally.{Tally}
 use Rattle.accounting.specs.declared.tally.Tallies.{Tallies}
-
--- lists
-
-pub those-next : {A : Type 0} (t : A → Bool) (x : A) (xs : List A) → those t (x ∷ xs) ≡ those t (x ∷ []) ++ those t xs
-unfolding those
-those-next t x xs = go (t x)
-  where
-    go : (b : Bool) → cond b (x ∷ those t xs) (those t xs) ≡ cond b (x ∷ []) [] ++ those t xs
-    go true = refl
-    go false = refl
-
-pub those-one : {A : Type 0} (t : A → Bool) (x : A) → t x ≡ true → those t (x ∷ []) ≡ x ∷ []
-unfolding those
-those-one t x e = simp e
-
-pub those-other : {A : Type 0} (t : A → Bool) (x : A) → t x ≡ false → those t (x ∷ []) ≡ []
-unfolding those
-those-other t x e = simp e
-
-pub those-map : {A B : Type 0} (g : A → B) (t : B → Bool) (l : List A) → map g (those (λ x. t (g x)) l) ≡ those t (map g l)
-unfolding those
-those-map g t [] = refl
-those-map g t (x ∷ l) = go (t (g x)) (those-map g t l)
-  where
-    go : (b : Bool) → map g (those (λ x. t (g x)) l) ≡ those t (map g l)
-        → map g (cond b (x ∷ those (λ x. t (g x)) l) (those (λ x. t (g x)) l)) ≡ cond b (g x ∷ those t (map g l)) (those t (map g l))
-    go true e = ap (λ r. g x ∷ r) e
-    go false e = e
-
-pub total-map : {A B : Type 0} (g : A → B) (f : B → ℕ) (l : List A) → total (λ x. f (g x)) l ≡ total f (map g l)
-unfolding total
-total-map g f [] = refl
-total-map g f (x ∷ l) = ap (λ (n : ℕ). f (g x) + n) (total-map g f l)
-
-pub total-append : {A : Type 0} (f : A → ℕ) (a b : List A) → total f (a ++ b) ≡ total f a + total f b
-unfolding total
-total-append f [] b = omega arith
-total-append f (x ∷ a) b = rw (total-append f a b) (omega arith)
-
--- the same number for each
-pub total-same : {A : Type 0} (f : A → ℕ) (n : ℕ) → ((x : A) → f x ≡ n) → (l : List A) → total f l ≡ length l * n
-unfolding total
-total-same f n h [] = sym (zero-mul n)
-total-same f n h (x ∷ l) = rw (h x, total-same f n h l) (add-comm n (length l * n) ∙ sym (suc-mul (length l) n))
 
 -- tallies
 
@@ -92,7 +49,7 @@ kind-other kind p e = those-other (λ p. eqb (p .kind) kind) p (ne-eqb (p .kind)
 
 pub kind-next : (kind : ℕ) {l : List Piece} {p : Piece} {rest : List Piece} → l ≡ p ∷ rest → ofKind kind l ≡ ofKind kind (p ∷ []) ++ ofKind kind rest
 unfolding ofKind
-kind-next kind {p = p} {rest = rest} e = ap (ofKind kind) e ∙ those-next (λ p. eqb (p .kind) kind) p rest
+kind-next kind {p = p} {rest = rest} e = ap (ofKind kind) e ∙ those-append (λ p. eqb (p .kind) kind) (p ∷ []) rest
 
 -- the pass: a tally and what is left are the tally of all
 pub record Tallying (t : Tally) (rest all : List Piece) (i : ℕ) : Type 0 where

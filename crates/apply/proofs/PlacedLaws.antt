@@ -1,19 +1,16 @@
 -- The sections of a volume by the reader's table.
-use mathlib.Core.Path.{_≡_, refl, ap, sym, _∙_}
+use mathlib.Core.Path.{_≡_, refl, sym, _∙_}
 use mathlib.Core.Bool.{Bool, true, false, cond, false≢true}
 use mathlib.Core.List.{List, [], _∷_, map}
 use Prim.Native.Nat.{ℕ, zero, suc, _+_, _-_, _≤_, _<_}
 use native.Mathlib.Nat.{add-zero}
-use native.Mathlib.Numerals.{add-one}
 use native.Mathlib.Omega.{arith}
 use lib.ListN.{length, take, drop, getD}
 use Rattle.wire.specs.Bytes.{All, none, more}
-use Rattle.wire.specs.Numbers.{le}
-use Rattle.wire.specs.Fields.{Field, fields, fieldAt}
-use Rattle.wire.specs.Keys.{Key}
+use Rattle.wire.specs.Fields.{fields}
 use Rattle.wire.proofs.OutputLaws.{drop-next}
 use Rattle.calls.specs.CallList.{bodies}
-use Rattle.calls.proofs.lists.AllLaws.{all-tail, first}
+use Rattle.calls.proofs.lists.AllLaws.{first, all-nth}
 use Rattle.calls.proofs.encoding.Blocks.{field}
 use Rattle.reader.specs.Table.{FieldHere, Tabled}
 use Rattle.reader.specs.Readings.{ListRead}
@@ -21,10 +18,9 @@ use Rattle.reader.specs.declared.head.Head.{Head}
 use Rattle.reader.specs.declared.table.Ends.{Ends}
 use Rattle.reader.proofs.OfferedLaws.{here-length}
 use Rattle.merge.specs.Entries.{sections, isEntry, entryOf, entries}
-use Rattle.merge.specs.Places.{sizeAt, tagAt, entryFrom, entriesAt, Kept, Stands}
+use Rattle.merge.specs.Places.{sizeAt, tagAt, entryFrom, entriesAt, Stands}
 use Rattle.merge.specs.QueueTable.{InParts}
 use Rattle.merge.specs.declared.queue.Parts.{Parts}
-use Rattle.merge.proofs.PlaceLaws.{at-all}
 use Rattle.apply.specs.NextVolume.{endsOf, queueEnd, SectionReady, QueueReady}
 use Rattle.apply.proofs.VolumeLaws.{SectionOf, Parted}
 
@@ -96,13 +92,13 @@ startOf e i = getD (0 ∷ endsOf e) i 0
 pub placed-at :
     {vol index : List ℕ} {h : Head} {e : Ends} → Parted vol → ListRead 0 vol index h e → (i : ℕ) → i < 7
     → Placed vol index (getD sections i 0) (startOf e i) (getD (endsOf e) i 0)
-placed-at p r zero l = placed (at-all 0 (p .each) (omega arith)) (r .table .alloc) (omega (arith, r .ends .alloc)) (bound r 0 (omega arith))
-placed-at p r (suc zero) l = placed (at-all 1 (p .each) (omega arith)) (r .table .lru) (omega (arith, r .ends .lru)) (bound r 1 (omega arith))
-placed-at p r (suc (suc zero)) l = placed (at-all 2 (p .each) (omega arith)) (r .table .freespace) (omega (arith, r .ends .freespace)) (bound r 2 (omega arith))
-placed-at p r (suc (suc (suc zero))) l = placed (at-all 3 (p .each) (omega arith)) (r .table .needDiscard) (omega (arith, r .ends .needDiscard)) (bound r 3 (omega arith))
-placed-at p r (suc (suc (suc (suc zero)))) l = placed (at-all 4 (p .each) (omega arith)) (r .table .backpointers) (omega (arith, r .ends .backpointers)) (bound r 4 (omega arith))
-placed-at p r (suc (suc (suc (suc (suc zero))))) l = placed (at-all 5 (p .each) (omega arith)) (r .table .gens) (omega (arith, r .ends .gens)) (bound r 5 (omega arith))
-placed-at p r (suc (suc (suc (suc (suc (suc zero)))))) l = placed (at-all 6 (p .each) (omega arith)) (r .table .reserved) (omega (arith, r .ends .reserved)) (bound r 6 (omega arith))
+placed-at p r zero l = placed (all-nth 0 (p .each) 0 (omega arith)) (r .table .alloc) (omega (arith, r .ends .alloc)) (bound r 0 (omega arith))
+placed-at p r (suc zero) l = placed (all-nth 0 (p .each) 1 (omega arith)) (r .table .lru) (omega (arith, r .ends .lru)) (bound r 1 (omega arith))
+placed-at p r (suc (suc zero)) l = placed (all-nth 0 (p .each) 2 (omega arith)) (r .table .freespace) (omega (arith, r .ends .freespace)) (bound r 2 (omega arith))
+placed-at p r (suc (suc (suc zero))) l = placed (all-nth 0 (p .each) 3 (omega arith)) (r .table .needDiscard) (omega (arith, r .ends .needDiscard)) (bound r 3 (omega arith))
+placed-at p r (suc (suc (suc (suc zero)))) l = placed (all-nth 0 (p .each) 4 (omega arith)) (r .table .backpointers) (omega (arith, r .ends .backpointers)) (bound r 4 (omega arith))
+placed-at p r (suc (suc (suc (suc (suc zero))))) l = placed (all-nth 0 (p .each) 5 (omega arith)) (r .table .gens) (omega (arith, r .ends .gens)) (bound r 5 (omega arith))
+placed-at p r (suc (suc (suc (suc (suc (suc zero)))))) l = placed (all-nth 0 (p .each) 6 (omega arith)) (r .table .reserved) (omega (arith, r .ends .reserved)) (bound r 6 (omega arith))
 placed-at p r (suc (suc (suc (suc (suc (suc (suc i))))))) l = absurd (omega arith)
 
 -- what the writing of a section asks

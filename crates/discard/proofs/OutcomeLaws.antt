@@ -1,7 +1,7 @@
 -- The answer to a discard: the offsets that the reader gives find the keys of the definition, and its tests in their order.
 use Prim.Native.Nat.{ℕ, zero, suc, _≤_, _<_}
 use mathlib.Core.Path.{_≡_, refl, sym, ap, _∙_}
-use mathlib.Core.Bool.{Bool, true, false, not, _||_, cond}
+use mathlib.Core.Bool.{Bool, true, not, _||_}
 use mathlib.Core.List.{List, [], _∷_, map, map-map}
 use native.Mathlib.Omega.{arith}
 use lib.Dec.{eqb}
@@ -11,7 +11,7 @@ use Rattle.wire.specs.Bytes.{All, none, more}
 use Rattle.wire.specs.Keys.{Key}
 use Rattle.wire.specs.Kinds.{bucketInRange}
 use Rattle.wire.specs.Positions.{bucketIn}
-use Rattle.calls.specs.Lists.{allOf, those}
+use Rattle.calls.specs.Lists.{allOf}
 use Rattle.calls.specs.CallList.{Trees}
 use Rattle.calls.specs.Limits.{isSet, atInode0, fewKeys, countsOk, bucketsOk, volumeWithin}
 use Rattle.calls.specs.ChangeList.{changeBytes}
@@ -22,13 +22,15 @@ use Rattle.calls.proofs.lists.BoolLaws.{parts, or-then}
 use Rattle.calls.proofs.answers.AnswerLaws.{discard-is}
 use Rattle.calls.proofs.answers.OutcomeLaws.{answer-next, answer-stops}
 use Rattle.calls.proofs.encoding.KeyFitsLaws.{list-within}
+use Rattle.calls.proofs.lists.ThoseLaws.{those-map}
 use Rattle.reader.specs.Located.{KeyAt, KeysAt}
 use Rattle.reader.specs.Readings.{callRefusal, ListRead}
 use Rattle.reader.specs.declared.head.Head.{Head}
 use Rattle.reader.specs.declared.table.Ends.{Ends}
 use Rattle.reader.proofs.KeyHereLaws.{keys-tail, keys-here}
-use Rattle.reader.proofs.PartsLaws.{passed, read-on, read-refused, between, alloc-part, need-discard-part}
+use Rattle.reader.proofs.PartsLaws.{passed, read-on, read-refused, alloc-part, need-discard-part}
 use Rattle.reader.specs.KeyHere.{keyHere, keysHere}
+use Rattle.reader.specs.Table.{between}
 use Rattle.need_discard.specs.Kept.{AllocKept, NeedKept}
 use Rattle.need_discard.specs.Chosen.{needTrees, discardedFrom}
 use Rattle.discard.specs.Emitted.{batchesFrom, changesFrom}
@@ -107,15 +109,6 @@ chunks-map f (suc m) size (x ∷ xs) =
     let t = map-take f size (x ∷ xs) in
     let r = ap (chunks m size) d ∙ chunks-map f m size (drop size (x ∷ xs)) in
     λ i. t i ∷ r i
-
-those-map : {A B : Type 0} (t : B → Bool) (f : A → B) (xs : List A) → those t (map f xs) ≡ map f (those (λ x. t (f x)) xs)
-unfolding those
-those-map t f [] = refl
-those-map t f (x ∷ xs) = rw (those-map t f xs) (go (t (f x)))
-  where
-    go : (b : Bool) → cond b (f x ∷ map f (those (λ x. t (f x)) xs)) (map f (those (λ x. t (f x)) xs)) ≡ map f (cond b (x ∷ those (λ x. t (f x)) xs) (those (λ x. t (f x)) xs))
-    go true = refl
-    go false = refl
 
 -- trees with the same need-discard keys discard the same
 module _ (t : Trees) (s needs : List ℕ) (e : t .needDiscard ≡ keysHere s needs) where

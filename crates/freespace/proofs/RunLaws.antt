@@ -19,6 +19,7 @@ use Rattle.calls.specs.Freespace.{runsOf, startOf, endOf, overlap, overlaps}
 use Rattle.calls.proofs.lists.BoolLaws.{parts as and-true}
 use Rattle.calls.proofs.trees.SortedLaws.{Chain, Sorted, chain-weak, chain-sorted}
 use Rattle.calls.proofs.trees.SortedLaws.{NoSnapshots}
+use Rattle.calls.proofs.lists.AllOfLaws.{any-of-fails}
 use Rattle.reader.specs.Checked.{endInRange}
 use Rattle.freespace.specs.Runs.{beganEarly, runIn}
 use Rattle.freespace.specs.declared.runs.Run.{Run}
@@ -107,11 +108,6 @@ meets last (k ∷ ks) =
 abbrev startsBelow : Bucket → Key → Bool
 startsBelow last k = bucketBelow (startOf k) (endOf k) && bucketBelow (startOf k) last
 
-any-none : {A : Type 0} (t : A → Bool) (l : List A) → ((a : A) → t a ≡ false) → anyOf t l ≡ false
-unfolding anyOf
-any-none t [] h = refl
-any-none t (x ∷ xs) h = rw (h x) (any-none t xs h)
-
 -- a run that is not empty overlaps those after it that start below its end
 overlap-after :
     (k : Key) (ks : List Key) → bucketBelow (startOf k) (endOf k) ≡ true → Rising (suc (endOf k .0)) (map endOf ks)
@@ -172,10 +168,10 @@ meets-overlaps last (k ∷ ks) r = go (isRun k) r (λ a s. meets-overlaps a ks s
             (or-absorb (bucketBelow (startOf k) last) (anyOf (startsBelow last) (those isRun ks)) (anyOf (startsBelow (endOf k)) (those isRun ks)) (overlaps (those isRun ks))
             (starts-more last (endOf k) (those isRun ks) (omega (arith, q .0))))
         split false e =
-            rw (any-none (overlap k) (those isRun ks) (empty-alone k e), ih last (rising-weak (last .0) (suc (endOf k .0)) (map endOf (those isRun ks)) (omega (arith, q .0)) (q .1)))
+            rw (any-of-fails (overlap k) (those isRun ks) (empty-alone k e), ih last (rising-weak (last .0) (suc (endOf k .0)) (map endOf (those isRun ks)) (omega (arith, q .0)) (q .1)))
 
 pub starts-none : (ks : List Key) → anyOf (startsBelow noBucket) ks ≡ false
-starts-none ks = any-none (startsBelow noBucket) ks (λ k. rw (le-ltb (startOf k .0) 0 (omega arith)) (and-false (bucketBelow (startOf k) (endOf k))))
+starts-none ks = any-of-fails (startsBelow noBucket) ks (λ k. rw (le-ltb (startOf k .0) 0 (omega arith)) (and-false (bucketBelow (startOf k) (endOf k))))
 
 -- what the pass over all keys finds
 pub meets-all : (ks : List Key) → Sorted ks → NoSnapshots ks → meets noBucket ks ≡ overlaps (runsOf ks)

@@ -1,7 +1,7 @@
 -- Each bucket that a walk takes is within the limit.
 use mathlib.Core.Path.{_≡_, refl}
 use mathlib.Core.Bool.{Bool, true, false, cond}
-use mathlib.Core.List.{List, [], _∷_, _++_}
+use mathlib.Core.List.{List, [], _∷_}
 use Prim.Native.Nat.{ℕ, zero, suc, _+_, _-_, _≤_}
 use native.Mathlib.Omega.{arith}
 use borrow.Author.Tests.{leb-true, lt-ltb}
@@ -14,12 +14,8 @@ use Rattle.calls.specs.Freespace.{startOf, endOf, bucketsOf, runsOf, pass, walk
 use Rattle.calls.specs.Answers.{readVolume}
 use Rattle.reader.specs.Checked.{Checked, endInRange}
 use Rattle.calls.proofs.lists.BoolLaws.{parts as and-true}
+use Rattle.calls.proofs.lists.AllOfLaws.{all-of-append}
 use Rattle.reader.proofs.CheckedLaws.{end-at, run-range}
-
-all-append : {A : Type 0} (t : A → Bool) (l m : List A) → allOf t l ≡ true → allOf t m ≡ true → allOf t (l ++ m) ≡ true
-unfolding allOf
-all-append t [] m h k = k
-all-append t (x ∷ xs) m h k = let p = and-true (t x) (allOf t xs) h in rw (p .0) (all-append t xs m (p .1) k)
 
 module _ (R U : Bucket → Bool) where
   from-small : (n need : ℕ) (b : Bucket) → b .0 + n ≤ 65536 → allOf bucketInRange (pass R U need (bucketsFrom n b) .taken) ≡ true
@@ -58,7 +54,7 @@ module _ (R U : Bucket → Bool) where
       go m false e l ih = ih m
       go zero true e l ih = refl
       go (suc m) true e l ih =
-          all-append bucketInRange (pass R U (suc m) (bucketsOf k) .taken) (walk R U (pass R U (suc m) (bucketsOf k) .need) (those isRun ks) .taken)
+          all-of-append bucketInRange (pass R U (suc m) (bucketsOf k) .taken) (walk R U (pass R U (suc m) (bucketsOf k) .need) (those isRun ks) .taken)
           (run-small (suc m) k (leb-true (k .pos .offset) 65536 (end-at k l e))) (ih (pass R U (suc m) (bucketsOf k) .need))
 
   -- of a list that refusals 2 and 3 let through

@@ -1,7 +1,7 @@
 -- Which alloc keys are discarded: each test of a key, and the offsets of those that pass.
 use Prim.Native.Nat.{ℕ, _+_, _≤_, _<_}
 use mathlib.Core.Path.{_≡_, refl, sym, ap, _∙_}
-use mathlib.Core.Bool.{Bool, true, false, not, _&&_, cond, and-false}
+use mathlib.Core.Bool.{Bool, true, false, not, _&&_, and-false}
 use mathlib.Core.List.{List, [], _∷_, _++_, append-nil}
 use native.Mathlib.Omega.{arith}
 use native.Mathlib.Numerals.{add-one}
@@ -16,7 +16,8 @@ use Rattle.calls.specs.Lists.{those, isNone}
 use Rattle.calls.specs.Limits.{atInode0}
 use Rattle.calls.specs.Discard.{waitingKey, genTaken, isDiscarded}
 use Rattle.calls.proofs.lists.BoolLaws.{parts}
-use Rattle.calls.proofs.lists.AllLaws.{all-imp, all-chosen, those-length}
+use Rattle.calls.proofs.lists.AllLaws.{all-imp, all-chosen}
+use Rattle.calls.proofs.lists.ThoseLaws.{those-length, those-append}
 use Rattle.reader.specs.KeyHere.{valueAt, keyHere, keysHere, Whole}
 use Rattle.reader.proofs.KeyHereLaws.{value-within, member-here}
 use Rattle.need_discard.specs.Kept.{bucketHere, AllocKept, DiscardedKept}
@@ -65,22 +66,11 @@ module _ (s needs : List ℕ) (o : ℕ) where
     all-passed t i e d f g w =
         w ∙ sym (simp (eq-eqb (keyHere s o .type) 27 t, eq-eqb (keyHere s o .pos .inode) 0 i, le-leb 56 (length (keyHere s o .value)) l, type-get e, eq-eqb _ 9 d, gen-get f, g))
 
--- one element more
-pub those-more : {A : Type 0} (t : A → Bool) (xs : List A) (x : A) → those t (xs ++ x ∷ []) ≡ those t xs ++ cond (t x) (x ∷ []) []
-unfolding those
-those-more t [] x = refl
-those-more t (y ∷ xs) x = rw (those-more t xs x) (go (t y))
-  where
-    go : (b : Bool)
-        → cond b (y ∷ (those t xs ++ cond (t x) (x ∷ []) [])) (those t xs ++ cond (t x) (x ∷ []) [])
-        ≡ cond b (y ∷ those t xs) (those t xs) ++ cond (t x) (x ∷ []) []
-    go true = refl
-    go false = refl
-
 pub chosen-more : (s needs alloc : List ℕ) (i : ℕ) {c : Bool} {l m : List ℕ} → i < length alloc → c ≡ isDiscardedAt s needs (getD alloc i 0)
     → l ≡ discardedFrom s needs (take i alloc) → m ≡ l ++ ifChosen c (getD alloc i 0) → m ≡ discardedFrom s needs (take (i + 1) alloc)
+unfolding those
 chosen-more s needs alloc i h e f g =
-    g ∙ rw (add-one, take-suc alloc i 0 h, e, f) (sym (those-more (isDiscardedAt s needs) (take i alloc) (getD alloc i 0)))
+    g ∙ rw (add-one, take-suc alloc i 0 h, e, f) (sym (those-append (isDiscardedAt s needs) (take i alloc) (getD alloc i 0 ∷ [])))
 
 pub chosen-none : (s needs alloc discarded : List ℕ) → take 0 discarded ≡ discardedFrom s needs (take 0 alloc)
 unfolding those

@@ -3,10 +3,10 @@ use Prim.Native.Nat.{ℕ, _+_, _≤_, _<_}
 use mathlib.Core.Path.{_≡_, refl, sym, _∙_, ap}
 use mathlib.Core.Logic.{_⊎_, inl, inr, ⊎-elim}
 use mathlib.Core.List.{List, [], _∷_, _++_, map}
-use mathlib.Core.Bool.{Bool, true, false, _&&_, _||_, cond, and-false, or-true}
+use mathlib.Core.Bool.{Bool, true, false, _&&_, _||_, and-false, or-true}
 use lib.ListN.{length}
-use lib.Dec.{leb, ltb, eqb}
-use borrow.Author.Tests.{eq-eqb, ne-eqb, eqb-true, leb-true, le-leb, lt-leb, lt-ltb, le-ltb, ltb-true}
+use lib.Dec.{leb, eqb}
+use borrow.Author.Tests.{eq-eqb, ne-eqb, eqb-true, le-leb, lt-leb}
 use native.Mathlib.Omega.{arith}
 use Rattle.wire.specs.Fields.{Field}
 use Rattle.wire.specs.Keys.{Key, keyOf}
@@ -14,209 +14,30 @@ use Rattle.wire.specs.Order.{posLess}
 use Rattle.wire.specs.Kinds.{bucketRead, bucketBelow}
 use Rattle.wire.specs.Bytes.{All, none, more}
 use Rattle.calls.specs.Lists.{allOf, those, inOrder}
-use Rattle.calls.specs.CallList.{bodies, firstBody, headOf, headOk, treesOf, callListOf, Shape, shaped, keyShape, exactly, volumeShapes, requestShapes, tagsAscend, keysOk, treesOk}
+use Rattle.calls.specs.CallList.{bodies, firstBody, headOf, headOk, treesOf, callListOf, Shape, shaped, exactly, volumeShapes, requestShapes, tagsAscend, keysOk, treesOk}
 use Rattle.calls.specs.ChangeList.{fieldOk}
 use Rattle.reader.specs.CallFields.{restShapes, callFieldOk, startsOk, ascends, follows}
-use Rattle.calls.proofs.lists.AllLaws.{all-tail}
+use Rattle.calls.proofs.lists.AllLaws.{all-tail, test-all, all-test, all-imp, all-zip}
 use Rattle.calls.proofs.lists.BoolLaws.{both}
+use Rattle.calls.proofs.lists.OrderLaws.{order-map, order-tail, order-same}
+use Rattle.calls.proofs.lists.AllOfLaws.{all-of-map}
 use Rattle.reader.proofs.BoolLaws.{apart, and-left, and-right, same}
 use Rattle.reader.proofs.ShapeLaws.{KeyTag, same-or}
-use Rattle.reader.proofs.ListLaws.{all-true, true-all, all-zip, all-map, order-tail, order-map, all-of-map, order-of-map, bodies-here, bodies-other, bodies-none, bodies-all, all-bodies, none-after}
-
--- what a shape says of a field
-
-or-cases : (a b : Bool) → (a || b) ≡ true → (a ≡ true) ⊎ (b ≡ true)
-or-cases true b h = inl refl
-or-cases false b h = inr h
-
-record Fits (f : Field) (s : Shape) : Type 0 where
-  tag : f .tag ≡ s .tag
-  least : s .least ≤ length (f .body)
-  most : length (f .body) ≤ s .most
-
-shaped-cases : (s : Shape) (ss : List Shape) (f : Field) → shaped (s ∷ ss) f ≡ true → Fits f s ⊎ (shaped ss f ≡ true)
-unfolding shaped
-shaped-cases s ss f h =
-    ⊎-elim
-    (λ k.
-    let l = and-right (eqb (f .tag) (s .tag)) _ k in
-    inl
-    record {
-      tag = eqb-true (f .tag) (s .tag) (and-left _ _ k);
-      least = leb-true (s .least) (length (f .body)) (and-left _ _ l);
-      most = leb-true (length (f .body)) (s .most) (and-right (leb (s .least) (length (f .body))) _ l);
-    })
-    inr
-    (or-cases (eqb (f .tag) (s .tag) && (leb (s .least) (length (f .body)) && leb (length (f .body)) (s .most))) _ h)
-
--- a field after field 1: its tag and its length
-pub data Listed (call t n : ℕ) : Type 0 where
-  key : KeyTag t → 37 ≤ n → n ≤ 293 → Listed call t n
-  reserved : t ≡ 64 → n ≡ 4 → Listed call t n
-  piece : call ≡ 1 → t ≡ 65 → n ≡ 13 → Listed call t n
-  freed : call ≡ 2 → t ≡ 66 → n ≡ 10 → Listed call t n
-
-listed-request : (call : ℕ) (f : Field) → shaped (requestShapes call) f ≡ true → Listed call (f .tag) (length (f .body))
-unfolding requestShapes shaped
-listed-request call f h = go (eqb call 1) (eqb call 2) refl refl h
-  where
-    go :
-        (p q : Bool) → eqb call 1 ≡ p → eqb call 2 ≡ q
-        → shaped (cond p (exactly 65 13 ∷ []) (cond q (exactly 66 10 ∷ []) [])) f ≡ true → Listed call (f .tag) (length (f .body))
-    go true q x y h =
-        ⊎-elim (λ w. piece (eqb-true call 1 x) (w .tag) (omega (arith, w .least, w .most))) (λ z. apart (sym z))
-        (shaped-cases (exactly 65 13) [] f h)
-    go false true x y h =
-        ⊎-elim (λ w. freed (eqb-true call 2 y) (w .tag) (omega (arith, w .least, w .most))) (λ z. apart (sym z))
-        (shaped-cases (exactly 66 10) [] f h)
-    go false false x y h = apart (sym h)
-
-pub listed : (call : ℕ) (f : Field) → shaped (restShapes call) f ≡ true → Listed call (f .tag) (length (f .body))
-unfolding restShapes volumeShapes
-listed call f h =
-    ⊎-elim (λ w. key (inl (w .tag)) (w .least) (w .most))
-    (λ h.
-    ⊎-elim (λ w. key (inr (inl (w .tag))) (w .least) (w .most))
-    (λ h.
-    ⊎-elim (λ w. key (inr (inr (inl (w .tag)))) (w .least) (w .most))
-    (λ h.
-    ⊎-elim (λ w. key (inr (inr (inr (inl (w .tag))))) (w .least) (w .most))
-    (λ h.
-    ⊎-elim (λ w. key (inr (inr (inr (inr (inl (w .tag)))))) (w .least) (w .most))
-    (λ h.
-    ⊎-elim (λ w. key (inr (inr (inr (inr (inr (w .tag)))))) (w .least) (w .most))
-    (λ h.
-    ⊎-elim (λ w. reserved (w .tag) (omega (arith, w .least, w .most))) (λ h. listed-request call f h)
-    (shaped-cases (exactly 64 4) _ f h))
-    (shaped-cases (keyShape 14) _ f h))
-    (shaped-cases (keyShape 13) _ f h))
-    (shaped-cases (keyShape 12) _ f h))
-    (shaped-cases (keyShape 11) _ f h))
-    (shaped-cases (keyShape 10) _ f h))
-    (shaped-cases (keyShape 4) _ f h)
-
-pub key-tag-bounds : (t : ℕ) → KeyTag t → (4 ≤ t) × (t ≤ 14)
-key-tag-bounds t (inl e) = (omega arith, omega arith)
-key-tag-bounds t (inr (inl e)) = (omega arith, omega arith)
-key-tag-bounds t (inr (inr (inl e))) = (omega arith, omega arith)
-key-tag-bounds t (inr (inr (inr (inl e)))) = (omega arith, omega arith)
-key-tag-bounds t (inr (inr (inr (inr (inl e))))) = (omega arith, omega arith)
-key-tag-bounds t (inr (inr (inr (inr (inr e))))) = (omega arith, omega arith)
-
-pub listed-above : {call t n : ℕ} → Listed call t n → 1 < t
-listed-above {t} (key k l m) = let b = key-tag-bounds t k in omega (arith, b .0)
-listed-above (reserved e l) = omega arith
-listed-above (piece c e l) = omega arith
-listed-above (freed c e l) = omega arith
-
--- a tag of a tree, or one above them
-abbrev Tagged : ℕ → Type 0
-Tagged t = KeyTag t ⊎ (14 < t)
-
-listed-tagged : {call t n : ℕ} → Listed call t n → Tagged t
-listed-tagged (key k l m) = inl k
-listed-tagged (reserved e l) = inr (omega arith)
-listed-tagged (piece c e l) = inr (omega arith)
-listed-tagged (freed c e l) = inr (omega arith)
-
--- each field and the next, and the bodies of each tag
-
-follows-up : (f g : Field) → follows f g ≡ true → leb (f .tag) (g .tag) ≡ true
-unfolding follows
-follows-up f g h =
-    le-leb (f .tag) (g .tag)
-    (⊎-elim (λ k. omega (arith, ltb-true (f .tag) (g .tag) k)) (λ k. omega (arith, eqb-true (f .tag) (g .tag) (and-left _ _ k)))
-    (or-cases (ltb (f .tag) (g .tag)) _ h))
-
-pub follows-up-all : (fs : List Field) → inOrder follows fs ≡ true → tagsAscend fs ≡ true
-unfolding tagsAscend
-follows-up-all fs h = order-map follows (λ f g. leb (f .tag) (g .tag)) follows-up fs h
-
-follows-ascends : (f g : Field) → f .tag ≡ g .tag → follows f g ≡ true → ascends (f .tag) (f .body) (g .body) ≡ true
-unfolding follows
-follows-ascends f g e h =
-    and-right (eqb (f .tag) (g .tag)) _ (rw (le-ltb (f .tag) (g .tag) (omega arith)) at h)
-
-joined :
-    (t : ℕ) (f g : Field) (fs : List Field) → f .tag ≡ t → inOrder follows (f ∷ g ∷ fs) ≡ true
-    → inOrder (ascends t) (bodies t (g ∷ fs)) ≡ true → inOrder (ascends t) (f .body ∷ bodies t (g ∷ fs)) ≡ true
-unfolding inOrder
-joined t f g fs e h ih =
-    let fg : follows f g ≡ true = and-left _ _ h in
-    ⊎-elim
-    (λ k.
-    rw (bodies-here t g fs k)
-    (both (rw e at (follows-ascends f g (e ∙ sym k) fg)) (rw (bodies-here t g fs k) at ih)))
-    (λ n.
-    rw
-    (none-after t g fs (follows-up-all (g ∷ fs) (and-right (follows f g) _ h))
-    (above (f .tag) (g .tag) e n (leb-true (f .tag) (g .tag) (follows-up f g fg)))))
-    (same-or (g .tag) t)
-  where
-    above : (a b : ℕ) → a ≡ t → (b ≡ t → ⊥) → a ≤ b → t < b
-    above a b e n l = omega arith
-
-order-from : (t : ℕ) (fs : List Field) → inOrder follows fs ≡ true → inOrder (ascends t) (bodies t fs) ≡ true
-unfolding inOrder bodies those
-order-from t [] h = refl
-order-from t (f ∷ []) h =
-    ⊎-elim (λ e. rw (bodies-here t f [] e)) (λ n. rw (bodies-other t f [] n)) (same-or (f .tag) t)
-order-from t (f ∷ g ∷ fs) h =
-    let ih = order-from t (g ∷ fs) (and-right (follows f g) _ h) in
-    ⊎-elim (λ e. rw (bodies-here t f (g ∷ fs) e) (joined t f g fs e h ih)) (λ n. rw (bodies-other t f (g ∷ fs) n) ih)
-    (same-or (f .tag) t)
-
-follows-same : (f g : Field) → f .tag ≡ g .tag → ascends (f .tag) (f .body) (g .body) ≡ true → follows f g ≡ true
-unfolding follows
-follows-same f g e h = simp (le-ltb (f .tag) (g .tag) (omega arith), eq-eqb (f .tag) (g .tag) e, h)
-
-follows-more : (f g : Field) → f .tag < g .tag → follows f g ≡ true
-unfolding follows
-follows-more f g l = simp (lt-ltb (f .tag) (g .tag) l)
-
--- the bodies of a tag after one field less
-less :
-    (t : ℕ) (f : Field) (fs : List Field) → inOrder (ascends t) (bodies t (f ∷ fs)) ≡ true
-    → inOrder (ascends t) (bodies t fs) ≡ true
-less t f fs h =
-    ⊎-elim (λ e. order-tail (ascends t) (f .body) (bodies t fs) (rw (bodies-here t f fs e) at h))
-    (λ n. rw (bodies-other t f fs n) at h) (same-or (f .tag) t)
-
-order-to :
-    (fs : List Field) → All (λ f. Tagged (f .tag)) fs → tagsAscend fs ≡ true
-    → ((t : ℕ) → Tagged t → inOrder (ascends t) (bodies t fs) ≡ true) → inOrder follows fs ≡ true
-unfolding inOrder tagsAscend
-order-to [] r a h = refl
-order-to (f ∷ []) r a h = refl
-order-to (f ∷ g ∷ fs) (more p r) a h =
-    both
-    (⊎-elim
-    (λ e.
-    follows-same f g e
-    (and-left (ascends (f .tag) (f .body) (g .body)) _
-    (rw (bodies-here (f .tag) f (g ∷ fs) refl, bodies-here (f .tag) g fs (sym e)) at (h (f .tag) p))))
-    (λ n. follows-more f g (omega (arith, leb-true (f .tag) (g .tag) (and-left _ _ a))))
-    (same-or (f .tag) (g .tag)))
-    (order-to (g ∷ fs) r (and-right (leb (f .tag) (g .tag)) _ a) (λ t k. less t f (g ∷ fs) (h t k)))
+use Rattle.reader.proofs.ListLaws.{bodies-here, bodies-other, bodies-none, bodies-all, all-bodies, none-after}
+use Rattle.reader.proofs.ListedLaws.{Fits, shaped-cases, Listed, key, reserved, piece, freed, listed, key-tag-bounds, listed-above, Tagged, listed-tagged}
+use Rattle.reader.proofs.FollowsLaws.{follows-up-all, order-from, follows-more, less, order-to}
 
 -- a tree's keys
 
 abbrev snapshot0 : List ℕ → Bool
 snapshot0 b = eqb (keyOf b .pos .snapshot) 0
 
-order-same :
-    {A : Type 0} (R Q : A → A → Bool) → ((x y : A) → R x y ≡ Q x y) → (xs : List A) → inOrder R xs ≡ inOrder Q xs
-unfolding inOrder
-order-same R Q f [] = refl
-order-same R Q f (x ∷ []) = refl
-order-same R Q f (x ∷ y ∷ xs) = λ i. f x y i && order-same R Q f (y ∷ xs) i
-
 tree-ok :
     (t : ℕ) → t ≤ 14 → (bs : List (List ℕ)) → keysOk (map keyOf bs) ≡ (inOrder (ascends t) bs && allOf snapshot0 bs)
 unfolding keysOk ascends
 tree-ok t l bs =
     λ i.
-    (order-of-map (λ (a b : Key). posLess (a .pos) (b .pos)) keyOf bs
+    (order-map (λ (a b : Key). posLess (a .pos) (b .pos)) keyOf bs
     ∙ order-same (λ a b. posLess (keyOf a .pos) (keyOf b .pos)) (ascends t) (λ a b. simp (le-leb t 14 l)) bs)
     i
     && all-of-map (λ (k : Key). eqb (k .pos .snapshot) 0) keyOf bs i
@@ -300,7 +121,7 @@ none-second : (f : Field) (fs : List Field) → f .tag ≡ 1 → eqb (length (bo
 unfolding allOf
 none-second f fs e h =
     let z : length (bodies 1 fs) ≡ 0 = omega (arith, eqb-true (length (f .body ∷ bodies 1 fs)) 1 (rw (bodies-here 1 f fs e) at h)) in
-    all-map (λ g k q. apart (sym (k q))) (bodies-all 1 (λ b. false) fs (empty (bodies 1 fs) z))
+    all-imp (λ g k q. apart (sym (k q))) (bodies-all 1 (λ b. false) fs (empty (bodies 1 fs) z))
   where
     empty : (bs : List (List ℕ)) → length bs ≡ 0 → allOf (λ (b : List ℕ). false) bs ≡ true
     empty [] z = refl
@@ -309,7 +130,7 @@ none-second f fs e h =
 -- the keys of a tree and the reserved buckets, when no tag is 1
 reserved-order : (fs : List Field) → inOrder bucketBelow (map bucketRead (bodies 64 fs)) ≡ inOrder (ascends 64) (bodies 64 fs)
 unfolding ascends
-reserved-order fs = order-of-map bucketBelow bucketRead (bodies 64 fs)
+reserved-order fs = order-map bucketBelow bucketRead (bodies 64 fs)
 
 ascends-rest : (t : ℕ) (a b : List ℕ) → 14 < t → (t ≡ 64 → ⊥) → ascends t a b ≡ true
 unfolding ascends
@@ -338,9 +159,9 @@ module _ (call : ℕ) (any : Bool) (f : Field) (fs : List Field) where
       → eqb (length (bodies 1 (f ∷ fs))) 1 ≡ true → All (λ g. shaped (restShapes call) g ≡ true) fs
   unfolding volumeShapes restShapes allOf
   laid-rest a e c =
-      all-map
+      all-imp
       (λ g k. ⊎-elim (λ w. absurd (k .1 (w .tag))) (λ h. h) (shaped-cases (exactly 1 39) (restShapes call) g (k .0)))
-      (all-zip (all-true (shaped (volumeShapes ++ requestShapes call)) fs (and-right (shaped (volumeShapes ++ requestShapes call) f) _ a)) (none-second f fs e c))
+      (all-zip (test-all (shaped (volumeShapes ++ requestShapes call)) fs (and-right (shaped (volumeShapes ++ requestShapes call) f) _ a)) (none-second f fs e c))
 
 tags-tail : (f : Field) (fs : List Field) → tagsAscend (f ∷ fs) ≡ true → tagsAscend fs ≡ true
 unfolding tagsAscend
@@ -428,9 +249,9 @@ module _ (call : ℕ) (any : Bool) (f : Field) (fs : List Field) where
       (both (both (eq-eqb (f .tag) 1 (w .tag)) (eq-eqb (length (f .body)) 39 (omega (arith, w .least, w .most))))
       (both headed named))
       (both
-      (true-all (callFieldOk call) (all-map (λ g k. both (k .0) (listed-field g (listed call g (k .0)) (k .1))) (all-zip q zeros)))
-      (first-order f fs (w .tag) (all-map (λ g k. listed-above (listed call g k)) q)
-      (order-to fs (all-map (λ g k. listed-tagged (listed call g k)) q) (tags-tail f fs (p .tags)) ordered)))
+      (all-test (callFieldOk call) (all-imp (λ g k. both (k .0) (listed-field g (listed call g (k .0)) (k .1))) (all-zip q zeros)))
+      (first-order f fs (w .tag) (all-imp (λ g k. listed-above (listed call g k)) q)
+      (order-to fs (all-imp (λ g k. listed-tagged (listed call g k)) q) (tags-tail f fs (p .tags)) ordered)))
 
   laid-to :
       (startsOk call any (f ∷ fs) && (allOf (callFieldOk call) fs && inOrder follows (f ∷ fs))) ≡ true
@@ -444,17 +265,17 @@ module _ (call : ℕ) (any : Bool) (f : Field) (fs : List Field) where
       let s2 = and-right (eqb (f .tag) 1 && eqb (length (f .body)) 39) _ s in
       let e : f .tag ≡ 1 = eqb-true (f .tag) 1 (and-left _ _ s1) in
       let n : length (f .body) ≡ 39 = eqb-true (length (f .body)) 39 (and-right (eqb (f .tag) 1) _ s1) in
-      let q = all-true (callFieldOk call) fs (and-left _ _ x) in
+      let q = test-all (callFieldOk call) fs (and-left _ _ x) in
       let hb : firstBody (bodies 1 (f ∷ fs)) ≡ f .body = ap firstBody (bodies-here 1 f fs e) in
       let others : bodies 1 fs ≡ []
-      = bodies-none 1 (all-map (λ g k z. omega (arith, listed-above (listed call g (and-left (shaped (restShapes call) g) _ k)))) q) in
+      = bodies-none 1 (all-imp (λ g k z. omega (arith, listed-above (listed call g (and-left (shaped (restShapes call) g) _ k)))) q) in
       let once : bodies 1 (f ∷ fs) ≡ f .body ∷ [] = bodies-here 1 f fs e ∙ ap (λ (bs : List (List ℕ)). f .body ∷ bs) others in
       let counted : eqb (length (bodies 1 (f ∷ fs))) 1 ≡ true = rw once in
       let headed : headOk (headOf (firstBody (bodies 1 (f ∷ fs)))) ≡ true = rw hb (and-left _ _ s2) in
       let named : (any || eqb (headOf (firstBody (bodies 1 (f ∷ fs))) .call) call) ≡ true
       = rw hb (and-right (headOk (headOf (f .body))) _ s2) in
       both
-      (both (both (shaped-first (restShapes call) f e n) (true-all (shaped (volumeShapes ++ requestShapes call)) (all-map (λ g k. shaped-more (exactly 1 39) (restShapes call) g (and-left (shaped (restShapes call) g) _ k)) q)))
+      (both (both (shaped-first (restShapes call) f e n) (all-test (shaped (volumeShapes ++ requestShapes call)) (all-imp (λ g k. shaped-more (exactly 1 39) (restShapes call) g (and-left (shaped (restShapes call) g) _ k)) q)))
       (both (follows-up-all (f ∷ fs) ord)
       (both counted
       (both headed
@@ -465,7 +286,7 @@ module _ (call : ℕ) (any : Bool) (f : Field) (fs : List Field) where
       ∙ both (order-from t (f ∷ fs) ord)
       (all-bodies t snapshot0
       (more (λ z. absurd (omega (arith, key-tag-bounds t k .0)))
-      (all-map (λ g j z. sym (key-field g (rw z k)) ∙ and-right (shaped (restShapes call) g) _ j) q)))))
+      (all-imp (λ g j z. sym (key-field g (rw z k)) ∙ and-right (shaped (restShapes call) g) _ j) q)))))
       (reserved-order (f ∷ fs) ∙ order-from 64 (f ∷ fs) ord))))))
       named
 

@@ -2,6 +2,8 @@ pub mod BoolLaws
 pub mod ChangeLaws
 pub mod HeadLaws
 pub mod KeyHereLaws
+pub mod ListedLaws
+pub mod FollowsLaws
 pub mod LayoutLaws
 pub mod LimitLaws
 pub mod ListLaws
@@ -12,7 +14,10 @@ pub mod OrderingLaws
 pub mod PieceLaws
 pub mod PlaceLaws
 pub mod RankLaws
+pub mod FirstFieldLaws
+pub mod ListRefusalLaws
 pub mod ReadingLaws
+pub mod ReadEndLaws
 pub mod ShapeLaws
 pub mod FieldRankLaws
 pub mod TableLaws

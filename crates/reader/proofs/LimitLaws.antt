@@ -18,10 +18,12 @@ use Rattle.calls.specs.Limits.{fewKeys, countsOk, bucketsOk, volumeWithin, list
 use Rattle.reader.specs.CallFields.{headWithin, allocWithin, runWithin, waitingWithin, fieldWithin}
 use Rattle.reader.specs.Table.{rankOf, mostOf}
 use Rattle.calls.proofs.lists.BoolLaws.{both}
+use Rattle.calls.proofs.lists.AllLaws.{test-all, all-test, all-imp, all-zip}
+use Rattle.calls.proofs.lists.AllOfLaws.{all-of-map}
 use Rattle.reader.proofs.BoolLaws.{and-left, and-right}
 use Rattle.reader.proofs.ShapeLaws.{same-or}
-use Rattle.reader.proofs.ListLaws.{all-true, true-all, all-zip, all-map, all-of-map, bodies-all, all-bodies}
-use Rattle.reader.proofs.LayoutLaws.{Listed, key, reserved, piece, freed}
+use Rattle.reader.proofs.ListLaws.{bodies-all, all-bodies}
+use Rattle.reader.proofs.ListedLaws.{Listed, key, reserved, piece, freed}
 
 -- the limits, one by one
 pub record Within (fs : List Field) : Type 0 where
@@ -142,8 +144,8 @@ module _ (f : Field) where
 -- a list's fields keep the limits
 pub fields-within : (fs : List Field) → Within fs → allOf fieldWithin fs ≡ true
 fields-within fs w =
-    true-all fieldWithin
-    (all-map (λ f h. field-made f (h .0) (h .1 .0) (h .1 .1 .0) (h .1 .1 .1))
+    all-test fieldWithin
+    (all-imp (λ f h. field-made f (h .0) (h .1 .0) (h .1 .1 .0) (h .1 .1 .1))
     (all-zip (bodies-all 4 (λ b. allocWithin (keyOf b)) fs (w .allocKeys))
     (all-zip (bodies-all 11 (λ b. runWithin (keyOf b)) fs (w .runKeys))
     (all-zip (bodies-all 12 (λ b. waitingWithin (keyOf b)) fs (w .waitingKeys))
@@ -151,19 +153,19 @@ fields-within fs w =
 
 module _ (fs : List Field) (h : allOf fieldWithin fs ≡ true) where
   each : All (λ f. fieldWithin f ≡ true) fs
-  each = all-true fieldWithin fs h
+  each = test-all fieldWithin fs h
 
   pub within-alloc : allOf (λ b. allocWithin (keyOf b)) (bodies 4 fs) ≡ true
-  within-alloc = all-bodies 4 (λ b. allocWithin (keyOf b)) (all-map field-alloc each)
+  within-alloc = all-bodies 4 (λ b. allocWithin (keyOf b)) (all-imp field-alloc each)
 
   pub within-run : allOf (λ b. runWithin (keyOf b)) (bodies 11 fs) ≡ true
-  within-run = all-bodies 11 (λ b. runWithin (keyOf b)) (all-map field-run each)
+  within-run = all-bodies 11 (λ b. runWithin (keyOf b)) (all-imp field-run each)
 
   pub within-waiting : allOf (λ b. waitingWithin (keyOf b)) (bodies 12 fs) ≡ true
-  within-waiting = all-bodies 12 (λ b. waitingWithin (keyOf b)) (all-map field-waiting each)
+  within-waiting = all-bodies 12 (λ b. waitingWithin (keyOf b)) (all-imp field-waiting each)
 
   pub within-reserved : allOf (λ b. bucketInRange (bucketRead b)) (bodies 64 fs) ≡ true
-  within-reserved = all-bodies 64 (λ b. bucketInRange (bucketRead b)) (all-map field-reserved each)
+  within-reserved = all-bodies 64 (λ b. bucketInRange (bucketRead b)) (all-imp field-reserved each)
 
 -- a tag's fields are no more than may be
 pub few-at : {call t n : ℕ} (fs : List Field) → Within fs → Listed call t n → length (bodies t fs) ≤ mostOf (rankOf t)

@@ -1,9 +1,9 @@
--- Laws of tests over a list: of every element, of each element and the next, and over the bodies of one tag.
+-- The bodies of one tag, and tags that ascend.
 use Prim.Native.Nat.{ℕ, _≤_, _<_}
-use mathlib.Core.Path.{_≡_, refl, _∙_, ap}
+use mathlib.Core.Path.{_≡_, refl, _∙_}
 use mathlib.Core.Logic.{⊎-elim}
-use mathlib.Core.List.{List, [], _∷_, map}
-use mathlib.Core.Bool.{Bool, true, _&&_}
+use mathlib.Core.List.{List, [], _∷_}
+use mathlib.Core.Bool.{Bool, true}
 use lib.Dec.{leb}
 use borrow.Author.Tests.{eq-eqb, ne-eqb, leb-true}
 use native.Mathlib.Omega.{arith}
@@ -12,54 +12,9 @@ use Rattle.wire.specs.Bytes.{All, none, more}
 use Rattle.calls.specs.Lists.{allOf, those, inOrder}
 use Rattle.calls.specs.CallList.{bodies, tagsAscend}
 use Rattle.calls.proofs.lists.BoolLaws.{both}
+use Rattle.calls.proofs.lists.AllLaws.{all-imp}
 use Rattle.reader.proofs.BoolLaws.{and-left, and-right}
 use Rattle.reader.proofs.ShapeLaws.{same-or}
-
-module _ {A : Type 0} where
-  pub all-true : (t : A → Bool) (xs : List A) → allOf t xs ≡ true → All (λ x. t x ≡ true) xs
-  unfolding allOf
-  all-true t [] h = none
-  all-true t (x ∷ xs) h = more (and-left _ _ h) (all-true t xs (and-right (t x) _ h))
-
-  pub true-all : (t : A → Bool) {xs : List A} → All (λ x. t x ≡ true) xs → allOf t xs ≡ true
-  unfolding allOf
-  true-all t none = refl
-  true-all t (more h r) = simp (h, true-all t r)
-
-  pub all-zip : {P Q : A → Type 0} {xs : List A} → All P xs → All Q xs → All (λ x. P x × Q x) xs
-  all-zip none none = none
-  all-zip (more h r) (more k q) = more (h, k) (all-zip r q)
-
-  pub all-map : {P Q : A → Type 0} → ((x : A) → P x → Q x) → {xs : List A} → All P xs → All Q xs
-  all-map f none = none
-  all-map f (more {a = x} h r) = more (f x h) (all-map f r)
-
-  pub order-tail : (R : A → A → Bool) (x : A) (xs : List A) → inOrder R (x ∷ xs) ≡ true → inOrder R xs ≡ true
-  unfolding inOrder
-  order-tail R x [] h = refl
-  order-tail R x (y ∷ ys) h = and-right (R x y) _ h
-
-  -- a relation that follows from another
-  pub order-map :
-      (R Q : A → A → Bool) → ((x y : A) → R x y ≡ true → Q x y ≡ true) → (xs : List A) → inOrder R xs ≡ true
-      → inOrder Q xs ≡ true
-  unfolding inOrder
-  order-map R Q f [] h = refl
-  order-map R Q f (x ∷ []) h = refl
-  order-map R Q f (x ∷ y ∷ xs) h =
-      both (f x y (and-left _ _ h)) (order-map R Q f (y ∷ xs) (and-right (R x y) _ h))
-
-pub all-of-map : {A B : Type 0} (p : B → Bool) (f : A → B) (xs : List A) → allOf p (map f xs) ≡ allOf (λ x. p (f x)) xs
-unfolding allOf
-all-of-map p f [] = refl
-all-of-map p f (x ∷ xs) = ap (λ (b : Bool). p (f x) && b) (all-of-map p f xs)
-
-pub order-of-map :
-    {A B : Type 0} (R : B → B → Bool) (f : A → B) (xs : List A) → inOrder R (map f xs) ≡ inOrder (λ x y. R (f x) (f y)) xs
-unfolding inOrder
-order-of-map R f [] = refl
-order-of-map R f (x ∷ []) = refl
-order-of-map R f (x ∷ y ∷ xs) = ap (λ (b : Bool). R (f x) (f y) && b) (order-of-map R f (y ∷ xs))
 
 -- the bodies of one tag
 
@@ -107,8 +62,8 @@ unfolding tagsAscend inOrder
 tags-after f [] h = none
 tags-after f (g ∷ fs) h =
     let l : f .tag ≤ g .tag = leb-true (f .tag) (g .tag) (and-left _ _ h) in
-    more l (all-map (λ x k. omega arith) (tags-after g fs (and-right (leb (f .tag) (g .tag)) _ h)))
+    more l (all-imp (λ x k. omega arith) (tags-after g fs (and-right (leb (f .tag) (g .tag)) _ h)))
 
 -- no field of a tag stands after one with a higher tag
 pub none-after : (t : ℕ) (f : Field) (fs : List Field) → tagsAscend (f ∷ fs) ≡ true → t < f .tag → bodies t (f ∷ fs) ≡ []
-none-after t f fs h l = bodies-none t (more (λ e. omega arith) (all-map (λ g k e. omega arith) (tags-after f fs h)))
+none-after t f fs h l = bodies-none t (more (λ e. omega arith) (all-imp (λ g k e. omega arith) (tags-after f fs h)))

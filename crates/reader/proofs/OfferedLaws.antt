@@ -1,5 +1,5 @@
 -- What later passes may use of a list that was read: its limits, and the length of each body at its place.
-use Prim.Native.Nat.{ℕ, zero, suc, _+_, _-_, _≤_, _<_}
+use Prim.Native.Nat.{ℕ, _+_, _-_, _≤_, _<_}
 use mathlib.Core.Path.{_≡_, refl, sym, _∙_, ap, subst}
 use mathlib.Core.Logic.{⊎-elim}
 use mathlib.Core.List.{List, [], _∷_}
@@ -13,15 +13,19 @@ use Rattle.wire.proofs.NumberLaws.{body-length}
 use Rattle.calls.specs.Lists.{those}
 use Rattle.calls.specs.CallList.{bodies, callListOf}
 use Rattle.calls.specs.Limits.{listWithin}
+use Rattle.calls.proofs.lists.AllLaws.{all-nth}
 use Rattle.reader.specs.CallFields.{startsOk}
 use Rattle.reader.specs.Table.{FieldHere}
 use Rattle.reader.specs.Readings.{callRefusal, volumeRefusal, listRefusal}
 use Rattle.reader.proofs.BoolLaws.{and-left, and-right, apart}
 use Rattle.reader.proofs.ShapeLaws.{same-or}
 use Rattle.reader.proofs.ListLaws.{bodies-here, bodies-other}
-use Rattle.reader.proofs.LayoutLaws.{Listed, key, reserved, piece, freed, key-tag-bounds, laidFields, laid-is, laid-none}
+use Rattle.reader.proofs.ListedLaws.{Listed, key, reserved, piece, freed, key-tag-bounds}
+use Rattle.reader.proofs.LayoutLaws.{laidFields, laid-is, laid-none}
 use Rattle.reader.proofs.FieldRankLaws.{AllListed}
-use Rattle.reader.proofs.ReadingLaws.{refusal-is, opened, all-listed, after-first}
+use Rattle.reader.proofs.FirstFieldLaws.{opened, after-first}
+use Rattle.reader.proofs.ListRefusalLaws.{refusal-is}
+use Rattle.reader.proofs.ReadingLaws.{all-listed}
 use Rattle.reader.proofs.VolumeLaws.{call-refusal, volume-refusal}
 
 -- a list that is not refused
@@ -61,11 +65,6 @@ bodies-listed call t (more {a = f} {s = fs} l r) =
     ⊎-elim (λ e. rw (bodies-here t f fs e) (more (subst (λ (u : ℕ). Listed call u (length (f .body))) e l) (bodies-listed call t r)))
     (λ n. rw (bodies-other t f fs n) (bodies-listed call t r)) (same-or (f .tag) t)
 
-all-at : {A : Type 0} {P : A → Type 0} {xs : List A} → All P xs → (d : A) (i : ℕ) → i < length xs → P (getD xs i d)
-all-at none d i h = absurd (omega arith)
-all-at (more p r) d zero h = p
-all-at (more p r) d (suc i) h = all-at r d i (omega arith)
-
 -- a list that `read_call` or `read_volume` read: its refusal is 0
 pub call-kept : (call : ℕ) (s : List ℕ) → 0 ≡ callRefusal call s → 0 ≡ listRefusal call false s
 call-kept call s h = h ∙ sym (call-refusal call s)
@@ -84,7 +83,7 @@ module _ (call : ℕ) (any : Bool) (s : List ℕ) (h : 0 ≡ listRefusal call an
       let q = kept s call any h .laid in
       let z = after-first s call any (opened s call any (started s call any q)) t l in
       let r : All (λ b. Listed call t (length b)) (bodies t (fields s)) = rw z (bodies-listed call t (rest-listed s call any q)) in
-      all-at r [] i k
+      all-nth [] r i k
 
 -- the length before a body is the body's
 pub here-length : {s body : List ℕ} {at tag : ℕ} → FieldHere s at tag body → length body ≡ le 2 (drop (at - 2) s)

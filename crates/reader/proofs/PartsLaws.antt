@@ -18,6 +18,7 @@ use Rattle.calls.proofs.lists.BoolLaws.{parts}
 use Rattle.calls.proofs.encoding.KeyFitsLaws.{list-within}
 use Rattle.calls.proofs.answers.OutcomeLaws.{answer-next, answer-stops}
 use Rattle.reader.specs.Table.{Tabled}
+pub use Rattle.reader.specs.Table.{between}
 use Rattle.reader.specs.Readings.{callRefusal, listRefusal, ListRead}
 use Rattle.reader.specs.Located.{KeysAt, BucketsAt, PiecesAt, FreedsAt}
 use Rattle.reader.specs.declared.head.Head.{Head}
@@ -99,10 +100,6 @@ few-in c h =
       gens = leb-true (length (t .gens)) 4096 (back .1);
       reserved = leb-true (length (v .reserved)) 4096 (reserved .0);
     }
-
--- the offsets from one end to the next
-abbrev pub between : ℕ → ℕ → List ℕ → List ℕ
-between from to index = take (to - from) (drop from index)
 
 -- a part of the table within it
 pub record Part (from to most : ℕ) (index : List ℕ) : Type 0 where

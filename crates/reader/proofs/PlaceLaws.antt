@@ -23,7 +23,7 @@ use Rattle.reader.specs.CallFields.{fieldFrom, leastOf, ascends, follows
 use Rattle.reader.specs.Table.{FieldHere}
 use Rattle.reader.proofs.ShapeLaws.{same-or}
 use Rattle.reader.proofs.OrderingLaws.{least-key, least-reserved}
-use Rattle.reader.proofs.LayoutLaws.{Listed, key, reserved, piece, freed, key-tag-bounds}
+use Rattle.reader.proofs.ListedLaws.{Listed, key, reserved, piece, freed, key-tag-bounds}
 
 module _ (s : List ℕ) (b n : ℕ) where
   pos-cut : 37 ≤ n → keyOf (take n (drop b s)) .pos ≡ keyOf (drop b s) .pos

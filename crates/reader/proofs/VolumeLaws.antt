@@ -10,10 +10,11 @@ use Rattle.calls.specs.Lists.{allOf}
 use Rattle.calls.specs.CallList.{bodies, callListOf, shaped, volumeShapes, requestShapes, laidOut, callLaidOut, volumeLaidOut}
 use Rattle.calls.specs.Limits.{volumeWithin, listWithin}
 use Rattle.calls.specs.Refusals.{test, verdict}
+use Rattle.calls.proofs.lists.AllLaws.{test-all, all-imp}
 use Rattle.reader.specs.Readings.{callRefusal, volumeRefusal, listRefusal}
 use Rattle.reader.proofs.BoolLaws.{and-left, and-right}
 use Rattle.reader.proofs.ShapeLaws.{shaped-below}
-use Rattle.reader.proofs.ListLaws.{all-true, all-map, bodies-none}
+use Rattle.reader.proofs.ListLaws.{bodies-none}
 
 pub call-refusal : (call : ℕ) (s : List ℕ) → listRefusal call false s ≡ callRefusal call s
 unfolding listRefusal callRefusal callLaidOut
@@ -23,14 +24,14 @@ call-refusal call s = refl
 tags-below : (s : List ℕ) → laidOut volumeShapes s ≡ true → All (λ f. f .tag ≤ 64) (fields s)
 unfolding laidOut volumeShapes allOf
 tags-below s h =
-    all-map (λ f k. shaped-below 64 volumeShapes f refl k)
-    (all-true (shaped volumeShapes) (fields s) (and-left _ _ (and-right (whole s) _ h)))
+    all-imp (λ f k. shaped-below 64 volumeShapes f refl k)
+    (test-all (shaped volumeShapes) (fields s) (and-left _ _ (and-right (whole s) _ h)))
 
 no-requests : (s : List ℕ) → laidOut volumeShapes s ≡ true → listWithin (callListOf (fields s)) ≡ volumeWithin (callListOf (fields s) .volume)
 unfolding listWithin callListOf
 no-requests s h =
-    let a : bodies 65 (fields s) ≡ [] = bodies-none 65 (all-map (λ f k e. omega arith) (tags-below s h)) in
-    let b : bodies 66 (fields s) ≡ [] = bodies-none 66 (all-map (λ f k e. omega arith) (tags-below s h)) in
+    let a : bodies 65 (fields s) ≡ [] = bodies-none 65 (all-imp (λ f k e. omega arith) (tags-below s h)) in
+    let b : bodies 66 (fields s) ≡ [] = bodies-none 66 (all-imp (λ f k e. omega arith) (tags-below s h)) in
     rw (a, b) (and-true _)
 
 pub volume-refusal : (s : List ℕ) → listRefusal 0 true s ≡ volumeRefusal s

@@ -23,7 +23,7 @@ use Rattle.calls.specs.Lru.{needDiscardKey}
 use Rattle.calls.specs.Place.{rootMissing, rootsIf}
 use Rattle.calls.specs.Release.{freedOk, freedBuckets, freedIn, isEmptied, releasedKey, releasedLru, emptiedGen, gensQueued, unusedChange, releaseRows, releaseBatch}
 use Rattle.calls.specs.Trees.{deletion}
-use Rattle.calls.proofs.lists.AllLaws.{those-length}
+use Rattle.calls.proofs.lists.ThoseLaws.{those-length}
 use Rattle.calls.proofs.encoding.ApplyLaws.{up-order, up-those}
 use Rattle.calls.proofs.lists.BoolLaws.{parts}
 use Rattle.calls.proofs.freespace.BucketLaws.{isIn-those}

@@ -26,7 +26,8 @@ use Rattle.reader.specs.declared.head.Head.{Head}
 use Rattle.reader.specs.declared.table.Ends.{Ends}
 use Rattle.reader.proofs.CheckedLaws.{checked}
 use Rattle.reader.proofs.KeyHereLaws.{keyed, keys-here}
-use Rattle.reader.proofs.PartsLaws.{passed, read-on, read-refused, between, Part, alloc-part, gens-part, freeds-part}
+use Rattle.reader.proofs.PartsLaws.{passed, read-on, read-refused, Part, alloc-part, gens-part, freeds-part}
+use Rattle.reader.specs.Table.{between}
 use Rattle.release_sums.specs.Freeds.{freedsIn, Requested}
 use Rattle.release_sums.specs.Summing.{Cleared}
 use Rattle.release_keys.specs.Places.{Keyed}

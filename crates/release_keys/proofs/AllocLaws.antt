@@ -19,7 +19,7 @@ use Rattle.calls.specs.CallList.{keysOk}
 use Rattle.calls.specs.Lists.{inOrder}
 use Rattle.calls.specs.Trees.{lookup}
 use Rattle.calls.proofs.lists.BoolLaws.{clash, parts}
-use Rattle.calls.proofs.trees.SortedLaws.{order-sorted, lookup-chain, Chain, Sorted}
+use Rattle.calls.proofs.trees.SortedLaws.{lookup-chain, Chain, Sorted, sorted-drop, keys-order}
 use Rattle.calls.proofs.trees.TreeLaws.{onEq-ne}
 use Rattle.calls.proofs.history.View.{bucket}
 use Rattle.reader.specs.KeyHere.{keysHere}
@@ -60,16 +60,6 @@ module _ {s offsets : List ℕ} (keyed : Keyed s offsets) (from : ℕ) (p : Bpos
       record { on = omega (arith, v .on, keyed .count); same = v .same; stops = λ l. absurd (omega (arith, keyed .count)) }
 
 -- ---- the key at a position, which none stands before
-sorted-drop : (i : ℕ) (ks : List Key) → Sorted ks → Sorted (drop i ks)
-sorted-drop zero ks h = h
-sorted-drop (suc i) [] h = tt
-sorted-drop (suc i) (k ∷ []) h = sorted-drop i [] tt
-sorted-drop (suc i) (k ∷ l ∷ ks) h = sorted-drop i (l ∷ ks) (h .1)
-
-keys-sorted : (ks : List Key) → keysOk ks ≡ true → Sorted ks
-unfolding keysOk
-keys-sorted ks h = order-sorted ks (parts (inOrder (λ a b. posLess (a .pos) (b .pos)) ks) _ h .0)
-
 pub look-here : (p : Bpos) {l : List Key} {k : Key} {ks : List Key} → l ≡ k ∷ ks → posSame (k .pos) p ≡ true → lookup p l ≡ some k
 unfolding lookup
 look-here p {k = k} {ks = ks} e h =
@@ -104,7 +94,7 @@ module _ {s offsets : List ℕ} (keyed : Keyed s offsets) (i : ℕ) (p : Bpos) w
   pub here-other : keysOk (keysHere s offsets) ≡ true → i < length offsets → posLess (getD (keysHere s offsets) i noKey .pos) p ≡ false
       → posSame (getD (keysHere s offsets) i noKey .pos) p ≡ false → PlaceOf s 0 (lookup p rest)
   here-other o h l e =
-      rw (look-after p (keyed-next keyed i h) (sorted-drop i (keysHere s offsets) (keys-sorted (keysHere s offsets) o)) l e) missing
+      rw (look-after p (keyed-next keyed i h) (sorted-drop i (keysHere s offsets) (keys-order (keysHere s offsets) o .0)) l e) missing
 
   pub here-none : length offsets ≤ i → PlaceOf s 0 (lookup p rest)
   here-none h =

@@ -2,7 +2,7 @@
 use mathlib.Core.Bool.{true}
 use mathlib.Core.Path.{_≡_, sym, ap, _∙_}
 use mathlib.Core.List.{List, [], _∷_, map}
-use Prim.Native.Nat.{ℕ, zero, suc, _≤_, _<_}
+use Prim.Native.Nat.{ℕ, _+_, _≤_, _<_}
 use native.Mathlib.Omega.{arith}
 use lib.ListN.{length, getD, drop}
 use Rattle.wire.specs.Keys.{Key}
@@ -14,11 +14,11 @@ use Rattle.calls.specs.CallList.{Volume, Freed}
 use Rattle.calls.specs.Lists.{allOf}
 use Rattle.calls.specs.Refusals.{verdict}
 use Rattle.calls.specs.Release.{freedBuckets, bucketRefusal}
-use Rattle.calls.proofs.answers.RefusalLaws.{verdict-ok}
+use Rattle.calls.proofs.answers.RefusalLaws.{verdict-map-first, verdict-map-drop}
 use Rattle.calls.proofs.release.ReleaseLaws.{Held, held-of}
 use Rattle.calls.proofs.history.View.{bucket}
+use Rattle.calls.proofs.lists.AllOfLaws.{all-of-drop, all-of-first}
 use Rattle.reader.specs.KeyHere.{keyHere, Whole}
-use Rattle.reader.proofs.AllLaws.{all-drop, all-first}
 use Rattle.change_fields.proofs.BucketTables.{table-at, table-next}
 use Rattle.release_keys.specs.FreedBuckets.{freedBucketOf}
 use Rattle.release_keys.specs.declared.freed_buckets.FreedBucket.{FreedBucket}
@@ -28,7 +28,7 @@ use Rattle.release_keys.proofs.RefusalLaws.{dirty-is}
 
 -- each is within the limit
 pub range-at : (ns : List ℕ) → allOf bucketInRange (bucketsIn ns) ≡ true → (k : ℕ) → k < length ns → bucketInRange (bucket (getD ns k 0)) ≡ true
-range-at ns o k h = all-first bucketInRange (all-drop bucketInRange (bucketsIn ns) k o) (table-next ns k h)
+range-at ns o k h = all-of-first bucketInRange (all-of-drop bucketInRange (bucketsIn ns) k o) (table-next ns k h)
 
 -- what the tables say of the bucket at an index
 pub entry-at : {s : List ℕ} {v : Volume} {rs : List Freed} {buckets freed places : List ℕ} → FreedTables s v rs buckets freed places → (k : ℕ) → k < length buckets
@@ -43,14 +43,6 @@ tabled-verdict {v = v} {rs} t e =
     ap (λ (l : List Bucket). verdict (map (bucketRefusal v rs) l)) (t .named ∙ ap (λ (n : ℕ). freedBuckets n rs) e)
 
 -- ---- no bucket refuses
-verdict-drop : (f : Bucket → ℕ) (k : ℕ) (bs : List Bucket) → verdict (map f bs) ≡ 0 → verdict (map f (drop k bs)) ≡ 0
-verdict-drop f zero bs h = h
-verdict-drop f (suc k) [] h = h
-verdict-drop f (suc k) (b ∷ bs) h = verdict-drop f k bs (verdict-ok (f b) (map f bs) h .1)
-
-verdict-first : (f : Bucket → ℕ) {l : List Bucket} {b : Bucket} {rest : List Bucket} → l ≡ b ∷ rest → verdict (map f l) ≡ 0 → f b ≡ 0
-verdict-first f {b = b} {rest = rest} e h = verdict-ok (f b) (map f rest) (sym (ap (λ (l : List Bucket). verdict (map f l)) e) ∙ h) .0
-
 -- what stands at a place that the refusals passed
 pub record AllocHeld (s : List ℕ) (sectors sum place : ℕ) : Type 0 where
   pub there : Whole s place
@@ -63,7 +55,7 @@ module _ {s buckets freed places : List ℕ} (p : Unrefused s buckets freed plac
   held-at =
       let e = ap (drop k) (sym (p .tabled .named)) ∙ table-next buckets k h in
       held-of (p .volume) (p .requests) (bucket (getD buckets k 0))
-      (verdict-first (bucketRefusal (p .volume) (p .requests)) e (verdict-drop (bucketRefusal (p .volume) (p .requests)) k _ (p .none-refuses)))
+      (verdict-map-first (bucketRefusal (p .volume) (p .requests)) e (verdict-map-drop (bucketRefusal (p .volume) (p .requests)) k _ (p .none-refuses)))
 
   pub ready : AllocHeld s (p .volume .head .bucketSectors) (getD freed k 0) (getD places k 0)
   ready =

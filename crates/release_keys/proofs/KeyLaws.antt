@@ -1,7 +1,7 @@
 -- The keys that a freed bucket leaves.
 use mathlib.Core.Path.{_≡_, sym, ap, _∙_}
-use mathlib.Core.Bool.{Bool, true, false, cond}
-use mathlib.Core.List.{List, [], _∷_, _++_, append-nil}
+use mathlib.Core.Bool.{cond}
+use mathlib.Core.List.{List, [], _++_, append-nil}
 use mathlib.Core.Option.{some}
 use Prim.Native.Nat.{ℕ, _-_, _^_, _<_}
 use native.Mathlib.Nat.{div-lt-iff-lt-mul}
@@ -17,7 +17,6 @@ use Rattle.wire.specs.declared.kinds.Bucket.{Bucket}
 use Rattle.format.specs.Packing.{get}
 use Rattle.format.specs.AllocV4.{gen, withDirty, emptied, nextGen}
 use Rattle.calls.specs.CallList.{Volume, Freed}
-use Rattle.calls.specs.Lists.{those}
 use Rattle.calls.specs.Lru.{lruKeys, lruDeletions, needDiscardKey}
 use Rattle.calls.specs.Release.{isEmptied, releasedKey, releasedLru, emptiedGen}
 use Rattle.calls.specs.Trees.{lookup, newKey, withValue}
@@ -85,17 +84,3 @@ lru-emptied ds ks f o e = rw (eq-eqb f o e, append-nil ds)
 
 pub lru-left : (ds ks : List Key) (f o : ℕ) → (f ≡ o → ⊥) → keysBytes 10 (ds ++ cond (eqb f o) [] ks) ≡ keysBytes 10 ds ++ keysBytes 10 ks
 lru-left ds ks f o e = rw (ne-eqb f o e) (fields-append (keyField 10) ds ks)
-
--- ---- those of which a test holds
-module _ {A : Type 0} (t : A → Bool) where
-  pub those-hit : {l : List A} {x : A} {rest : List A} → l ≡ x ∷ rest → t x ≡ true → those t l ≡ x ∷ those t rest
-  unfolding those
-  those-hit {x = x} {rest = rest} e h = ap (those t) e ∙ ap (λ (b : Bool). cond b (x ∷ those t rest) (those t rest)) h
-
-  pub those-miss : {l : List A} {x : A} {rest : List A} → l ≡ x ∷ rest → t x ≡ false → those t l ≡ those t rest
-  unfolding those
-  those-miss {x = x} {rest = rest} e h = ap (those t) e ∙ ap (λ (b : Bool). cond b (x ∷ those t rest) (those t rest)) h
-
-  pub those-none : {l : List A} → l ≡ [] → those t l ≡ []
-  unfolding those
-  those-none e = ap (those t) e

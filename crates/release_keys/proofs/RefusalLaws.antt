@@ -1,7 +1,7 @@
 -- Refusals 15 to 19 at a bucket, and over the freed buckets.
-use mathlib.Core.Path.{_≡_, sym, ap, _∙_}
+use mathlib.Core.Path.{_≡_, sym, _∙_}
 use mathlib.Core.Bool.{Bool, true, false, not, _&&_}
-use mathlib.Core.List.{List, [], _∷_, map}
+use mathlib.Core.List.{List, [], _∷_}
 use mathlib.Core.Option.{none, some}
 use Prim.Native.Nat.{ℕ, _≤_, _<_}
 use native.Mathlib.Omega.{arith}
@@ -107,16 +107,3 @@ module _ {s : List ℕ} {v : Volume} {rs : List Freed} {b : Bucket} {sum place :
 
       pub table-kept : dirty ≤ sectors → sum ≤ dirty → (dirty ≡ sum → ⊥) → bucketRefusal v rs b ≡ 0
       table-kept m o q = number ∙ number-kept bytes dirty sectors sum short l m o q
-
--- ---- over a list of buckets
-pub verdict-next : {A : Type 0} (f : A → ℕ) {l : List A} {x : A} {rest : List A} → l ≡ x ∷ rest → f x ≡ 0 → verdict (map f l) ≡ verdict (map f rest)
-unfolding verdict
-verdict-next f {rest = rest} e z = ap (λ l. verdict (map f l)) e ∙ rw z
-
-pub verdict-stops : {A : Type 0} (f : A → ℕ) {l : List A} {x : A} {rest : List A} → l ≡ x ∷ rest → (f x ≡ 0 → ⊥) → verdict (map f l) ≡ f x
-unfolding verdict
-verdict-stops f {x = x} e z = ap (λ l. verdict (map f l)) e ∙ rw (ne-eqb (f x) 0 z)
-
-pub verdict-none : {A : Type 0} (f : A → ℕ) {l : List A} → l ≡ [] → verdict (map f l) ≡ 0
-unfolding verdict
-verdict-none f e = ap (λ l. verdict (map f l)) e

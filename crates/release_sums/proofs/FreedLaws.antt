@@ -1,4 +1,4 @@
--- Reading released pieces, and the tests of one.
+-- Reading released pieces, and tests over all of them.
 use mathlib.Core.Path.{_≡_, _∙_}
 use mathlib.Core.Bool.{true, _&&_}
 use Prim.Native.Nat.{ℕ, _+_, _≤_, _<_}

@@ -1,11 +1,12 @@
 -- Refusals that do not come: each test of an accepted call held.
-use mathlib.Core.Path.{_≡_, refl}
+use mathlib.Core.Path.{_≡_, refl, sym, ap, _∙_}
 use mathlib.Core.Bool.{Bool, true, false, _||_, cond}
 use mathlib.Core.List.{List, [], _∷_, _++_, map}
-use Prim.Native.Nat.{ℕ, _<_}
+use Prim.Native.Nat.{ℕ, zero, suc, _<_}
 use native.Mathlib.Omega.{arith}
 use lib.Dec.{eqb}
-use borrow.Author.Tests.{eqb-true, eqb-false}
+use lib.ListN.{drop}
+use borrow.Author.Tests.{eqb-true, eqb-false, ne-eqb}
 use Rattle.wire.specs.Kinds.{sameBucket}
 use Rattle.wire.specs.declared.kinds.Bucket.{Bucket}
 use Rattle.calls.specs.Lists.{anyOf}
@@ -41,11 +42,33 @@ pub verdict-last : (ns : List ℕ) (n : ℕ) → verdict (ns ++ (n ∷ [])) ≡ 
 verdict-last [] n h = verdict-ok n [] h .0
 verdict-last (m ∷ ns) n h = verdict-last ns n (verdict-ok m (ns ++ (n ∷ [])) h .1)
 
--- the lowest of a list of buckets, where none has a number
-pub verdict-map : (f : Bucket → ℕ) (bs : List Bucket) → verdict (map f bs) ≡ 0 → (b : Bucket) → isIn bs b ≡ true → f b ≡ 0
+-- a number of each element: the first element and the rest
+module _ {A : Type 0} (f : A → ℕ) where
+  pub verdict-map-next : {l : List A} {x : A} {rest : List A} → l ≡ x ∷ rest → f x ≡ 0 → verdict (map f l) ≡ verdict (map f rest)
+  unfolding verdict
+  verdict-map-next e z = ap (λ l. verdict (map f l)) e ∙ rw z
+
+  pub verdict-map-stop : {l : List A} {x : A} {rest : List A} → l ≡ x ∷ rest → (f x ≡ 0 → ⊥) → verdict (map f l) ≡ f x
+  unfolding verdict
+  verdict-map-stop {x = x} e z = ap (λ l. verdict (map f l)) e ∙ rw (ne-eqb (f x) 0 z)
+
+  pub verdict-map-none : {l : List A} → l ≡ [] → verdict (map f l) ≡ 0
+  unfolding verdict
+  verdict-map-none e = ap (λ l. verdict (map f l)) e
+
+  pub verdict-map-first : {l : List A} {x : A} {rest : List A} → l ≡ x ∷ rest → verdict (map f l) ≡ 0 → f x ≡ 0
+  verdict-map-first {x = x} {rest = rest} e h = verdict-ok (f x) (map f rest) (sym (ap (λ l. verdict (map f l)) e) ∙ h) .0
+
+  pub verdict-map-drop : (i : ℕ) (l : List A) → verdict (map f l) ≡ 0 → verdict (map f (drop i l)) ≡ 0
+  verdict-map-drop zero l h = h
+  verdict-map-drop (suc i) [] h = h
+  verdict-map-drop (suc i) (x ∷ l) h = verdict-map-drop i l (verdict-ok (f x) (map f l) h .1)
+
+-- of one of some buckets, where none has a number
+pub verdict-map-mem : (f : Bucket → ℕ) (bs : List Bucket) → verdict (map f bs) ≡ 0 → (b : Bucket) → isIn bs b ≡ true → f b ≡ 0
 unfolding isIn anyOf
-verdict-map f [] e b m = absurd (clash m refl)
-verdict-map f (c ∷ cs) e b m = let v = verdict-ok (f c) (map f cs) e in go (sameBucket c b) refl m (v .0) (λ q. verdict-map f cs (v .1) b q)
+verdict-map-mem f [] e b m = absurd (clash m refl)
+verdict-map-mem f (c ∷ cs) e b m = let v = verdict-ok (f c) (map f cs) e in go (sameBucket c b) refl m (v .0) (λ q. verdict-map-mem f cs (v .1) b q)
   where
     go : (t : Bool) → sameBucket c b ≡ t → (t || isIn cs b) ≡ true → f c ≡ 0 → (isIn cs b ≡ true → f b ≡ 0) → f b ≡ 0
     go true d q z ih = rw (← same-path c b d) z

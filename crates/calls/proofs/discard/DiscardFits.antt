@@ -22,7 +22,8 @@ use Rattle.calls.specs.Trees.{deletion}
 use Rattle.calls.specs.Accounting.{countedRows}
 use Rattle.calls.specs.Discard.{Run, waitingKey, isDiscarded, discardedKeys, chunks, joinRun, joinedRuns, runKey, waitingDeletions, discardBatch, discardBatches}
 use Rattle.calls.specs.Answers.{readCall}
-use Rattle.calls.proofs.lists.AllLaws.{all-imp, all-each, all-join, all-map, all-those, all-flat, all-chosen, those-length}
+use Rattle.calls.proofs.lists.AllLaws.{all-imp, all-each, all-join, all-map, all-those, all-flat, all-chosen}
+use Rattle.calls.proofs.lists.ThoseLaws.{those-length}
 use Rattle.calls.proofs.lists.BoolLaws.{parts}
 use Rattle.calls.proofs.encoding.ChangeTrip.{BatchFits, BatchOk}
 use Rattle.calls.proofs.freespace.JoinLaws.{Whole, joined}

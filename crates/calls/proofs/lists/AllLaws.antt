@@ -1,10 +1,10 @@
--- What holds of each element of a list: `All` beside `allOf`, `those`, `map` and membership.
+-- What holds of each element of a list: `All` beside `allOf`, `those`, `map`, membership and indexes.
 use mathlib.Core.Path.{_≡_, refl, sym, subst}
 use mathlib.Core.Bool.{Bool, true, false, cond}
 use mathlib.Core.List.{List, [], _∷_, map, flatMap, List·Memᴰ, List·Memᴰ·head, List·Memᴰ·tail}
-use Prim.Native.Nat.{suc, _≤_}
+use Prim.Native.Nat.{ℕ, zero, suc, _<_}
 use native.Mathlib.Omega.{arith}
-use lib.ListN.{length}
+use lib.ListN.{length, drop, getD}
 use Rattle.wire.specs.Bytes.{All, none, more}
 use Rattle.wire.proofs.NumberLaws.{all-append}
 use Rattle.calls.specs.Lists.{allOf, those}
@@ -27,6 +27,18 @@ pub all-of : {A : Type 0} {P : A → Type 0} (l : List A) → ((a : A) → List�
 all-of [] f = none
 all-of (x ∷ xs) f = more (f x (List·Memᴰ·head refl)) (all-of xs (λ a m. f a (List·Memᴰ·tail m)))
 
+-- of the element at an index
+pub all-nth : {A : Type 0} {P : A → Type 0} (d : A) {s : List A} → All P s → (i : ℕ) → i < length s → P (getD s i d)
+all-nth d none i h = absurd (omega arith)
+all-nth d (more p r) zero h = p
+all-nth d (more p r) (suc i) h = all-nth d r i (omega arith)
+
+pub all-drop-nth : {A : Type 0} {P : A → Type 0} (d : A) (s : List A) (i : ℕ) → All P (drop i s) → i < length s → P (getD s i d)
+all-drop-nth d [] i r h = absurd (omega arith)
+all-drop-nth d (x ∷ s) zero (more p r) h = p
+all-drop-nth d (x ∷ s) (suc i) r h = all-drop-nth d s i r (omega arith)
+
+-- what follows from what holds
 module _ {A : Type 0} {P Q : A → Type 0} where
   pub all-imp : ((a : A) → P a → Q a) → {s : List A} → All P s → All Q s
   all-imp f none = none
@@ -40,6 +52,9 @@ module _ {A : Type 0} {P Q R : A → Type 0} where
   pub all-join : ((a : A) → P a → Q a → R a) → {s : List A} → All P s → All Q s → All R s
   all-join f none none = none
   all-join f (more {a} h r) (more k q) = more (f a h k) (all-join f r q)
+
+pub all-zip : {A : Type 0} {P Q : A → Type 0} {s : List A} → All P s → All Q s → All (λ a. P a × Q a) s
+all-zip h k = all-join (λ a p q. (p, q)) h k
 
 -- the elements of a list that a function makes
 module _ {A B : Type 0} {P : B → Type 0} (f : A → B) where
@@ -77,15 +92,6 @@ module _ {A : Type 0} (t : A → Bool) where
 
   pub all-those : {P : A → Type 0} {s : List A} → All P s → All P (those t s)
   all-those h = all-imp (λ a k. k .1) (all-chosen h)
-
-  pub those-length : (s : List A) → length (those t s) ≤ length s
-  unfolding those
-  those-length [] = omega arith
-  those-length (a ∷ s) = go (t a) (those-length s)
-    where
-      go : (b : Bool) → length (those t s) ≤ length s → length (cond b (a ∷ those t s) (those t s)) ≤ suc (length s)
-      go true h = omega arith
-      go false h = omega arith
 
 -- what one function undoes of another
 module _ {A B : Type 0} (w : A → B) (r : B → A) where

@@ -1,5 +1,5 @@
 -- Totals over a list.
-use mathlib.Core.Path.{_≡_, refl}
+use mathlib.Core.Path.{_≡_, refl, ap}
 use mathlib.Core.List.{List, [], _∷_, _++_, map, List·Memᴰ, List·Memᴰ·head, List·Memᴰ·tail}
 use Prim.Native.Nat.{ℕ, _+_, _*_, _^_, _≤_, _<_}
 use native.Mathlib.Omega.{arith}
@@ -8,6 +8,17 @@ use Rattle.wire.specs.Bytes.{All, none, more}
 use Rattle.calls.specs.Lists.{total}
 use Rattle.calls.proofs.lists.AllLaws.{all-imp}
 
+-- the first element and the rest
+module _ {A : Type 0} (f : A → ℕ) where
+  pub total-next : {l : List A} {x : A} {rest : List A} → l ≡ x ∷ rest → total f l ≡ f x + total f rest
+  unfolding total
+  total-next e = ap (total f) e
+
+  pub total-none : {l : List A} → l ≡ [] → total f l ≡ 0
+  unfolding total
+  total-none e = ap (total f) e
+
+-- lists that are joined or made, and functions that agree
 pub total-append : {A : Type 0} (f : A → ℕ) (l m : List A) → total f (l ++ m) ≡ total f l + total f m
 unfolding total
 total-append f [] m = omega arith
@@ -22,6 +33,11 @@ pub total-same : {A : Type 0} (f g : A → ℕ) {l : List A} → All (λ (a : A)
 unfolding total
 total-same f g none = refl
 total-same f g (more h r) = omega (arith, total-same f g r)
+
+pub total-constant : {A : Type 0} (f : A → ℕ) (n : ℕ) → ((a : A) → f a ≡ n) → (l : List A) → total f l ≡ length l * n
+unfolding total
+total-constant f n h [] = omega arith
+total-constant f n h (x ∷ l) = omega (arith, h x, total-constant f n h l)
 
 -- one element's part
 pub total-mem : {A : Type 0} (f : A → ℕ) (a : A) (l : List A) → List·Memᴰ a l → f a ≤ total f l

@@ -38,7 +38,8 @@ use Rattle.calls.specs.Accounting.{countedRows, kindRow, extentsRow, swa
 use Rattle.calls.specs.Refusals.{verdict}
 use Rattle.calls.specs.Place.{rootMissing, slotsOf, walkOf, placedOf, dirtyIn, newAllocKey, spotAt, placeRows, placeBatch, placeTests}
 use Rattle.calls.specs.Answers.{readCall}
-use Rattle.calls.proofs.lists.AllLaws.{all-imp, all-join, all-map, all-those, all-flat, those-length}
+use Rattle.calls.proofs.lists.AllLaws.{all-imp, all-join, all-map, all-those, all-flat}
+use Rattle.calls.proofs.lists.ThoseLaws.{those-length}
 use Rattle.calls.proofs.freespace.BucketLaws.{in-all}
 use Rattle.calls.proofs.encoding.ChangeTrip.{BatchFits, BatchOk}
 use Rattle.calls.proofs.freespace.CoverLaws.{length-from}

@@ -33,7 +33,8 @@ use Rattle.calls.specs.Refusals.{verdict}
 use Rattle.calls.specs.Place.{rootMissing}
 use Rattle.calls.specs.Release.{freedOk, freedBuckets, freedIn, allocValue, dirtyAt, isEmptied, releaseTests, releasedKey, releasedLru, emptiedGen, gensQueued, unusedChange, releaseRows, releaseBatch}
 use Rattle.calls.specs.Answers.{readCall}
-use Rattle.calls.proofs.lists.AllLaws.{all-imp, all-each, all-map, all-those, test-all, all-flat, those-length}
+use Rattle.calls.proofs.lists.AllLaws.{all-imp, all-each, all-map, all-those, test-all, all-flat}
+use Rattle.calls.proofs.lists.ThoseLaws.{those-length}
 use Rattle.calls.proofs.lists.BoolLaws.{parts, cond-most}
 use Rattle.calls.proofs.freespace.BucketLaws.{in-all, inserts-length}
 use Rattle.calls.proofs.encoding.ChangeTrip.{BatchFits, isRoot, BatchOk}

@@ -30,7 +30,7 @@ use Rattle.calls.proofs.lists.BoolLaws.{clash, parts, not-both}
 use Rattle.calls.proofs.freespace.BucketLaws.{isIn-inserts, isIn-those, after-keys}
 use Rattle.calls.proofs.release.GensLaws.{gens-after}
 use Rattle.calls.proofs.history.Phases.{allocDirty, Good}
-use Rattle.calls.proofs.answers.RefusalLaws.{verdict-ok, test-ok, verdict-map}
+use Rattle.calls.proofs.answers.RefusalLaws.{verdict-ok, test-ok, verdict-map-mem}
 use Rattle.calls.proofs.release.ReleasePhases.{askOn, Releasing, release-good}
 use Rattle.calls.proofs.trees.TreeLaws.{lookup-pos, op-some, Typed, opOf, lookup-applyQueue}
 use Rattle.calls.proofs.history.View.{bucket, readAlloc, named, view, GensHeld}
@@ -134,7 +134,7 @@ release-accepted v rs e =
     record {
       some-sectors = omega arith;
       requests = test-ok 14 _ (omega arith) (a14 .0);
-      held = λ b m. held-of v rs b (verdict-map (bucketRefusal v rs) (touched v rs) (a15 .0) b m);
+      held = λ b m. held-of v rs b (verdict-map-mem (bucketRefusal v rs) (touched v rs) (a15 .0) b m);
     }
 
 -- ---- the batch

@@ -1,12 +1,14 @@
 -- `rows::is_counted` meets its contract. The invariant: the numbers before index i are 0.
 use native.Mathlib.Omega.{arith}
-use mathlib.Core.Path.{_≡_, refl, sym, _∙_}
+use mathlib.Core.Path.{_≡_, refl, sym, ap, _∙_}
+use mathlib.Core.Bool.{not}
 use Prim.Native.Nat.{_-_, _≤_}
 use lib.IntN.{pos}
 use lib.ListN.{length, length-map, take, drop, getD}
 use Rattle.wire.proofs.OutputLaws.{left-next, left-none}
 use Rattle.calls.specs.Lists.{anyOf}
-use Rattle.accounting.proofs.RowLaws.{isOther, any-zero, any-other, any-none, zero-bits, other-bits}
+use Rattle.calls.proofs.lists.AllOfLaws.{any-of-next, any-of-stop, any-of-none}
+use Rattle.accounting.proofs.RowLaws.{isOther, zero-bits, other-bits}
 use Rattle.accounting.proofs.rows.is_counted.Statement.{statement}
 use Rattle.accounting.proofs.rows.is_counted.Tie as tie
 
@@ -34,7 +36,7 @@ returns c =
     let l = c .before .before .before in
     let a = l .before .before in
     let i = l .loop .i in
-    sym (sym (l .loop .inv .1) ∙ any-other (left-next (pos 0) (a .args .r .n) (a .args .r .width) i (omega arith) (omega (arith, long a))) (other-bits (getD (a .args .r .n) i (pos 0)) (c .if1 .taken)))
+    sym (sym (l .loop .inv .1) ∙ any-of-stop isOther (left-next (pos 0) (a .args .r .n) (a .args .r .width) i (omega arith) (omega (arith, long a))) (ap not (other-bits (getD (a .args .r .n) i (pos 0)) (c .if1 .taken))))
 
 add-i : tie.Need-add-i Inv-loop μ-loop
 add-i c = omega arith
@@ -47,13 +49,13 @@ loop-again c =
     let l = c .before .before .before in
     let a = l .before .before in
     let i = l .loop .i in
-    (omega arith, sym (any-zero (left-next (pos 0) (a .args .r .n) (a .args .r .width) i (omega arith) (omega (arith, long a))) (zero-bits (getD (a .args .r .n) i (pos 0)) (c .before .if12 .given) (c .if1 .left))) ∙ l .loop .inv .1)
+    (omega arith, sym (any-of-next isOther (left-next (pos 0) (a .args .r .n) (a .args .r .width) i (omega arith) (omega (arith, long a))) (ap not (zero-bits (getD (a .args .r .n) i (pos 0)) (c .before .if12 .given) (c .if1 .left)))) ∙ l .loop .inv .1)
 
 returns-2 : tie.Need-returns-2 Inv-loop μ-loop
 returns-2 c =
     let l = c .before in
     let a = l .before .before in
-    sym (sym (l .loop .inv .1) ∙ any-none (left-none (a .args .r .n) (a .args .r .width) (l .loop .i) (omega arith)))
+    sym (sym (l .loop .inv .1) ∙ any-of-none isOther (left-none (a .args .r .n) (a .args .r .width) (l .loop .i) (omega arith)))
 
 pub is-counted-spec : {M : Type 1} → statement M
 is-counted-spec =

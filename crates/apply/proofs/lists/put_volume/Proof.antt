@@ -1,13 +1,12 @@
 -- `put_volume` meets its contract. The loop's invariant: the sections left to be written, and where they start in the tables.
-use Prim.Native.Nat.{ℕ, _-_, _<_}
-use mathlib.Core.Path.{_≡_, sym, _∙_}
+use Prim.Native.Nat.{_-_}
+use mathlib.Core.Path.{_∙_}
 use native.Mathlib.Omega.{arith}
 use denote.Ref.{now}
 use lib.ListN.{getD}
 use Rattle.wire.proofs.OutputLaws.{part-length, wrote-length}
+use Rattle.calls.proofs.lists.AllLaws.{all-nth}
 use Rattle.merge.specs.Entries.{sections}
-use Rattle.merge.proofs.PlaceLaws.{at-all}
-use Rattle.apply.specs.NextVolume.{endsOf, queueEnd}
 use Rattle.apply.proofs.VolumeLaws.{parted}
 use Rattle.apply.proofs.PlacedLaws.{Placed, placed-at, Queued, queued-at, section-ready}
 use Rattle.apply.proofs.ResultLaws.{Sectioning, sections-start, sections-on, sections-end}
@@ -92,7 +91,7 @@ put-next-requires c κs =
     let s = l .before .before .before .before .before .before .before .before .before .before in
     let p = parted (s .pre .0 .laid) in
     rw (c .section-at .ensures)
-    (section-ready (at-all (l .loop .i) (p .each) (q .before .before .loop-test .taken)) (keys q), queue q .ready)
+    (section-ready (all-nth 0 (p .each) (l .loop .i) (q .before .before .loop-test .taken)) (keys q), queue q .ready)
 
 add-i : tie.Need-add-i Inv-loop μ-loop
 add-i c = omega (arith, c .before .before .before .before .before .before .before .before .before .loop-test .taken)

@@ -4,12 +4,12 @@ use Prim.Native.Nat.{ℕ, _+_, _-_}
 use mathlib.Core.Bool.{true}
 use lib.ListN.{length, drop}
 use Rattle.calls.specs.Answers.{readVolume}
-use Rattle.reader.proofs.AllLaws.{all-drop, all-first}
 use mathlib.Core.List.{List, _∷_}
 use Rattle.wire.specs.declared.kinds.Bucket.{Bucket}
 use borrow.Author.Tests.{ltb-true}
 use Rattle.wire.specs.Kinds.{sameBucket, bucketInRange}
 use Rattle.calls.specs.Freespace.{isIn}
+use Rattle.calls.proofs.lists.AllOfLaws.{all-of-drop, all-of-first}
 use Rattle.bucket_bits.specs.Bits.{marked}
 use Rattle.reader.proofs.CheckedLaws.{reserved-range}
 use Rattle.reader.proofs.NextLaws.{buckets-next}
@@ -39,7 +39,7 @@ next c =
 small : (c : tie.After-read-bucket Inv-loop μ-loop) → bucketInRange (c .read-bucket .result) ≡ true
 small c =
     let l = c .before .before .before .before in
-    all-first bucketInRange (all-drop bucketInRange _ (l .loop .i) (reserved-range (l .before .before .before .pre .0))) (next c)
+    all-of-first bucketInRange (all-of-drop bucketInRange _ (l .loop .i) (reserved-range (l .before .before .before .pre .0))) (next c)
 
 loop-holds : tie.Need-loop-holds Inv-loop μ-loop
 loop-holds c = marking-start (λ a b. sameBucket a b) _ _ (c .before .before .pre .2)

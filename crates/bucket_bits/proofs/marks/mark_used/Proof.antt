@@ -4,7 +4,7 @@ use Prim.Native.Nat.{ℕ, _-_, _<_}
 use lib.ListN.{length, drop, getD}
 use mathlib.Core.Bool.{true}
 use Rattle.calls.specs.Answers.{readVolume}
-use Rattle.reader.proofs.AllLaws.{all-drop, all-first}
+use Rattle.calls.proofs.lists.AllOfLaws.{all-of-drop, all-of-first}
 use mathlib.Core.List.{List}
 use Rattle.reader.specs.Checked.{inRange}
 use Rattle.reader.specs.KeyHere.{keyHere}
@@ -26,7 +26,7 @@ abbrev μ-loop : tie.MeasureT-loop
 ranged : (l : tie.At-loop Inv-loop μ-loop) (i : ℕ) → i < length (l .before .before .before .args .alloc .now)
     → inRange (keyHere (l .before .before .before .args .s .now) (getD (l .before .before .before .args .alloc .now) i 0)) ≡ true
 ranged l i h =
-    all-first inRange (all-drop inRange _ i (alloc-range (l .before .before .before .pre .0))) (keys-next (l .before .before .before .pre .1) i h)
+    all-of-first inRange (all-of-drop inRange _ i (alloc-range (l .before .before .before .pre .0))) (keys-next (l .before .before .before .pre .1) i h)
 
 loop-holds : tie.Need-loop-holds Inv-loop μ-loop
 loop-holds c = marking-start usesBucket _ _ (c .before .before .pre .2)

@@ -11,7 +11,7 @@ use Rattle.reader.specs.KeyHere.{keyHere, keysHere}
 use Rattle.change_fields.specs.FieldBytes.{keysBytes}
 use Rattle.change_fields.proofs.FieldLists.{fields-next, fields-none}
 use Rattle.discard.specs.Emitted.{discardedKey}
-use Rattle.need_discard.proofs.KeptLaws.{all-at}
+use Rattle.calls.proofs.lists.AllLaws.{all-nth}
 use Rattle.discard.proofs.EmitLaws.{at-next, at-none}
 use Rattle.discard.proofs.batch.put_alloc_keys.Statement.{statement}
 use Rattle.discard.proofs.batch.put_alloc_keys.Tie as tie
@@ -32,7 +32,7 @@ shared-slice-read-put-alloc-key : tie.Need-shared-slice-read-put-alloc-key Inv-l
 shared-slice-read-put-alloc-key c = omega arith
 
 put-alloc-key-requires : tie.Need-put-alloc-key-requires Inv-loop μ-loop
-put-alloc-key-requires c κs = all-at (c .before .before .before .before .before .before .before .pre) (c .before .before .before .loop .i) (omega arith)
+put-alloc-key-requires c κs = all-nth 0 (c .before .before .before .before .before .before .before .pre) (c .before .before .before .loop .i) (omega arith)
 
 add-i : tie.Need-add-i Inv-loop μ-loop
 add-i c = omega arith

@@ -12,7 +12,7 @@ use Rattle.change_fields.specs.FieldBytes.{keysBytes}
 use Rattle.change_fields.proofs.FieldLists.{flat-next, flat-none}
 use Rattle.need_discard.specs.Kept.{bucketHere}
 use Rattle.discard.specs.Emitted.{bucketsAt}
-use Rattle.need_discard.proofs.KeptLaws.{all-at}
+use Rattle.calls.proofs.lists.AllLaws.{all-nth}
 use Rattle.discard.proofs.EmitLaws.{at-next, at-none}
 use Rattle.discard.proofs.batch.put_deletions.Statement.{statement}
 use Rattle.discard.proofs.batch.put_deletions.Tie as tie
@@ -33,7 +33,7 @@ shared-slice-read-put-waiting : tie.Need-shared-slice-read-put-waiting Inv-loop 
 shared-slice-read-put-waiting c = omega arith
 
 put-waiting-requires : tie.Need-put-waiting-requires Inv-loop μ-loop
-put-waiting-requires c κs = (all-at (c .before .before .before .before .before .before .before .before .before .pre .0) (c .before .before .before .loop .i) (omega arith), c .before .before .before .before .before .before .before .before .before .pre .1)
+put-waiting-requires c κs = (all-nth 0 (c .before .before .before .before .before .before .before .before .before .pre .0) (c .before .before .before .loop .i) (omega arith), c .before .before .before .before .before .before .before .before .before .pre .1)
 
 add-i : tie.Need-add-i Inv-loop μ-loop
 add-i c = omega arith

@@ -10,7 +10,7 @@ use Rattle.calls.specs.ChangeList.{discardedField}
 use Rattle.change_fields.proofs.FieldLists.{fields-next, fields-none}
 use Rattle.need_discard.specs.Kept.{bucketHere}
 use Rattle.discard.specs.Emitted.{bucketsAt}
-use Rattle.need_discard.proofs.KeptLaws.{all-at}
+use Rattle.calls.proofs.lists.AllLaws.{all-nth}
 use Rattle.discard.proofs.EmitLaws.{at-next, at-none}
 use Rattle.discard.proofs.batch.put_unreserved.Statement.{statement}
 use Rattle.discard.proofs.batch.put_unreserved.Tie as tie
@@ -34,7 +34,7 @@ cast-bucket-at : tie.Need-cast-bucket-at Inv-loop μ-loop
 cast-bucket-at c = omega (arith, c .shared-slice-known3 .given (c .before .before .before .loop .i))
 
 bucket-at-requires : tie.Need-bucket-at-requires Inv-loop μ-loop
-bucket-at-requires c κs = all-at (c .before .before .before .before .before .before .before .pre) (c .before .before .before .loop .i) (omega arith) .kept
+bucket-at-requires c κs = all-nth 0 (c .before .before .before .before .before .before .before .pre) (c .before .before .before .loop .i) (omega arith) .kept
 
 put-bucket-requires : tie.Need-put-bucket-requires Inv-loop μ-loop
 put-bucket-requires c κs = tt

@@ -5,7 +5,7 @@ use denote.Ref.{now}
 use Prim.Native.Nat.{_≤_, _-_}
 use lib.ListN.{length}
 use Rattle.wire.proofs.OutputLaws.{part-length, wrote-length}
-use Rattle.need_discard.proofs.KeptLaws.{all-at}
+use Rattle.calls.proofs.lists.AllLaws.{all-nth}
 use Rattle.discard.proofs.RunLaws.{Runs, runs-none, runs-more, runs-all, with-size}
 use Rattle.discard.proofs.runs.put_runs.Statement.{statement}
 use Rattle.discard.proofs.runs.put_runs.Tie as tie
@@ -29,14 +29,14 @@ cast-bucket-at : tie.Need-cast-bucket-at Inv-loop μ-loop
 cast-bucket-at c = omega (arith, c .shared-slice-known3 .given (c .before .before .loop .i))
 
 bucket-at-requires : tie.Need-bucket-at-requires Inv-loop μ-loop
-bucket-at-requires c κs = all-at (c .before .before .before .before .before .before .pre .0) (c .before .before .loop .i) (omega arith) .kept
+bucket-at-requires c κs = all-nth 0 (c .before .before .before .before .before .before .pre .0) (c .before .before .loop .i) (omega arith) .kept
 
 put-ended-requires : tie.Need-put-ended-requires Inv-loop μ-loop
 put-ended-requires c κs = tt
 
 with-bucket-requires : tie.Need-with-bucket-requires Inv-loop μ-loop
 with-bucket-requires c κs =
-    let h = all-at (c .before .before .before .before .before .before .before .before .before .before .before .pre .0) (c .before .before .before .before .before .before .before .loop .i) (omega arith) in
+    let h = all-nth 0 (c .before .before .before .before .before .before .before .before .before .before .before .pre .0) (c .before .before .before .before .before .before .before .loop .i) (omega arith) in
     (rw (c .before .before .before .before .bucket-at .ensures) (h .below), omega (arith, c .before .before .before .before .before .before .before .loop .inv .0, c .before .before .before .before .before .before .before .before .before .before .before .pre .1))
 
 add-i : tie.Need-add-i Inv-loop μ-loop

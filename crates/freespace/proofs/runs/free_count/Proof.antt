@@ -6,8 +6,8 @@ use mathlib.Core.Bool.{true}
 use mathlib.Core.Logic.{⊎-elim}
 use lib.ListN.{length, drop, getD}
 use Rattle.calls.specs.Answers.{readVolume}
+use Rattle.calls.proofs.lists.AllOfLaws.{all-of-drop, all-of-first}
 use Rattle.reader.specs.KeyHere.{keyHere}
-use Rattle.reader.proofs.AllLaws.{all-drop, all-first}
 use Rattle.reader.proofs.CheckedLaws.{run-range, trees-in-order}
 use Rattle.reader.proofs.KeyHereLaws.{whole-at, keys-next}
 use Rattle.reader.specs.Checked.{endInRange}
@@ -41,7 +41,7 @@ next c = let l = at-loop c in keys-next (start l .pre .1) (l .loop .i) (c .befor
 ranged : (c : tie.After-run-of Inv-loop μ-loop) →
     let l = at-loop c in
     endInRange (keyHere (start l .args .s .now) (getD (start l .args .runs .now) (l .loop .i) 0)) ≡ true
-ranged c = let l = at-loop c in all-first endInRange (all-drop endInRange _ (l .loop .i) (run-range (start l .pre .0))) (next c)
+ranged c = let l = at-loop c in all-of-first endInRange (all-of-drop endInRange _ (l .loop .i) (run-range (start l .pre .0))) (next c)
 
 -- what the run of this turn adds
 counted : (c : tie.Then1 Inv-loop μ-loop) →

@@ -6,9 +6,9 @@ use lib.ListN.{length, drop, getD}
 use Rattle.wire.specs.Keys.{Key}
 use Rattle.calls.specs.Answers.{readVolume}
 use Rattle.calls.specs.Freespace.{isIn, isUsed, runsOf, walk}
+use Rattle.calls.proofs.lists.AllOfLaws.{all-of-drop, all-of-first}
 use Rattle.reader.specs.KeyHere.{keyHere}
 use Rattle.reader.proofs.KeyHereLaws.{whole-at, keys-next}
-use Rattle.reader.proofs.AllLaws.{all-drop, all-first}
 use Rattle.reader.proofs.CheckedLaws.{run-range}
 use Rattle.reader.specs.Checked.{endInRange}
 use Rattle.freespace.proofs.TakeLaws.{Walking, walking-start, walking-full, walking-end, walking-refused, walking-on, passed-next}
@@ -73,7 +73,7 @@ walk-key-requires c κs =
     let a = start l in
     record {
       key = whole-at (a .pre .1) (l .loop .w .passed) (more e);
-      end = all-first endInRange (all-drop endInRange _ (l .loop .w .passed) (run-range (a .pre .0))) (next e);
+      end = all-of-first endInRange (all-of-drop endInRange _ (l .loop .w .passed) (run-range (a .pre .0))) (next e);
       tables = a .pre .3;
       most = l .loop .inv .most;
       room = omega (arith, a .pre .2, l .loop .inv .size);

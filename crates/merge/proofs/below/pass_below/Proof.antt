@@ -5,8 +5,8 @@ use borrow.Author.Tests.{not-true, not-false}
 use denote.Ref.{now}
 use lib.ListN.{length, getD}
 use Rattle.wire.proofs.NumberLaws.{bytes-from}
+use Rattle.calls.proofs.lists.AllLaws.{all-nth}
 use Rattle.merge.specs.Places.{sizeAt, Stands}
-use Rattle.merge.proofs.PlaceLaws.{at-all}
 use Rattle.merge.proofs.MergeLaws.{Stretching, stretching-start, stretched-out, stretched-apart, stretched-stop, stretching-on}
 use Rattle.merge.proofs.below.pass_below.Statement.{statement}
 use Rattle.merge.proofs.below.pass_below.Tie as tie
@@ -21,7 +21,7 @@ abbrev μ-loop : tie.MeasureT-loop
 stands :
     (c : tie.Start Inv-loop μ-loop) (k : ℕ) → k < length (now (c .args .keys))
     → Stands (c .args .section) (now (c .args .vol)) (getD (now (c .args .keys)) k 0)
-stands c k h = at-all k (c .pre .0) h
+stands c k h = all-nth 0 (c .pre .0) k h
 
 loop-holds : tie.Need-loop-holds Inv-loop μ-loop
 loop-holds c =

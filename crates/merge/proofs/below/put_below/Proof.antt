@@ -1,12 +1,11 @@
 -- `put_below` meets its contract. The loop's invariant: the keys below the limit that are left to be written.
-use Prim.Native.Nat.{ℕ, _+_, _-_, _<_}
-use mathlib.Core.Path.{_≡_, _∙_}
+use Prim.Native.Nat.{_-_}
 use native.Mathlib.Omega.{arith}
 use denote.Ref.{now}
 use lib.ListN.{length, getD}
-use Rattle.wire.proofs.OutputLaws.{part-length, wrote-length}
+use Rattle.wire.proofs.OutputLaws.{part-length}
+use Rattle.calls.proofs.lists.AllLaws.{all-nth}
 use Rattle.merge.specs.Places.{Stands}
-use Rattle.merge.proofs.PlaceLaws.{at-all}
 use Rattle.merge.proofs.SectionLaws.{Writing, writing-start, writing-on, writing-end, writing-out}
 use Rattle.merge.proofs.below.put_below.Statement.{statement}
 use Rattle.merge.proofs.below.put_below.Tie as tie
@@ -31,7 +30,7 @@ here :
     (c : tie.Then1 Inv-loop μ-loop)
     → Stands (c .before .before .before .before .before .before .args .section) (now (c .before .before .before .before .before .before .args .vol))
     (getD (now (c .before .before .before .before .before .before .args .keys)) (c .before .before .loop .at .at) 0)
-here c = at-all (c .before .before .loop .at .at) (c .before .before .before .before .before .before .pre .0) (c .if1 .taken)
+here c = all-nth 0 (c .before .before .before .before .before .before .pre .0) (c .before .before .loop .at .at) (c .if1 .taken)
 
 cast-start : tie.Need-cast-start Inv-loop μ-loop
 cast-start c = omega (arith, c .shared-slice-known3 .given (c .before .before .before .loop .at .at))

@@ -1,9 +1,7 @@
 -- `skip_at` meets its contract.
 use borrow.Author.Needs.{needs}
 use native.Mathlib.Omega.{arith}
-use denote.Ref.{now}
-use lib.ListN.{length, getD}
-use Rattle.merge.proofs.PlaceLaws.{at-all}
+use Rattle.calls.proofs.lists.AllLaws.{all-nth}
 use Rattle.merge.proofs.MergeLaws.{skipped-none, skipped-over, skipped-under, skipped-it}
 use Rattle.merge.proofs.below.skip_at.Statement.{statement}
 use Rattle.merge.proofs.below.skip_at.Tie as tie
@@ -21,7 +19,7 @@ cast-pos-at : tie.Need-cast-pos-at
 cast-pos-at c = omega (arith, c .shared-slice-known3 .given (c .before .before .before .before .args .at))
 
 pos-at-requires : tie.Need-pos-at-requires
-pos-at-requires c κs = at-all (c .before .before .before .before .args .at) (c .before .before .before .before .pre .0) (omega (arith, c .before .if1 .left)) .kept
+pos-at-requires c κs = all-nth 0 (c .before .before .before .before .pre .0) (c .before .before .before .before .args .at) (omega (arith, c .before .if1 .left)) .kept
 
 pos-less-requires : tie.Need-pos-less-requires
 pos-less-requires c κs = search needs

@@ -5,7 +5,7 @@ use denote.Ref.{now}
 use Prim.Native.Nat.{_≤_, _-_}
 use lib.ListN.{length, take}
 use Rattle.need_discard.specs.Chosen.{discardedFrom}
-use Rattle.need_discard.proofs.KeptLaws.{all-at}
+use Rattle.calls.proofs.lists.AllLaws.{all-nth}
 use Rattle.need_discard.proofs.ChosenLaws.{chosen-none, chosen-more, chosen-all}
 use Rattle.need_discard.proofs.discarded.discarded_keys.Statement.{statement}
 use Rattle.need_discard.proofs.discarded.discarded_keys.Tie as tie
@@ -27,7 +27,7 @@ shared-slice-read-o : tie.Need-shared-slice-read-o Inv-loop μ-loop
 shared-slice-read-o c = omega arith
 
 is-discarded-requires : tie.Need-is-discarded-requires Inv-loop μ-loop
-is-discarded-requires c κs = (all-at (c .before .before .before .before .before .before .before .before .before .pre .0) (c .before .before .before .loop .i) (omega arith), c .before .before .before .before .before .before .before .before .before .pre .2)
+is-discarded-requires c κs = (all-nth 0 (c .before .before .before .before .before .before .before .before .before .pre .0) (c .before .before .before .loop .i) (omega arith), c .before .before .before .before .before .before .before .before .before .pre .2)
 
 add-if-requires : tie.Need-add-if-requires Inv-loop μ-loop
 add-if-requires c κs = omega arith

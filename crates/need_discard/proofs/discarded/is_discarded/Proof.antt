@@ -38,13 +38,17 @@ returns-3 c =
 value-at-requires : tie.Need-value-at-requires
 value-at-requires c κs = search needs
 
+-- the call's start, where the value is found
+abbrev start : tie.After-value-at → tie.Start
+start c = c .before .before .before .before .before .before .before .before .before .before .before
+
 -- the value is long enough, and so lies in the list
-long : (c : tie.After-value-at) → let a = c .before .before .before .before .before .before .before .before .before .before .before .args in 56 ≤ length (keyHere (now (a .s)) (a .o) .value)
+long : (c : tie.After-value-at) → let a = start c .args in 56 ≤ length (keyHere (now (a .s)) (a .o) .value)
 long c = omega (arith, c .before .before .value-len .ensures, c .before .if3 .left)
 
-ends : (c : tie.After-value-at) → c .value-at .result + 56 ≤ length (now (c .before .before .before .before .before .before .before .before .before .before .before .args .s))
+ends : (c : tie.After-value-at) → c .value-at .result + 56 ≤ length (now (start c .args .s))
 ends c =
-    let a = c .before .before .before .before .before .before .before .before .before .before .before in
+    let a = start c in
     value-ends (now (a .args .s)) (now (a .args .needs)) (a .args .o) (a .pre .0 .kept) (long c) (c .value-at .ensures)
 
 data-type-requires : tie.Need-data-type-requires
@@ -53,7 +57,7 @@ data-type-requires c κs = omega (arith, ends c)
 returns-4 : tie.Need-returns-4
 returns-4 c =
     let v = c .before .before in
-    let a = v .before .before .before .before .before .before .before .before .before .before .before in
+    let a = start v in
     other-data (now (a .args .s)) (now (a .args .needs)) (a .args .o) (a .pre .0 .kept) (long v) (v .value-at .ensures) (c .before .data-type .ensures) (c .if4 .taken)
 
 gen-taken-requires : tie.Need-gen-taken-requires
@@ -62,7 +66,7 @@ gen-taken-requires c κs = omega (arith, ends (c .before .before))
 returns-5 : tie.Need-returns-5
 returns-5 c =
     let v = c .before .before .before .before in
-    let a = v .before .before .before .before .before .before .before .before .before .before .before in
+    let a = start v in
     gen-left (now (a .args .s)) (now (a .args .needs)) (a .args .o) (a .pre .0 .kept) (long v) (v .value-at .ensures) (c .before .gen-taken .ensures) (not-true _ (c .if5 .taken))
 
 bucket-in-requires : tie.Need-bucket-in-requires
@@ -77,7 +81,7 @@ is-waiting-requires c κs =
 returns-6 : tie.Need-returns-6
 returns-6 c =
     let v = c .before .before .before .before .before .before in
-    let a = v .before .before .before .before .before .before .before .before .before .before .before in
+    let a = start v in
     let p = v .before .before .before .before .before .pos-at .ensures in
     all-passed (now (a .args .s)) (now (a .args .needs)) (a .args .o) (a .pre .0 .kept) (long v) (v .value-at .ensures)
     (sym (v .before .before .before .before .before .before .before .type-at .ensures) ∙ v .before .before .before .before .before .before .if1 .left)

@@ -6,7 +6,7 @@ use denote.Ref.{now}
 use Prim.Native.Nat.{ℕ, _≤_, _-_}
 use Rattle.reader.specs.KeyHere.{keysHere}
 use Rattle.need_discard.specs.Table.{Entries}
-use Rattle.need_discard.proofs.KeptLaws.{all-at}
+use Rattle.calls.proofs.lists.AllLaws.{all-nth}
 use Rattle.need_discard.proofs.TableLaws.{empty-entries, noted-entries, noted-length, all-entries}
 use Rattle.need_discard.proofs.waiting.note_waiting.Statement.{statement}
 use Rattle.need_discard.proofs.waiting.note_waiting.Tie as tie
@@ -27,7 +27,7 @@ shared-slice-read-note : tie.Need-shared-slice-read-note Inv-loop μ-loop
 shared-slice-read-note c = omega arith
 
 note-requires : tie.Need-note-requires Inv-loop μ-loop
-note-requires c κs = (all-at (c .before .before .before .before .before .before .pre .0) _ (omega arith), omega arith)
+note-requires c κs = (all-nth 0 (c .before .before .before .before .before .before .pre .0) _ (omega arith), omega arith)
 
 add-i : tie.Need-add-i Inv-loop μ-loop
 add-i c = omega arith

@@ -6,7 +6,7 @@ use Prim.Native.Nat.{_≤_, _-_, _+_}
 use lib.ListN.{length, take}
 use Rattle.reader.specs.KeyHere.{keysHere}
 use Rattle.need_discard.specs.Table.{Entry}
-use Rattle.need_discard.proofs.KeptLaws.{all-at}
+use Rattle.calls.proofs.lists.AllLaws.{all-nth}
 use Rattle.need_discard.proofs.TableLaws.{search-none, search-found, search-past, search-all}
 use Rattle.need_discard.proofs.waiting.search_entry.Statement.{statement}
 use Rattle.need_discard.proofs.waiting.search_entry.Tie as tie
@@ -27,7 +27,7 @@ shared-slice-read-names-bucket : tie.Need-shared-slice-read-names-bucket Inv-loo
 shared-slice-read-names-bucket c = omega arith
 
 names-bucket-requires : tie.Need-names-bucket-requires Inv-loop μ-loop
-names-bucket-requires c κs = all-at (c .before .before .before .before .before .pre) (c .before .before .loop .i) (omega arith)
+names-bucket-requires c κs = all-nth 0 (c .before .before .before .before .before .pre) (c .before .before .loop .i) (omega arith)
 
 add-e : tie.Need-add-e Inv-loop μ-loop
 add-e c = omega arith

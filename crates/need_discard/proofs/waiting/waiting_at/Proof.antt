@@ -1,7 +1,7 @@
 -- `waiting::waiting_at` meets its contract.
 use native.Mathlib.Omega.{arith}
 use Prim.Native.Nat.{_-_}
-use Rattle.need_discard.proofs.KeptLaws.{all-at}
+use Rattle.calls.proofs.lists.AllLaws.{all-nth}
 use Rattle.need_discard.proofs.TableLaws.{waits-not, waits-at, entry-place}
 use borrow.Author.Needs.{needs}
 use Rattle.need_discard.proofs.waiting.waiting_at.Statement.{statement}
@@ -26,7 +26,7 @@ cast-pos-at : tie.Need-cast-pos-at
 cast-pos-at c = omega (arith, c .shared-slice-known4 .given (c .before .before .entry-of .result - 1))
 
 pos-at-requires : tie.Need-pos-at-requires
-pos-at-requires c κs = all-at (c .before .before .before .before .before .before .pre .0 .kept) _ (entry-place (c .before .before .entry-of .ensures) (c .before .if1 .left)) .kept
+pos-at-requires c κs = all-nth 0 (c .before .before .before .before .before .before .pre .0 .kept) _ (entry-place (c .before .before .entry-of .ensures) (c .before .if1 .left)) .kept
 
 returns-2 : tie.Need-returns-2
 returns-2 c = waits-at (c .before .before .before .entry-of .ensures) (c .before .before .if1 .left) (c .pos-at .ensures)

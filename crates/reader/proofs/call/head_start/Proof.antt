@@ -12,7 +12,7 @@ use Rattle.wire.proofs.FieldLaws.{FieldAt, field-at}
 use Rattle.calls.specs.CallList.{headOk}
 use Rattle.reader.specs.CallFields.{startsOk}
 use Rattle.reader.specs.Heads.{headIn}
-use Rattle.reader.proofs.ReadingLaws.{starts-none, starts-tag, starts-size, starts-is, head-bad, head-any, head-own}
+use Rattle.reader.proofs.FirstFieldLaws.{starts-none, starts-tag, starts-size, starts-is, head-bad, head-any, head-own}
 use Rattle.reader.proofs.call.head_start.Statement.{statement}
 use Rattle.reader.proofs.call.head_start.Tie as tie
 
@@ -51,13 +51,17 @@ returns-3 c = place-no (starts-size _ _ _ _ _ _ (took (c .before .before)) (c .i
 read-head-requires : tie.Need-read-head-requires
 read-head-requires c κs = omega (arith, took (c .before .before) .within, c .if2 .left)
 
+-- the call's arguments, where the head is read
+abbrev start : tie.After-head-ok → tie.Start
+start c = c .before .before .before .before .before .before .before .before .before
+
 -- what the head decides
 decided :
     (c : tie.After-head-ok)
-    → startsOk (c .before .before .before .before .before .before .before .before .before .args .call) (c .before .before .before .before .before .before .before .before .before .args .any) (fields (now (c .before .before .before .before .before .before .before .before .before .args .s)))
-    ≡ (headOk (headIn (c .before .read-head .result)) && (c .before .before .before .before .before .before .before .before .before .args .any || eqb (c .before .read-head .result .call) (c .before .before .before .before .before .before .before .before .before .args .call)))
+    → let a = start c .args in
+    startsOk (a .call) (a .any) (fields (now (a .s))) ≡ (headOk (headIn (c .before .read-head .result)) && (a .any || eqb (c .before .read-head .result .call) (a .call)))
 decided c =
-    let a = c .before .before .before .before .before .before .before .before .before .args in
+    let a = start c .args in
     starts-is (now (a .s)) (a .call) (a .any) _ _ _ (took (c .before .before .before .before)) (c .before .before .before .if1 .left) (c .before .before .if2 .left) _
     (c .before .read-head .ensures)
 

@@ -10,7 +10,10 @@ use Rattle.wire.specs.Fields.{fieldAt, stepOf}
 use Rattle.wire.specs.declared.fields.NextField.the-variants.{Found}
 use Rattle.wire.proofs.FieldLaws.{FieldAt, field-at}
 use Rattle.reader.specs.CallFields.{callFieldOk, headWithin}
-use Rattle.reader.proofs.ReadingLaws.{Opened, start-none, start-some, start-place, ends-table, next-free, passed-length, opened, not-started, Going, going-start, breaks, bad, back, last-within, next-within, goes-on, ends-over, ends-accepted, ends-ended, ends-indexed, ends-headed}
+use Rattle.reader.proofs.FirstFieldLaws.{Opened, start-none, start-some, start-place, opened}
+use Rattle.reader.proofs.ListRefusalLaws.{not-started}
+use Rattle.reader.proofs.ReadingLaws.{next-free, passed-length, Going, going-start, breaks, bad, last-within, goes-on, back, next-within}
+use Rattle.reader.proofs.ReadEndLaws.{ends-table, ends-over, ends-accepted, ends-ended, ends-indexed, ends-headed}
 use Rattle.reader.proofs.call.read_list.Statement.{statement}
 use Rattle.reader.proofs.call.read_list.Tie as tie
 
@@ -20,6 +23,19 @@ Inv-loop s call any index₀ start first over₀ counts₀ last₀ before₀ at�
 
 abbrev μ-loop : tie.MeasureT-loop
 μ-loop s call any index₀ start first over₀ counts₀ last₀ before₀ at₀ n₀ index over counts last before at n = length s - at
+
+-- the call's start, the turn of the loop, the field that it is at, and that field once it may stand in the list
+abbrev start : tie.At-loop Inv-loop μ-loop → tie.Start Inv-loop μ-loop
+start l = l .before .before .before .before .before .before .before
+
+abbrev turn : tie.After-known-told Inv-loop μ-loop → tie.At-loop Inv-loop μ-loop
+turn c = c .before .before .before .before .before
+
+abbrev field : tie.Else2 Inv-loop μ-loop → tie.After-known-told Inv-loop μ-loop
+field c = c .before .before
+
+abbrev passed : tie.After-slice-known2 Inv-loop μ-loop → tie.Else2 Inv-loop μ-loop
+passed c = c .before .before .before .before .before .before .before
 
 head-start-requires : tie.Need-head-start-requires Inv-loop μ-loop
 head-start-requires c κs = tt
@@ -70,16 +86,14 @@ returns-2 c =
 -- the field that the turn is at
 step :
     (c : tie.After-known-told Inv-loop μ-loop)
-    → stepOf (c .before .before .before .before .before .loop .at) (drop (c .before .before .before .before .before .loop .at) (now (c .before .before .before .before .before .before .before .before .before .before .before .before .args .s)))
-    ≡ Found (c .before .tag .given .0 .0) (c .before .tag .given .0 .1 .0) (c .before .tag .given .0 .1 .1 .0)
+    → let l = turn c in
+    stepOf (l .loop .at) (drop (l .loop .at) (now (start l .args .s))) ≡ Found (c .before .tag .given .0 .0) (c .before .tag .given .0 .1 .0) (c .before .tag .given .0 .1 .1 .0)
 step c = sym (c .before .before .before .next-field .ensures) ∙ c .before .tag .given .1
 
 took :
     (c : tie.After-known-told Inv-loop μ-loop)
-    → FieldAt (now (c .before .before .before .before .before .before .before .before .before .before .before .before .args .s)) (c .before .before .before .before .before .loop .at)
-    (c .before .tag .given .0 .0)
-    (c .before .tag .given .0 .1 .0)
-    (c .before .tag .given .0 .1 .1 .0)
+    → let l = turn c in
+    FieldAt (now (start l .args .s)) (l .loop .at) (c .before .tag .given .0 .0) (c .before .tag .given .0 .1 .0) (c .before .tag .given .0 .1 .1 .0)
 took c = field-at _ _ _ _ _ (step c)
 
 field-ok-requires : tie.Need-field-ok-requires Inv-loop μ-loop
@@ -96,50 +110,54 @@ returns-3 c =
 -- it may stand in the list
 fine :
     (c : tie.Else2 Inv-loop μ-loop)
-    → callFieldOk (c .before .before .before .before .before .before .before .before .before .before .before .before .before .before .args .call)
-    (fieldAt (now (c .before .before .before .before .before .before .before .before .before .before .before .before .before .before .args .s)) (c .before .before .before .tag .given .0 .0) (c .before .before .before .tag .given .0 .1 .0) (c .before .before .before .tag .given .0 .1 .1 .0))
-    ≡ true
+    → let f = field c in
+    let a = start (turn f) .args in
+    callFieldOk (a .call) (fieldAt (now (a .s)) (f .before .tag .given .0 .0) (f .before .tag .given .0 .1 .0) (f .before .tag .given .0 .1 .1 .0)) ≡ true
 fine c = sym (c .before .field-ok .ensures) ∙ not-false _ (c .if2 .left)
 
 follows-requires : tie.Need-follows-requires Inv-loop μ-loop
 follows-requires c κs =
-    let g = c .before .before .before .before .before .before .before .loop .inv .0 in
-    (last-within _ _ _ _ _ _ _ _ _ _ g, next-within _ _ _ _ _ _ _ _ _ _ g _ _ _ (took (c .before .before)) (fine c))
+    let g = turn (field c) .loop .inv .0 in
+    (last-within _ _ _ _ _ _ _ _ _ _ g, next-within _ _ _ _ _ _ _ _ _ _ g _ _ _ (took (field c)) (fine c))
 
 same-length-3 : tie.Need-same-length-3 Inv-loop μ-loop
 same-length-3 c = c .before .before .before .before .before .before .before .before .before .loop .inv .1
 
 returns-4 : tie.Need-returns-4 Inv-loop μ-loop
 returns-4 c =
-    back _ _ _ _ _ _ _ _ _ _ (c .before .before .before .before .before .before .before .before .before .loop .inv .0) _ _ _ (took (c .before .before .before .before)) (fine (c .before .before))
+    back _ _ _ _ _ _ _ _ _ _ (c .before .before .before .before .before .before .before .before .before .loop .inv .0) _ _ _ (took (field (c .before .before))) (fine (c .before .before))
     (sym (c .before .follows .ensures) ∙ not-true _ (c .if3 .taken))
 
 passes-requires : tie.Need-passes-requires Inv-loop μ-loop
 passes-requires c κs =
-    let g = c .before .before .before .before .before .before .before .before .before .before .before .loop .inv .0 in
-    (next-within _ _ _ _ _ _ _ _ _ _ g _ _ _ (took (c .before .before .before .before .before .before)) (fine (c .before .before .before .before)), next-free _ _ _ _ _ _ _ _ _ _ g _ _ _ (step (c .before .before .before .before .before .before)) (fine (c .before .before .before .before)))
+    let o = c .before .before .before .before in
+    let g = turn (field o) .loop .inv .0 in
+    (next-within _ _ _ _ _ _ _ _ _ _ g _ _ _ (took (field o)) (fine o), next-free _ _ _ _ _ _ _ _ _ _ g _ _ _ (step (field o)) (fine o))
 
 add-at : tie.Need-add-at Inv-loop μ-loop
 add-at c = omega (arith, place (c .before .before))
 
 add-at-2 : tie.Need-add-at-2 Inv-loop μ-loop
-add-at-2 c = omega (arith, took (c .before .before .before .before .before .before .before .before .before) .within, c .before .before .before .before .before .before .before .before .before .before .before .before .before .before .before .before .before .before .before .before .before .good .0 .0)
+add-at-2 c = let f = field (passed c) in omega (arith, took f .within, start (turn f) .good .0 .0)
 
 add-n : tie.Need-add-n Inv-loop μ-loop
-add-n c = omega (arith, c .before .before .before .before .before .before .before .before .before .before .before .before .before .before .loop .inv .0 .many, took (c .before .before .before .before .before .before .before .before .before) .within, c .before .before .before .before .before .before .before .before .before .before .before .before .before .before .before .before .before .before .before .before .before .good .0 .0)
+add-n c = let f = field (passed c) in omega (arith, turn f .loop .inv .0 .many, took f .within, start (turn f) .good .0 .0)
 
 loop-less : tie.Need-loop-less Inv-loop μ-loop
 loop-less c =
-    let f = took (c .before .before .before .before .before .before .before .before .before) in
-    omega (arith, f .within, f .on, c .before .before .before .before .before .before .before .before .before .before .before .before .before .loop-test .taken)
+    let o = field (passed c) in
+    let f = took o in
+    omega (arith, f .within, f .on, o .before .before .before .before .loop-test .taken)
 
 loop-again : tie.Need-loop-again Inv-loop μ-loop
-loop-again c = (
-  goes-on _ _ _ _ _ _ _ _ _ _ (c .before .before .before .before .before .before .before .before .before .before .before .before .before .before .loop .inv .0) _ _ _ (step (c .before .before .before .before .before .before .before .before .before)) (fine (c .before .before .before .before .before .before .before)) _ _ _
-      (sym (c .before .before .before .before .before .before .follows .ensures) ∙ not-false _ (c .before .before .before .before .before .if3 .left))
-      (c .before .before .passes .ensures),
-  passed-length (c .before .before .passes .ensures) ∙ c .before .before .before .before .before .before .before .before .before .before .before .before .before .before .loop .inv .1,
-)
+loop-again c =
+    let o = passed c in
+    let l = turn (field o) in (
+      goes-on _ _ _ _ _ _ _ _ _ _ (l .loop .inv .0) _ _ _ (step (field o)) (fine o) _ _ _
+          (sym (c .before .before .before .before .before .before .follows .ensures) ∙ not-false _ (c .before .before .before .before .before .if3 .left))
+          (c .before .before .passes .ensures),
+      passed-length (c .before .before .passes .ensures) ∙ l .loop .inv .1,
+    )
 
 same-length-4 : tie.Need-same-length-4 Inv-loop μ-loop
 same-length-4 c = c .before .before .loop .inv .1

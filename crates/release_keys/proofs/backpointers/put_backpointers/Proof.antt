@@ -11,8 +11,8 @@ use Rattle.wire.proofs.EmitLaws.{done}
 use Rattle.calls.specs.CallList as calls
 use Rattle.calls.specs.Release.{freedOk}
 use Rattle.calls.specs.Trees.{deletion}
+use Rattle.calls.proofs.lists.AllOfLaws.{all-of-drop, all-of-first}
 use Rattle.release_sums.specs.Freeds.{freedsIn}
-use Rattle.reader.proofs.AllLaws.{all-drop, all-first}
 use Rattle.release_sums.proofs.FreedLaws.{within, freeds-next, freeds-none}
 use Rattle.change_fields.specs.FieldBytes.{keysBytes}
 use Rattle.change_fields.proofs.FieldLists.{fields-next, fields-none, emitted-key}
@@ -38,7 +38,7 @@ backpointer-at-requires c κs =
     let a = l .before .before .before .before in
     let e = freeds-next (a .args .s .now) (a .args .requests .now) (l .loop .i) (a .pre .0) (omega arith) (c .before .before .freed-at .ensures) in
     let k = a .pre .1 in
-    sector-low (within (k .size) _ (all-first (freedOk (k .size)) (all-drop (freedOk (k .size)) _ (l .loop .i) (k .ok)) e)) (k .some-sectors) (k .small)
+    sector-low (within (k .size) _ (all-of-first (freedOk (k .size)) (all-of-drop (freedOk (k .size)) _ (l .loop .i) (k .ok)) e)) (k .some-sectors) (k .small)
 
 put-deletion-requires : tie.Need-put-deletion-requires Inv-loop μ-loop
 put-deletion-requires c κs = tt

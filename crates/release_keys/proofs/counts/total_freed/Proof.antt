@@ -6,10 +6,10 @@ use lib.ListN.{length, drop}
 use Rattle.calls.specs.CallList as calls
 use Rattle.calls.specs.Lists.{total}
 use Rattle.calls.specs.Release.{freedOk}
+use Rattle.calls.proofs.lists.AllOfLaws.{all-of-drop, all-of-first}
+use Rattle.calls.proofs.lists.TotalLaws.{total-next, total-none}
 use Rattle.release_sums.specs.Freeds.{freedHeld, freedsIn}
-use Rattle.reader.proofs.AllLaws.{all-drop, all-first}
 use Rattle.release_sums.proofs.FreedLaws.{within, freeds-next, freeds-none}
-use Rattle.release_keys.proofs.CountLaws.{total-next, total-none}
 use Rattle.release_keys.proofs.counts.total_freed.Statement.{statement}
 use Rattle.release_keys.proofs.counts.total_freed.Tie as tie
 
@@ -25,7 +25,7 @@ few c =
     let a = l .before .before .before in
     let e = freeds-next (a .args .s .now) (a .args .requests .now) (l .loop .i) (a .pre .0) (c .before .loop-test .taken) (c .freed-at .ensures) in
     let k = a .pre .1 in
-    within (k .size) (freedHeld (c .freed-at .result)) (all-first (freedOk (k .size)) (all-drop (freedOk (k .size)) _ (l .loop .i) (k .ok)) e) .few
+    within (k .size) (freedHeld (c .freed-at .result)) (all-of-first (freedOk (k .size)) (all-of-drop (freedOk (k .size)) _ (l .loop .i) (k .ok)) e) .few
 
 loop-holds : tie.Need-loop-holds Inv-loop μ-loop
 loop-holds c = (omega arith, omega arith, omega arith)

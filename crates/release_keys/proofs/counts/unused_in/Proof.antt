@@ -10,10 +10,11 @@ use Rattle.calls.specs.CallList.{Volume, Freed}
 use Rattle.calls.specs.Lists.{total}
 use Rattle.calls.proofs.history.View.{bucket}
 use Rattle.calls.proofs.lists.BoolLaws.{cond-most}
+use Rattle.calls.proofs.lists.TotalLaws.{total-next, total-none}
 use Rattle.change_fields.proofs.BucketTables.{table-next, table-none}
 use Rattle.release_keys.specs.Counting.{keptOf, lostOf}
 use Rattle.release_keys.specs.Tables.{FreedTables}
-use Rattle.release_keys.proofs.CountLaws.{total-next, total-none, kept-is, lost-is}
+use Rattle.release_keys.proofs.CountLaws.{kept-is, lost-is}
 use Rattle.release_keys.proofs.FreedBucketLaws.{by-number, freed-held, freed-small}
 use Rattle.release_keys.proofs.counts.unused_in.Statement.{statement}
 use Rattle.release_keys.proofs.counts.unused_in.Tie as tie

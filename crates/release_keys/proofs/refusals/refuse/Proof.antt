@@ -8,11 +8,11 @@ use Rattle.wire.specs.Kinds.{bucketsIn}
 use Rattle.calls.specs.CallList.{Volume, Freed}
 use Rattle.calls.specs.Refusals.{verdict}
 use Rattle.calls.specs.Release.{bucketRefusal}
+use Rattle.calls.proofs.answers.RefusalLaws.{verdict-map-next, verdict-map-stop, verdict-map-none}
 use Rattle.gens.specs.Records.{RecordsFound}
 use Rattle.change_fields.proofs.BucketTables.{table-next, table-none}
 use Rattle.release_keys.specs.Tables.{FreedTables}
 use Rattle.release_keys.proofs.FreedBucketLaws.{entry-at, tabled-verdict}
-use Rattle.release_keys.proofs.RefusalLaws.{verdict-next, verdict-stops, verdict-none}
 use Rattle.release_keys.proofs.refusals.refuse.Statement.{statement}
 use Rattle.release_keys.proofs.refusals.refuse.Tie as tie
 
@@ -63,7 +63,7 @@ returns c =
     let f = bucketRefusal v rs in
     let k = l .loop .k in
     let h = c .before .bucket-refusal .ensures v rs (entry-at t k (omega arith)) r e in
-    h ∙ sym (verdict-stops f (table-next (a .args .buckets .now) k (omega arith)) (λ z. omega (arith, c .if1 .taken, h ∙ z))) ∙ l .loop .inv .1 v rs t r e ∙ tabled-verdict t e
+    h ∙ sym (verdict-map-stop f (table-next (a .args .buckets .now) k (omega arith)) (λ z. omega (arith, c .if1 .taken, h ∙ z))) ∙ l .loop .inv .1 v rs t r e ∙ tabled-verdict t e
 
 add-k : tie.Need-add-k Inv-loop μ-loop
 add-k c = omega arith
@@ -79,7 +79,7 @@ loop-again c =
       omega arith,
       λ v rs t r e.
           let h = c .before .bucket-refusal .ensures v rs (entry-at t k (omega arith)) r e in
-          sym (verdict-next (bucketRefusal v rs) (table-next (a .args .buckets .now) k (omega arith)) (omega (arith, h, c .if1 .left))) ∙ l .loop .inv .1 v rs t r e,
+          sym (verdict-map-next (bucketRefusal v rs) (table-next (a .args .buckets .now) k (omega arith)) (omega (arith, h, c .if1 .left))) ∙ l .loop .inv .1 v rs t r e,
     )
 
 returns-2 : tie.Need-returns-2 Inv-loop μ-loop
@@ -87,7 +87,7 @@ returns-2 c =
     λ v rs t r e.
     let l = c .before in
     let a = l .before .before .before .before .before .before in
-    sym (verdict-none (bucketRefusal v rs) (table-none (a .args .buckets .now) (l .loop .k) (omega arith))) ∙ l .loop .inv .1 v rs t r e ∙ tabled-verdict t e
+    sym (verdict-map-none (bucketRefusal v rs) (table-none (a .args .buckets .now) (l .loop .k) (omega arith))) ∙ l .loop .inv .1 v rs t r e ∙ tabled-verdict t e
 
 pub refuse-spec : {M : Type 1} → statement M
 refuse-spec =

@@ -6,9 +6,9 @@ use lib.ListN.{length, drop}
 use borrow.Author.Tests.{not-true, not-false}
 use Rattle.calls.specs.Lists.{allOf}
 use Rattle.calls.specs.Release.{freedOk}
+use Rattle.calls.proofs.lists.AllOfLaws.{all-of-next, all-of-stop, all-of-none}
 use Rattle.release_sums.specs.Freeds.{freedsIn}
-use Rattle.reader.proofs.AllLaws.{all-on, all-stop, all-none}
-use Rattle.release_sums.proofs.FreedLaws.{freeds-next}
+use Rattle.release_sums.proofs.FreedLaws.{freeds-next, freeds-none}
 use Rattle.release_sums.proofs.requests.all_freed_ok.Statement.{statement}
 use Rattle.release_sums.proofs.requests.all_freed_ok.Tie as tie
 
@@ -32,7 +32,7 @@ returns c =
     let l = c .before .before .before .before in
     let a = l .before .before .before in
     let e = freeds-next (a .args .s .now) (a .args .requests .now) (l .loop .i) (a .pre .0) (omega arith) (c .before .before .freed-at .ensures) in
-    sym (all-stop (freedOk (a .args .sectors)) e (sym (c .before .freed-ok .ensures) ∙ not-true _ (c .if1 .taken))) ∙ l .loop .inv .1
+    sym (all-of-stop (freedOk (a .args .sectors)) e (sym (c .before .freed-ok .ensures) ∙ not-true _ (c .if1 .taken))) ∙ l .loop .inv .1
 
 add-i : tie.Need-add-i Inv-loop μ-loop
 add-i c = omega arith
@@ -45,13 +45,13 @@ loop-again c =
     let l = c .before .before .before .before in
     let a = l .before .before .before in
     let e = freeds-next (a .args .s .now) (a .args .requests .now) (l .loop .i) (a .pre .0) (omega arith) (c .before .before .freed-at .ensures) in
-    (omega arith, all-on (freedOk (a .args .sectors)) e (sym (c .before .freed-ok .ensures) ∙ not-false _ (c .if1 .left)) ∙ l .loop .inv .1)
+    (omega arith, all-of-next (freedOk (a .args .sectors)) e (sym (c .before .freed-ok .ensures) ∙ not-false _ (c .if1 .left)) ∙ l .loop .inv .1)
 
 returns-2 : tie.Need-returns-2 Inv-loop μ-loop
 returns-2 c =
     let l = c .before in
     let a = l .before .before .before in
-    sym (all-none (freedOk (a .args .sectors)) (freedsIn (a .args .s .now) (a .args .requests .now)) (l .loop .i) (omega (arith, a .pre .0 .count))) ∙ l .loop .inv .1
+    sym (all-of-none (freedOk (a .args .sectors)) (freeds-none (a .args .s .now) (a .args .requests .now) (l .loop .i) (a .pre .0) (omega arith))) ∙ l .loop .inv .1
 
 pub all-freed-ok-spec : {M : Type 1} → statement M
 all-freed-ok-spec =

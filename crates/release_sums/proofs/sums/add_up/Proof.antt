@@ -7,9 +7,9 @@ use lib.ListN.{length, drop, length-set, length-replicate}
 use Rattle.wire.specs.declared.kinds.Bucket.{Bucket}
 use Rattle.wire.specs.Kinds.{bucketOf}
 use Rattle.calls.specs.Release.{freedOk}
+use Rattle.calls.proofs.lists.AllOfLaws.{all-of-drop, all-of-first}
 use Rattle.release_sums.specs.Freeds.{freedHeld, freedsIn}
 use Rattle.release_sums.specs.Summing.{Marked}
-use Rattle.reader.proofs.AllLaws.{all-drop, all-first}
 use Rattle.release_sums.proofs.FreedLaws.{Within, within, freeds-next, freeds-none}
 use Rattle.release_sums.proofs.SumLaws.{Adding, add-starts, add-at, add-turn, add-ends, freed-most, marked-starts, marked-turn}
 use Rattle.release_sums.proofs.sums.add_up.Statement.{statement}
@@ -37,7 +37,7 @@ here-is c =
     let a = g .args in
     let e = freeds-next (a .s .now) (a .requests .now) (l .loop .i) (g .pre .0 .0) (omega arith) (c .before .before .freed-at .ensures) in
     let rs = freedsIn (a .s .now) (a .requests .now) in
-    let w = within (a .sectors) (freedHeld (c .before .before .freed-at .result)) (all-first (freedOk (a .sectors)) (all-drop (freedOk (a .sectors)) rs (l .loop .i) (g .pre .1)) e) in
+    let w = within (a .sectors) (freedHeld (c .before .before .freed-at .result)) (all-of-first (freedOk (a .sectors)) (all-of-drop (freedOk (a .sectors)) rs (l .loop .i) (g .pre .1)) e) in
     let k : bucketOf (c .before .before .freed-at .result .first) (a .sectors) .0 ≡ c .bucket-of .result .0 = ap (λ (b : Bucket). b .0) (sym (c .bucket-of .ensures)) in
     record { here = e; inside = w; bucket = k; low = omega (arith, w .low) }
 

@@ -3,7 +3,7 @@ use mathlib.Core.Path.{sym, _∙_}
 use Prim.Native.Nat.{_+_}
 use native.Mathlib.Omega.{arith}
 use Rattle.sorting.specs.Places.{placeLess}
-use Rattle.sorting.proofs.PlaceLaws.{all-from}
+use Rattle.calls.proofs.lists.AllLaws.{all-drop-nth}
 use Rattle.sorting.proofs.KeepLaws.{ahead-next, ahead-end, inside-next}
 use borrow.Author.Needs.{needs}
 use Rattle.sorting.proofs.last.is_ahead.Statement.{statement}
@@ -37,7 +37,7 @@ before-requires c κs =
     let s = c .before .before .before .before .before in
     let a = s .args in
     let next = inside-next (a .t .now) (a .i) (s .pre .1) (s .pre .0) in
-    (all-from (a .t .now) (a .i) (s .pre .1) (s .pre .0), all-from (a .t .now) (a .i + 1) next (omega arith))
+    (all-drop-nth 0 (a .t .now) (a .i) (s .pre .1) (s .pre .0), all-drop-nth 0 (a .t .now) (a .i + 1) next (omega arith))
 
 returns-2 : tie.Need-returns-2
 returns-2 c =
