@@ -31,10 +31,6 @@ module _ (bytes : List ℕ) (len : ℕ) (b : Bucket) where
   unfolding genIn
   gen-short h = simp (le-ltb (gensByte b) (length (take len bytes)) (omega (arith, length-take len bytes)))
 
-  pub gen-found : gensByte b < len → len ≤ length bytes → some (getD bytes (gensByte b) 0) ≡ genIn (take len bytes) b
-  unfolding genIn
-  gen-found h k = simp (length-take-le len bytes k, lt-ltb (gensByte b) len h, getD-take len bytes (gensByte b) 0 h)
-
   pub gen-stored : (generation : ℕ) → take len (set bytes (gensByte b) generation) ≡ withGen b generation (take len bytes)
   unfolding withGen put
   gen-stored generation = set-take len (gensByte b) generation bytes

@@ -2,6 +2,7 @@
 ghost use mathlib.Core.Path.{_≡_};
 ghost use Prim.Native.Nat.{_<_, _≤_, _^_};
 ghost use lib.ListN.{take};
+ghost use Rattle.wire.specs.Kinds.{sectorNumber};
 ghost use Rattle.format.specs.Entries.{pointer, crc32, crc64, csumTypeOf, extentWords};
 use wire::kinds;
 use wire::kinds::DeviceSector;
@@ -14,7 +15,7 @@ pub struct Words {
 
 // The pointer word. A bucket below 65,536 of fewer than 65,536 sectors shows the bound.
 pub fn pointer(d: DeviceSector, generation: u8) -> u64
-    requires { ⌜ d .0 < 2 ^ 44 ⌝ }
+    requires { ⌜ sectorNumber d < 2 ^ 44 ⌝ }
     ensures { λ r. ⌜ r ≡ pointer d generation ⌝ }
 {
     1 + (kinds::sector_word(d) << 4) + ((generation as u64) << 56)

@@ -21,6 +21,7 @@ use Rattle.calls.specs.Extents.{bucketAt, placedAt}
 use Rattle.calls.specs.Place.{walkOf}
 use Rattle.calls.specs.Answers.{readCall, readVolume}
 use Rattle.calls.proofs.lists.BoolLaws.{parts as and-true}
+use Rattle.calls.proofs.lists.AllOfLaws.{all-of-drop, all-of-first}
 use Rattle.reader.specs.declared.head.Head.{Head}
 use Rattle.reader.specs.Pieces.{pieceIn}
 use Rattle.next_fit.specs.Fit.{slotIn}
@@ -28,7 +29,6 @@ use Rattle.place_keys.specs.Plan.{Plan, Reached, Stepped, placedFrom}
 use Rattle.reader.specs.declared.piece.Piece.{Piece}
 use Rattle.next_fit.specs.declared.slot.Slot.{Slot}
 use Rattle.place_keys.specs.declared.placed.Cursor.{Cursor}
-use Rattle.reader.proofs.AllLaws.{all-drop, all-first}
 use Rattle.reader.proofs.NextLaws.{pieces-next}
 use Rattle.place_tests.proofs.SizedLaws.{kind-bound, file-low, file-high, stored-low, stored-high}
 use Rattle.next_fit.proofs.NextFitLaws.{fit-next, fit-high, fit-offset, fit-used}
@@ -90,10 +90,10 @@ module _ {s offsets : List ℕ} {buckets : List Bucket} {generations : List ℕ}
     pieces-here = pieces-next (plan .pieces) i l ∙ ap (λ (x : calls.Piece). x ∷ drop (i + 1) (readCall s .pieces)) (sym e)
 
     pub listed : kindListed (pieceIn p) ≡ true
-    listed = all-first kindListed (all-drop kindListed _ i (plan .kinds)) pieces-here
+    listed = all-of-first kindListed (all-of-drop kindListed _ i (plan .kinds)) pieces-here
 
     pub sized : pieceSized (h .«bucket_sectors») (blockOf (h .«block_sectors»)) (pieceIn p) ≡ true
-    sized = let t = pieceSized (h .«bucket_sectors») (blockOf (h .«block_sectors»)) in all-first t (all-drop t _ i (plan .sizes)) pieces-here
+    sized = let t = pieceSized (h .«bucket_sectors») (blockOf (h .«block_sectors»)) in all-of-first t (all-of-drop t _ i (plan .sizes)) pieces-here
 
     pub stored-most : p .stored ≤ 128
     stored-most = stored-high _ _ (pieceIn p) sized

@@ -21,9 +21,6 @@ module _ (s : List ℕ) (at : ℕ) (w : Whole s at) where
   unfolding keyHere
   here-at = key-at s at (bodyLen s at) (w .long)
 
-  pub type-here : le 1 (drop at s) ≡ keyHere s at .type
-  type-here = sym (ap (λ (k : Key). k .type) here-at)
-
   pub pos-here : posOf (drop (at + 17) s) ≡ keyHere s at .pos
   pos-here = sym (ap (λ (k : Key). k .pos) here-at)
 

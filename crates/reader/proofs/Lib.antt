@@ -23,6 +23,5 @@ pub mod FieldRankLaws
 pub mod TableLaws
 pub mod VolumeLaws
 pub mod PartsLaws
-pub mod AllLaws
 pub mod NextLaws
 pub mod CheckedLaws

@@ -69,9 +69,6 @@ bodies-listed call t (more {a = f} {s = fs} l r) =
 pub call-kept : (call : ℕ) (s : List ℕ) → 0 ≡ callRefusal call s → 0 ≡ listRefusal call false s
 call-kept call s h = h ∙ sym (call-refusal call s)
 
-pub volume-kept : (s : List ℕ) → 0 ≡ volumeRefusal s → 0 ≡ listRefusal 0 true s
-volume-kept s h = h ∙ sym (volume-refusal s)
-
 module _ (call : ℕ) (any : Bool) (s : List ℕ) (h : 0 ≡ listRefusal call any s) where
   pub limits-kept : listWithin (callListOf (fields s)) ≡ true
   limits-kept = kept s call any h .within

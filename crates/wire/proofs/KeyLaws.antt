@@ -68,18 +68,6 @@ module _ (s : List ℕ) (t tag b n : ℕ) (fits : b + n ≤ length s) (fs : List
   unfolding keys isKey keySized
   keys-take e l m = simp (eq-eqb tag t e, body-length s b n fits, le-leb 37 n l, le-leb n 293 m)
 
-  pub keys-other : (tag ≡ t → ⊥) → keys t (fieldAt s tag b n ∷ fs) ≡ keys t fs
-  unfolding keys isKey
-  keys-other h = simp (ne-eqb tag t h)
-
-  pub keys-short : n < 37 → keys t (fieldAt s tag b n ∷ fs) ≡ keys t fs
-  unfolding keys isKey keySized
-  keys-short h = simp (body-length s b n fits, lt-leb 37 n h, and-false)
-
-  pub keys-long : 293 < n → keys t (fieldAt s tag b n ∷ fs) ≡ keys t fs
-  unfolding keys isKey keySized
-  keys-long h = simp (body-length s b n fits, lt-leb n 293 h, and-false)
-
 -- a turn of a loop that copies bytes to the front of zeros
 pub copy-more :
     (v : List ℕ) (i n : ℕ) → i < length v → i < n

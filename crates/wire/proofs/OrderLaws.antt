@@ -147,9 +147,6 @@ less-is x y = go (compare x y) refl
     go Ordering·eq e = sym (le-ltb x y (omega (arith, use-eq x y e)))
     go Ordering·gt e = sym (le-ltb x y (omega (arith, use-gt x y e)))
 
-same-is : (x y : ℕ) → isEq (compare x y) ≡ eqb x y
-same-is x y = refl
-
 -- the tests of `pos_less`
 module _ (a b : Bpos) where
   pub inode-less : a .inode < b .inode → posLess a b ≡ true

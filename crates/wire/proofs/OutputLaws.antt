@@ -21,10 +21,6 @@ pub put-nil : (xs : List ℕ) (at : ℕ) → put xs at [] ≡ xs
 unfolding put
 put-nil xs at = refl
 
-pub put-cons : (xs : List ℕ) (at : ℕ) (b : ℕ) (bs : List ℕ) → put xs at (b ∷ bs) ≡ put (put xs at (b ∷ [])) (at + 1) bs
-unfolding put
-put-cons xs at b bs = ap (λ (n : ℕ). sets (set xs at b) n bs) (omega arith)
-
 -- one run after another is one run
 pub put-put : (xs : List ℕ) (at : ℕ) (us bs : List ℕ) → put (put xs at us) (at + length us) bs ≡ put xs at (us ++ bs)
 unfolding put

@@ -46,10 +46,6 @@ zero-minus n h = ap (λ (z : ℤ). pos 0 -ℤ z) (toZ-pos w64 n h) ∙ +ℤ-idl 
 pub neg-add : (a b : ℕ) → negℤ (pos a) +ℤ negℤ (pos b) ≡ negℤ (pos (a + b))
 neg-add a b = sym (negℤ-+ℤ (pos a) (pos b))
 
--- an amount taken off zero fits
-pub zero-fits : {z : ℤ} (n : ℕ) → z ≡ negℤ (pos n) → n < 2 ^ 63 → SFits w64 (pos 0 +ℤ z)
-zero-fits n e h = rw (e, +ℤ-idl (negℤ (pos n))) (minus-fits n h)
-
 pub signed-length : (z : ℤ) → length (signedBytes z) ≡ 8
 unfolding signedBytes
 signed-length z = le-length 8 (ofZ w64 z)
@@ -61,16 +57,3 @@ pub record Off (z : ℤ) (rest total most : ℕ) : Type 0 where
   pub whole : amount + rest ≡ total
   pub bound : amount ≤ most
 
--- taking n more off fits
-pub off-fits : {z y : ℤ} {rest total most : ℕ} (n : ℕ) → Off z rest total most → y ≡ negℤ (pos n) → most + n < 2 ^ 63 → SFits w64 (z +ℤ y)
-off-fits n o e h = rw (o .is, e, neg-add (o .amount) n) (minus-fits (o .amount + n) (omega (arith, o .bound)))
-
-pub off-next : {z y : ℤ} {rest total most : ℕ} (n left more : ℕ) → Off z rest total most → y ≡ negℤ (pos n) → rest ≡ n + left
-    → most + n ≤ more → Off (z +ℤ y) left total more
-off-next n left more o e s h =
-    record {
-      amount = o .amount + n;
-      is = rw (o .is, e, neg-add (o .amount) n);
-      whole = omega (arith, o .whole);
-      bound = omega (arith, o .bound);
-    }

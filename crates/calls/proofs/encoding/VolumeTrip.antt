@@ -217,9 +217,6 @@ module _ {v : Volume} (h : VolumeFits v) where
       (ap (λ (c : CallList). treesOk (c .volume .trees)) volume-back ∙ ok .trees)
       (ap (λ (c : CallList). inOrder bucketBelow (c .volume .reserved)) volume-back ∙ ok .reserved))))))
 
-  pub bytes-volume : Bytes (volumeBytes v)
-  bytes-volume = rw (volume-flat v) (encode-bytes (all-imp (λ f s. s .bytes) volume-sound))
-
 -- read
 
 -- the shapes of a volume's fields and of every call's requests
@@ -350,9 +347,6 @@ module _ {s : List ℕ} (l : Laid s) where
       ∙ ap encode (chosen-flat p (gather (tagsOf everyShape) fs))
       ∙ ap (λ (ks : List Block). encode (flat ks)) (laid-blocks l)
       ∙ sym (volume-flat (readVolume s))
-
-  pub without-laid-out : volumeLaidOut (withoutRequests s) ≡ true
-  without-laid-out = ap volumeLaidOut without-volume ∙ volume-laid-out (laid-fits l) (l .ok)
 
   pub without-read : readVolume (withoutRequests s) ≡ readVolume s
   without-read = ap (λ (b : List ℕ). readVolume b) without-volume ∙ read-back (laid-fits l)

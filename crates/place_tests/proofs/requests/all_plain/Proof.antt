@@ -6,8 +6,8 @@ use lib.ListN.{length, drop}
 use Rattle.calls.specs.Lists.{allOf}
 use Rattle.calls.specs.Answers.{readCall}
 use Rattle.calls.specs.CallList.{Piece}
+use Rattle.calls.proofs.lists.AllOfLaws.{all-of-next, all-of-stop, all-of-past}
 use Rattle.reader.specs.Pieces.{pieceIn}
-use Rattle.reader.proofs.AllLaws.{all-on, all-stop, all-none}
 use Rattle.reader.proofs.NextLaws.{pieces-next}
 use borrow.Author.Tests.{eq-eqb, ne-eqb}
 use lib.Dec.{eqb}
@@ -47,7 +47,7 @@ read-piece-requires : tie.Need-read-piece-requires Inv-loop μ-loop
 read-piece-requires c κs = c .before .before .before .before .before .pre .at (c .before .before .loop .i) (c .before .loop-test .taken) .within
 
 returns : tie.Need-returns Inv-loop μ-loop
-returns c = sym (all-stop _ (turn (c .before .before)) (ne-eqb _ _ (c .if1 .taken))) ∙ c .before .before .before .before .before .loop .inv
+returns c = sym (all-of-stop _ (turn (c .before .before)) (ne-eqb _ _ (c .if1 .taken))) ∙ c .before .before .before .before .before .loop .inv
 
 add-i : tie.Need-add-i Inv-loop μ-loop
 add-i c = omega arith
@@ -56,13 +56,13 @@ loop-less : tie.Need-loop-less Inv-loop μ-loop
 loop-less c = omega arith
 
 loop-again : tie.Need-loop-again Inv-loop μ-loop
-loop-again c = all-on _ (turn (c .before .before)) (eq-eqb _ _ (c .if1 .left)) ∙ c .before .before .before .before .before .loop .inv
+loop-again c = all-of-next _ (turn (c .before .before)) (eq-eqb _ _ (c .if1 .left)) ∙ c .before .before .before .before .before .loop .inv
 
 returns-2 : tie.Need-returns-2 Inv-loop μ-loop
 returns-2 c =
     let l = c .before .loop in
     let s = c .before .before .before .before in
-    sym (all-none _ _ (l .i) (omega (arith, s .pre .count))) ∙ l .inv
+    sym (all-of-past _ _ (l .i) (omega (arith, s .pre .count))) ∙ l .inv
 
 pub all-plain-spec : {M : Type 1} → statement M
 all-plain-spec =

@@ -7,10 +7,10 @@ use Rattle.calls.specs.Lists.{allOf}
 use Rattle.calls.specs.Answers.{readCall}
 use Rattle.calls.specs.CallList.{Piece}
 use Rattle.reader.specs.Pieces.{pieceIn}
-use Rattle.reader.proofs.AllLaws.{all-on, all-stop, all-none}
 use Rattle.reader.proofs.NextLaws.{pieces-next}
 use borrow.Author.Tests.{not-true, not-false}
 use Rattle.calls.specs.Pieces.{pieceSized}
+use Rattle.calls.proofs.lists.AllOfLaws.{all-of-next, all-of-stop, all-of-past}
 use native.Mathlib.Omega.{arith}
 use Rattle.place_tests.proofs.requests.pieces_sized.Statement.{statement}
 use Rattle.place_tests.proofs.requests.pieces_sized.Tie as tie
@@ -50,7 +50,7 @@ piece-sized-requires : tie.Need-piece-sized-requires Inv-loop μ-loop
 piece-sized-requires c κs = c .before .before .before .before .before .before .pre .1
 
 returns : tie.Need-returns Inv-loop μ-loop
-returns c = sym (all-stop _ (turn (c .before .before)) (sym (c .before .piece-sized .ensures) ∙ not-true _ (c .if1 .taken))) ∙ c .before .before .before .before .before .loop .inv
+returns c = sym (all-of-stop _ (turn (c .before .before)) (sym (c .before .piece-sized .ensures) ∙ not-true _ (c .if1 .taken))) ∙ c .before .before .before .before .before .loop .inv
 
 add-i : tie.Need-add-i Inv-loop μ-loop
 add-i c = omega arith
@@ -59,13 +59,13 @@ loop-less : tie.Need-loop-less Inv-loop μ-loop
 loop-less c = omega arith
 
 loop-again : tie.Need-loop-again Inv-loop μ-loop
-loop-again c = all-on _ (turn (c .before .before)) (sym (c .before .piece-sized .ensures) ∙ not-false _ (c .if1 .left)) ∙ c .before .before .before .before .before .loop .inv
+loop-again c = all-of-next _ (turn (c .before .before)) (sym (c .before .piece-sized .ensures) ∙ not-false _ (c .if1 .left)) ∙ c .before .before .before .before .before .loop .inv
 
 returns-2 : tie.Need-returns-2 Inv-loop μ-loop
 returns-2 c =
     let l = c .before .loop in
     let s = c .before .before .before .before in
-    sym (all-none _ _ (l .i) (omega (arith, s .pre .0 .count))) ∙ l .inv
+    sym (all-of-past _ _ (l .i) (omega (arith, s .pre .0 .count))) ∙ l .inv
 
 pub pieces-sized-spec : {M : Type 1} → statement M
 pieces-sized-spec =
