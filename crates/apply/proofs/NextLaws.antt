@@ -1,42 +1,35 @@
 -- The next volume, section by section: its bytes and its limits.
-use mathlib.Core.Path.{_≡_, refl, ap, sym, _∙_, subst}
+use mathlib.Core.Path.{_≡_, refl, ap, sym, _∙_}
 use mathlib.Core.Bool.{Bool, true, false, not, _&&_, _||_, and-true}
 use mathlib.Core.List.{List, [], _∷_, _++_, map, append-assoc, append-nil}
-use Prim.Native.Nat.{ℕ, _+_, _-_, _%_, _≤_, _<_}
-use native.Mathlib.Omega.{arith}
-use lib.Dec.{leb, eqb, ltb}
-use lib.ListN.{length, take, drop, getD, length-append, length-take, length-drop, take-append-drop, length-map, List·getD-append}
-use lib.Seq.{take-all, take-at, drop-drop, take-append-le, drop-append-le}
-use borrow.Author.Tests.{ltb-true}
-use Rattle.wire.specs.Bytes.{All, none, more, Bytes}
-use Rattle.wire.specs.Numbers.{le, leBytes, each}
+use Prim.Native.Nat.{ℕ, _+_, _-_}
+use lib.Dec.{leb, eqb}
+use lib.ListN.{length, length-map}
+use Rattle.wire.specs.Bytes.{All, none, more}
+use Rattle.wire.specs.Numbers.{each}
 use Rattle.wire.specs.Fields.{Field, fields, whole}
 use Rattle.wire.specs.Keys.{Key, keyOf}
-use Rattle.wire.specs.Encode.{headBytes, encodeField, encode, keyField}
+use Rattle.wire.specs.Encode.{encodeField, encode, keyField}
 use Rattle.wire.specs.Kinds.{bucketInRange, runEndInRange, baseInRange}
 use Rattle.wire.specs.Positions.{bucketIn}
 use Rattle.wire.specs.declared.kinds.Bucket.{Bucket}
 use Rattle.wire.proofs.EncodeLaws.{encode-next, encode-append}
-use Rattle.wire.proofs.NumberLaws.{all-take, all-drop, leBytes-le, le-byte}
-use Rattle.wire.proofs.RoundTrip.{next-again}
 use Rattle.calls.specs.Lists.{allOf}
-use Rattle.calls.specs.CallList.{Head, headOf, headBody, headOk, Trees, Volume, bodies, treesOf, callListOf, shaped, treeFields, reservedField, volumeBytes}
+use Rattle.calls.specs.CallList.{Head, headBody, Trees, Volume, bodies, treesOf, callListOf, shaped, treeFields, reservedField, volumeBytes}
 use Rattle.calls.specs.Limits.{isSet, atInode0, isRun, fewKeys, countsOk, bucketsOk, volumeWithin}
 use Rattle.calls.specs.ChangeList.{changeShapes, changeLaidOut}
 use Rattle.calls.specs.Trees.{applyQueue}
-use Rattle.calls.specs.Apply.{applyTrees, setRoots, withRoots}
+use Rattle.calls.specs.Apply.{applyTrees, withRoots}
 use Rattle.calls.specs.Answers.{readVolume, nextVolume}
 use Rattle.calls.proofs.lists.AllLaws.{all-imp, all-each, all-test, test-all}
-use Rattle.calls.proofs.encoding.ApplyLaws.{roots-below}
 use Rattle.calls.proofs.lists.BoolLaws.{both, parts}
-use Rattle.calls.proofs.encoding.Blocks.{field, flat, gather, keeps}
+use Rattle.calls.proofs.encoding.Blocks.{field, keeps}
 use Rattle.reader.proofs.BoolLaws.{same}
 use Rattle.merge.specs.Entries.{sections, bucketKey, entries, fieldFor, sectionBytes}
 use Rattle.merge.specs.Counts.{keyFits, sectionWithin}
 use Rattle.apply.specs.Roots.{rootsAfter, frontBytes}
 use Rattle.apply.proofs.BatchLaws.{tree-changes, bucket-changes, head-changes}
 use Rattle.apply.proofs.VolumeLaws.{entries-bodies, tree-entry, tree-keys, bucket-keys, SectionOf, Parted}
-use Rattle.apply.proofs.RootLaws.{roots-listed}
 
 -- the keys of section t in the next volume
 unfoldable pub nextOf : List ℕ → List ℕ → ℕ → List Key

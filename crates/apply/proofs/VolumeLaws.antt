@@ -1,31 +1,28 @@
 -- The sections of a volume that is laid out, and their keys.
 use mathlib.Core.Path.{_≡_, refl, ap, sym, _∙_}
 use mathlib.Core.Bool.{Bool, true, false, _&&_, _||_, cond, false≢true, and-false}
-use mathlib.Core.List.{List, [], _∷_, _++_, map, map-map}
-use Prim.Native.Nat.{ℕ, suc, _+_, _-_, _≤_, _<_}
+use mathlib.Core.List.{List, [], _∷_, map, map-map}
+use Prim.Native.Nat.{ℕ, suc, _-_, _≤_, _<_}
 use native.Mathlib.Omega.{arith}
-use lib.Dec.{leb, eqb, ltb}
-use lib.ListN.{length, drop, getD, length-append}
-use lib.Seq.{drop-at}
-use borrow.Author.Tests.{eqb-true, eq-eqb, ne-eqb, le-leb, ltb-true, lt-ltb}
-use Rattle.wire.specs.Bytes.{All, none, more, Bytes}
-use Rattle.wire.specs.Numbers.{leBytes, each}
+use lib.Dec.{leb, eqb}
+use lib.ListN.{length, getD}
+use borrow.Author.Tests.{eqb-true, eq-eqb, ne-eqb, le-leb, ltb-true}
+use Rattle.wire.specs.Bytes.{All, none, more}
+use Rattle.wire.specs.Numbers.{each}
 use Rattle.wire.specs.Fields.{Field, fields, whole}
-use Rattle.wire.specs.Keys.{Key, keyOf}
-use Rattle.wire.specs.Encode.{headBytes, encodeField, encode}
+use Rattle.wire.specs.Keys.{keyOf}
 use Rattle.wire.specs.Kinds.{bucketRead, bucketBelow}
 use Rattle.wire.specs.Order.{posLess}
 use Rattle.wire.specs.Positions.{allocAt}
 use Rattle.wire.specs.declared.kinds.Bucket.{Bucket}
 use Rattle.wire.proofs.OrderLaws.{mk-lt, cmp-less}
-use Rattle.wire.proofs.RoundTrip.{FieldFits, fields-back, bytes-again}
 use Rattle.calls.specs.Lists.{allOf, those, inOrder}
-use Rattle.calls.specs.CallList.{Shape, bodies, firstBody, treesOf, callListOf, shaped, volumeShapes, tagsAscend, keysOk, treesOk, headOk, laidOut, volumeLaidOut}
+use Rattle.calls.specs.CallList.{Shape, bodies, treesOf, callListOf, shaped, volumeShapes, tagsAscend, keysOk, treesOk, headOk, laidOut, volumeLaidOut}
 use Rattle.calls.specs.Answers.{readVolume}
-use Rattle.calls.proofs.lists.AllLaws.{all-imp, all-tail, test-all}
+use Rattle.calls.proofs.lists.AllLaws.{all-imp, test-all}
 use Rattle.calls.proofs.lists.BoolLaws.{both, parts}
 use Rattle.calls.proofs.trees.SixTrees.{trees-each}
-use Rattle.calls.proofs.encoding.Blocks.{field, flat, flat-tags, bodies-cons, bodies-all, order-ascend, gather, tagsAbove, gathered, keeps, shaped-out, shaped-tag, shaped-fits, tagsOf, isOf}
+use Rattle.calls.proofs.encoding.Blocks.{field, bodies-cons, bodies-all, keeps, shaped-out, shaped-tag, tagsOf, isOf}
 use Rattle.merge.specs.Entries.{sections, bucketKey, isBucket, isEntry, entryOf, entries}
 use Rattle.merge.specs.Queues.{ascending}
 use Rattle.apply.proofs.BatchLaws.{bucket-cmp}

@@ -1,8 +1,8 @@
 -- FORMAT.md, "Accounting rows": the rows of accounting. `Txn::count` adds an amount at a place of a row of zeros.
 use Prim.Native.Nat.{ℕ, zero, suc, _+_, _*_, _/_, _%_, _^_}
-use mathlib.Core.List.{List, [], _∷_, _++_, map}
-use mathlib.Core.Bool.{Bool, true, false, not, cond}
-use lib.IntN.{ℤ, pos, negsuc, negℤ, _+ℤ_}
+use mathlib.Core.List.{List, [], _∷_}
+use mathlib.Core.Bool.{Bool, false, not}
+use lib.IntN.{ℤ, pos, negsuc}
 use lib.ListN.{length}
 use lib.Dec.{eqb}
 use Rattle.wire.specs.Rows.{Counters}

@@ -1,13 +1,13 @@
 -- The four answers: number and bytes, for any list and any output length.
 use Prim.Native.Nat.{ℕ}
 use mathlib.Core.List.{List, [], _∷_, _++_}
-use mathlib.Core.Bool.{Bool, not, _&&_, cond}
+use mathlib.Core.Bool.{not, _&&_, cond}
 use lib.ListN.{length, drop, replicate}
 use lib.Dec.{leb, ltb, eqb}
 use Rattle.wire.specs.Fields.{fields}
 use Rattle.calls.specs.CallList.{Volume, CallList, callListOf, callLaidOut, volumeLaidOut, volumeBytes}
 use Rattle.calls.specs.Limits.{volumeWithin, listWithin}
-use Rattle.calls.specs.ChangeList.{Batch, changeBytes, changeLaidOut, changesOf}
+use Rattle.calls.specs.ChangeList.{changeBytes, changeLaidOut, changesOf}
 use Rattle.calls.specs.Place.{placeTests, placeBatch, placedOf, walkOf}
 use Rattle.calls.specs.Release.{releaseTests, releaseBatch}
 use Rattle.calls.specs.Discard.{discardBatches}

@@ -1,8 +1,7 @@
 -- Apply: the next volume.
-use Prim.Native.Nat.{ℕ, _+_, _-_, _/_, _%_, _^_}
+use Prim.Native.Nat.{ℕ, _+_, _-_, _/_, _^_}
 use mathlib.Core.List.{List, [], _∷_}
 use mathlib.Core.Bool.{cond}
-use lib.Dec.{eqb}
 use Rattle.calls.specs.CallList.{Head, Trees, Volume}
 use Rattle.calls.specs.Buckets.{insertBuckets, removeBuckets}
 use Rattle.calls.specs.ChangeList.{Batch}

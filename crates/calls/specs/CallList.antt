@@ -1,7 +1,7 @@
 -- FORMAT.md, "Call list": a list's head, keys, reserved buckets and requests, and its layout.
 use Prim.Native.Nat.{ℕ}
 use mathlib.Core.List.{List, [], _∷_, _++_, map}
-use mathlib.Core.Bool.{Bool, true, false, not, _&&_, _||_, cond}
+use mathlib.Core.Bool.{Bool, false, _&&_, _||_, cond}
 use lib.ListN.{length, drop}
 use lib.Dec.{leb, ltb, eqb}
 use Rattle.wire.specs.Numbers.{le, leBytes}

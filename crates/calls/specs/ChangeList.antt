@@ -1,8 +1,8 @@
 -- FORMAT.md, "Change list": its structure, its bytes and its layout.
 use Prim.Native.Nat.{ℕ}
 use mathlib.Core.List.{List, [], _∷_, _++_, map}
-use mathlib.Core.Bool.{Bool, true, false, not, _&&_, _||_, cond}
-use lib.ListN.{length, drop}
+use mathlib.Core.Bool.{Bool, true, _&&_, _||_, cond}
+use lib.ListN.{drop}
 use lib.Dec.{leb, eqb}
 use Rattle.wire.specs.Numbers.{le, leBytes}
 use Rattle.wire.specs.Fields.{Field, fields, whole}

@@ -1,7 +1,7 @@
 -- FORMAT.md, "Alloc value": the clock is the largest word at 32 of type 27 keys of any inode with 40 bytes or more, else 1.
 use Prim.Native.Nat.{ℕ}
-use mathlib.Core.List.{List, [], _∷_, map}
-use mathlib.Core.Bool.{Bool, _&&_, cond}
+use mathlib.Core.List.{List, map}
+use mathlib.Core.Bool.{_&&_, cond}
 use lib.ListN.{length}
 use lib.Dec.{leb, eqb}
 use Rattle.wire.specs.Keys.{Key}

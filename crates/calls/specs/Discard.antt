@@ -1,13 +1,12 @@
 -- Discard: which buckets, and the batches that it writes.
-use Prim.Native.Nat.{ℕ, zero, suc, _+_}
-use mathlib.Core.List.{List, [], _∷_, _++_, map, flatMap}
-use mathlib.Core.Bool.{Bool, true, false, not, _&&_, _||_, cond}
+use Prim.Native.Nat.{ℕ, zero, suc}
+use mathlib.Core.List.{List, [], _∷_, map, flatMap}
+use mathlib.Core.Bool.{Bool, not, _&&_, cond}
 use mathlib.Core.Option.{Option, none, some}
-use lib.IntN.{ℤ, pos, negℤ}
+use lib.IntN.{pos, negℤ}
 use lib.ListN.{length, take, drop}
 use lib.Dec.{leb, ltb, eqb}
 use Rattle.wire.specs.Keys.{Key}
-use Rattle.wire.specs.Rows.{Counters}
 use Rattle.wire.specs.Kinds.{sameBucket, nextBucket}
 use Rattle.wire.specs.Positions.{runAt, bucketIn}
 use Rattle.wire.specs.declared.kinds.Bucket.{Bucket}

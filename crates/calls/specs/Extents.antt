@@ -1,7 +1,6 @@
 -- FORMAT.md, "Pieces and extents": what place queues for each piece.
 use Prim.Native.Nat.{ℕ, zero, suc, _+_}
 use mathlib.Core.List.{List, [], _∷_}
-use lib.ListN.{getD}
 use Rattle.wire.specs.Numbers.{wordsBytes}
 use Rattle.wire.specs.Keys.{Key}
 use Rattle.wire.specs.Kinds.{sectorAt, extentEnd}

@@ -1,17 +1,16 @@
 -- FORMAT.md, "Freespace run": the free count, wanted, overlap and the walk.
 use Prim.Native.Nat.{ℕ, zero, suc, _+_}
 use mathlib.Core.List.{List, [], _∷_, _++_}
-use mathlib.Core.Bool.{Bool, true, false, not, _&&_, _||_, cond}
+use mathlib.Core.Bool.{Bool, false, not, _&&_, _||_, cond}
 use lib.ListN.{length, getD}
-use lib.Dec.{leb, ltb, eqb}
+use lib.Dec.{leb, eqb}
 use Rattle.wire.specs.Keys.{Key}
 use Rattle.wire.specs.Kinds.{sameBucket, bucketBelow, runStart, beganBefore, bucketsUpTo}
 use Rattle.wire.specs.Positions.{bucketIn, allocAt}
 use Rattle.wire.specs.declared.kinds.Bucket.{Bucket}
 use Rattle.calls.specs.Lists.{anyOf, those, total, fromOption}
-use Rattle.calls.specs.CallList.{Volume}
 use Rattle.calls.specs.Limits.{isRun}
-use Rattle.calls.specs.Trees.{lookup, newKey, deletion}
+use Rattle.calls.specs.Trees.{lookup, deletion}
 
 -- a bucket is in a list
 unfoldable pub isIn : List Bucket → Bucket → Bool

@@ -1,12 +1,11 @@
 -- FORMAT.md, "Clean volumes and histories": histories, live pieces, and what is claimed of them.
 use Prim.Native.Nat.{ℕ, _+_, _≤_}
 use mathlib.Core.Path.{_≡_}
-use mathlib.Core.List.{List, [], _∷_, _++_, map, zipWith, flatMap}
+use mathlib.Core.List.{List, [], _∷_, _++_, zipWith, flatMap}
 use mathlib.Core.Bool.{Bool, true, false, not, _&&_, _||_, cond}
 use mathlib.Core.Option.{Option, none, some}
-use lib.Dec.{leb, ltb, eqb}
+use lib.Dec.{ltb, eqb}
 use Rattle.wire.specs.Fields.{Field, fields}
-use Rattle.wire.specs.Keys.{Key}
 use Rattle.wire.specs.Encode.{encode}
 use Rattle.wire.specs.Kinds.{sameBucket, bucketOf, offsetIn, sectorWithin, sameSector, beganBefore}
 use Rattle.wire.specs.Positions.{allocAt, bucketIn}
@@ -16,11 +15,11 @@ use Rattle.wire.specs.Bytes.{All, Bytes}
 use Rattle.format.specs.Packing.{get}
 use Rattle.format.specs.AllocV4.{gen, dataType, dirtySectors, needDiscardType}
 use Rattle.calls.specs.Lists.{allOf, anyOf, those, total, fromOption}
-use Rattle.calls.specs.CallList.{Volume, Piece, Freed, CallList, callListOf, volumeLaidOut}
+use Rattle.calls.specs.CallList.{Piece, Freed, volumeLaidOut}
 use Rattle.calls.specs.Limits.{isSet, isRun}
 use Rattle.calls.specs.Freespace.{isIn, runsOf, endOf, bucketsOf, overlaps}
 use Rattle.calls.specs.Generations.{genOf}
-use Rattle.calls.specs.ChangeList.{Spot, Batch, changesOf}
+use Rattle.calls.specs.ChangeList.{changesOf}
 use Rattle.calls.specs.Trees.{lookup}
 use Rattle.calls.specs.Answers.{Answer, readCall, readVolume, place, release, discard, apply}
 

@@ -1,14 +1,13 @@
 -- FORMAT.md, "Limits": refusal 3.
-use Prim.Native.Nat.{ℕ}
-use mathlib.Core.List.{List, [], _∷_}
-use mathlib.Core.Bool.{Bool, true, false, not, _&&_, _||_}
+use mathlib.Core.List.{List}
+use mathlib.Core.Bool.{Bool, not, _&&_, _||_}
 use lib.ListN.{length}
 use lib.Dec.{leb, eqb}
 use Rattle.wire.specs.Keys.{Key}
 use Rattle.wire.specs.Kinds.{bucketInRange, runEndInRange, baseInRange}
 use Rattle.wire.specs.Positions.{bucketIn}
 use Rattle.calls.specs.Lists.{allOf}
-use Rattle.calls.specs.CallList.{Head, Trees, Volume, CallList}
+use Rattle.calls.specs.CallList.{Trees, Volume, CallList}
 
 -- a key that stands for a bucket: of type 25, and at inode 0
 abbrev pub isSet : Key → Bool

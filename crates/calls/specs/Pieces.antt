@@ -1,9 +1,8 @@
 -- FORMAT.md, "Pieces and extents": next fit, and refusals 6, 7 and 9.
-use Prim.Native.Nat.{ℕ, zero, suc, _+_, _%_, min, max}
+use Prim.Native.Nat.{ℕ, suc, _+_, _%_, min, max}
 use mathlib.Core.List.{List, [], _∷_}
-use mathlib.Core.Bool.{Bool, true, false, not, _&&_, _||_, cond}
-use lib.Dec.{leb, ltb, eqb}
-use Rattle.calls.specs.Lists.{allOf, anyOf, total}
+use mathlib.Core.Bool.{Bool, not, _&&_, _||_, cond}
+use lib.Dec.{leb, eqb}
 use Rattle.calls.specs.CallList.{Piece}
 
 -- where a piece goes: the index of its bucket among those taken, and its offset in that bucket

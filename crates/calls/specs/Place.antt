@@ -1,20 +1,18 @@
 -- Place: refusals 2 to 13, and the batch that it writes.
 use Prim.Native.Nat.{ℕ, _+_, _-_, _*_, _/_, _%_, _^_}
-use mathlib.Core.List.{List, [], _∷_, _++_, map, flatMap}
-use mathlib.Core.Bool.{Bool, true, false, not, _&&_, _||_, cond}
+use mathlib.Core.List.{List, [], _∷_, map, flatMap}
+use mathlib.Core.Bool.{Bool, not, _&&_, _||_, cond}
 use lib.IntN.{ℤ, pos, negℤ, _+ℤ_}
 use lib.ListN.{length}
 use lib.Dec.{leb, eqb}
 use Rattle.wire.specs.Keys.{Key}
-use Rattle.wire.specs.Fields.{fields}
 use Rattle.wire.specs.Rows.{Counters}
 use Rattle.wire.specs.Kinds.{sameBucket, noBucket}
 use Rattle.wire.specs.Positions.{allocAt}
 use Rattle.wire.specs.declared.kinds.Bucket.{Bucket}
 use Rattle.format.specs.AllocV4.{newAlloc}
 use Rattle.calls.specs.Lists.{allOf, total}
-use Rattle.calls.specs.CallList.{Head, Trees, Volume, Piece, CallList, callListOf, callLaidOut}
-use Rattle.calls.specs.Limits.{listWithin}
+use Rattle.calls.specs.CallList.{Head, Volume, CallList}
 use Rattle.calls.specs.Freespace.{isIn, runsOf, freeCount, wanted, overlaps, isUsed, Walked, walk}
 use Rattle.calls.specs.Generations.{genOf}
 use Rattle.calls.specs.Clock.{clockOf}

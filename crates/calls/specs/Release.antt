@@ -1,8 +1,7 @@
 -- Release: refusals 14 to 19, and the batch that it writes.
 use Prim.Native.Nat.{ℕ, _+_, _-_}
 use mathlib.Core.List.{List, [], _∷_, _++_, map, flatMap}
-use mathlib.Core.Bool.{Bool, true, false, not, _&&_, _||_, cond}
-use mathlib.Core.Option.{Option, none, some}
+use mathlib.Core.Bool.{Bool, not, _&&_, cond}
 use lib.IntN.{ℤ, pos, negℤ, _+ℤ_}
 use lib.ListN.{length}
 use lib.Dec.{leb, eqb}
@@ -14,7 +13,7 @@ use Rattle.wire.specs.declared.kinds.Bucket.{Bucket}
 use Rattle.format.specs.Packing.{get}
 use Rattle.format.specs.AllocV4.{gen, dirtySectors, withDirty, nextGen, emptied}
 use Rattle.calls.specs.Lists.{allOf, those, total, isNone, fromOption, isEmpty}
-use Rattle.calls.specs.CallList.{Head, Trees, Volume, Freed}
+use Rattle.calls.specs.CallList.{Trees, Volume, Freed}
 use Rattle.calls.specs.Buckets.{insertBuckets}
 use Rattle.calls.specs.Generations.{genShort, genQueued}
 use Rattle.calls.specs.Lru.{lruKeys, lruDeletions, needDiscardKey}

@@ -1,9 +1,8 @@
 -- Laws of packed words and structs.
-use mathlib.Core.Path.{_≡_, refl, sym, ap, _∙_}
-use Prim.Native.Nat.{ℕ, zero, suc, _+_, _*_, _/_, _%_, _^_, _<_}
-use native.Mathlib.Nat.{zero-add, suc-add, pow-suc, pow-zero, mul-assoc, mul-comm}
+use mathlib.Core.Path.{_≡_}
+use Prim.Native.Nat.{ℕ, _+_, _*_, _^_, _<_}
 use native.Mathlib.Omega.{arith}
-use mathlib.Core.List.{List, [], _∷_, _++_, append-assoc}
+use mathlib.Core.List.{List, [], _∷_, _++_}
 use Rattle.wire.specs.Numbers.{leBytes, each, wordsBytes}
 use Rattle.wire.proofs.NumberLaws.{le-join}
 use Rattle.format.specs.Packing.{structBytes}

@@ -1,12 +1,12 @@
 -- The bytes that a value holds, where some of its array are stored.
-use mathlib.Core.Path.{_≡_, refl, sym, ap, _∙_}
-use Prim.Native.Nat.{ℕ, zero, suc, _+_, _≤_, _<_}
+use mathlib.Core.Path.{_≡_}
+use Prim.Native.Nat.{ℕ, _+_, _≤_}
 use native.Mathlib.Omega.{arith}
-use mathlib.Core.List.{List, [], _∷_}
-use mathlib.Core.Option.{Option, some, none}
-use lib.ListN.{length, take, drop, set, getD, length-take}
-use lib.Seq.{sets, drop-drop, getD-take, length-take-le}
-use borrow.Author.Tests.{lt-ltb, le-ltb}
+use mathlib.Core.List.{List}
+use mathlib.Core.Option.{some, none}
+use lib.ListN.{length, take, drop, set, length-take}
+use lib.Seq.{drop-drop}
+use borrow.Author.Tests.{le-ltb}
 use Rattle.wire.specs.Numbers.{le}
 use Rattle.wire.specs.Output.{put}
 use Rattle.wire.specs.Positions.{gensByte}

@@ -1,5 +1,5 @@
 -- The entries of an extent (extents_format.h): struct bch_extent_ptr, bch_extent_crc32 and bch_extent_crc64; and FORMAT.md, "Pieces and extents".
-use Prim.Native.Nat.{ℕ, zero, suc, _+_, _-_, _*_, _^_}
+use Prim.Native.Nat.{ℕ, zero, suc, _+_, _-_}
 use mathlib.Core.List.{List, [], _∷_, _++_}
 use lib.ListN.{getD}
 use Rattle.wire.specs.Kinds.{sectorNumber}

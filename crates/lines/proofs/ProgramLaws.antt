@@ -1,14 +1,12 @@
 -- An answer in a buffer, by the outcome of the call that made it, and the text that holds all that is printed.
 use Prim.Native.Nat.{ℕ, _+_, _≤_, _<_}
 use mathlib.Core.Path.{_≡_, refl, sym, ap, subst, _∙_}
-use mathlib.Core.Bool.{true, false, cond}
 use mathlib.Core.List.{List, _++_}
 use native.Mathlib.Omega.{arith}
-use lib.Dec.{eqb}
-use lib.ListN.{length, take, drop, getD, length-append}
+use lib.ListN.{length, take, drop, length-append}
 use lib.Seq.{take-at}
 use borrow.Author.Tests.{eq-eqb, ne-eqb, le-leb, lt-leb}
-use Rattle.wire.specs.Output.{Wrote, Emitted}
+use Rattle.wire.specs.Output.{Emitted}
 use Rattle.wire.proofs.OutputLaws.{wrote-length}
 use Rattle.wire.proofs.DryRun.{wet}
 use Rattle.reader.specs.Heads.{callByte}

@@ -1,7 +1,7 @@
 -- One field's part of a section: its key and its bytes.
 use Prim.Native.Nat.{ℕ, _+_, _-_, _≤_, _<_}
 use mathlib.Core.Path.{_≡_, refl, ap, sym, _∙_}
-use mathlib.Core.Bool.{Bool, true, false, _&&_, cond, and-false}
+use mathlib.Core.Bool.{Bool, true, false, _&&_}
 use mathlib.Core.List.{List, [], _∷_}
 use mathlib.Core.Logic.{⊎-elim}
 use native.Mathlib.Nat.{add-zero}
@@ -24,7 +24,7 @@ use Rattle.wire.proofs.NumberLaws.{all-take, all-drop, leBytes-le, le-byte, bod
 use Rattle.wire.proofs.OutputLaws.{lt-or-ge}
 use Rattle.wire.proofs.RoundTrip.{body-again}
 use Rattle.calls.specs.CallList.{reservedField}
-use Rattle.calls.proofs.lists.BoolLaws.{both, parts}
+use Rattle.calls.proofs.lists.BoolLaws.{parts}
 use Rattle.merge.specs.Entries.{isBucket, isEntry, entryOf, entries, fieldFor}
 use Rattle.merge.specs.Places.{sizeAt, tagAt, entryFrom, Kept, Stands, EntryHere}
 

@@ -13,7 +13,7 @@ use Rattle.wire.proofs.OutputLaws.{drop-next}
 use Rattle.format.specs.Packing.{Member, get}
 use Rattle.format.proofs.ValueLaws.{get-take}
 use Rattle.reader.specs.KeyHere.{bodyLen, valueAt, keyHere, Whole, keysHere}
-use Rattle.reader.specs.Located.{KeyAt, noKey, KeysAt}
+use Rattle.reader.specs.Located.{noKey, KeysAt}
 
 module _ (s : List ℕ) (at : ℕ) (w : Whole s at) where
   -- each part read at its own place

@@ -4,19 +4,18 @@ use native.Mathlib.Nat.{min-eq-left}
 use native.Mathlib.Omega.{arith}
 use mathlib.Core.Path.{_≡_, refl, sym, ap, _∙_}
 use mathlib.Core.Bool.{Bool}
-use mathlib.Core.List.{List, [], _∷_, map}
+use mathlib.Core.List.{List, [], map}
 use lib.ListN.{length, take, drop, getD, length-take, length-drop, length-map, List·getD-map}
 use lib.Seq.{getD-take, getD-drop}
 use Rattle.wire.specs.Numbers.{le}
 use Rattle.wire.specs.Fields.{fields}
-use Rattle.wire.specs.Keys.{Key, keyOf}
+use Rattle.wire.specs.Keys.{keyOf}
 use Rattle.wire.specs.Kinds.{bucketRead, noBucket}
-use Rattle.wire.specs.declared.kinds.Bucket.{Bucket}
-use Rattle.calls.specs.CallList.{Piece, Freed, bodies, pieceOf, freedOf}
+use Rattle.calls.specs.CallList.{bodies, pieceOf, freedOf}
 use Rattle.reader.specs.Table.{FieldHere, Tabled}
 use Rattle.reader.specs.Readings.{listRefusal}
 use Rattle.reader.specs.KeyHere.{keyHere}
-use Rattle.reader.specs.Located.{KeyAt, noKey, KeysAt, BucketAt, BucketsAt, PieceAt, noPiece, PiecesAt, FreedAt, noFreed, FreedsAt}
+use Rattle.reader.specs.Located.{noKey, KeysAt, BucketsAt, noPiece, PiecesAt, noFreed, FreedsAt}
 use Rattle.reader.proofs.OfferedLaws.{body-listed, here-length, key-ready, reserved-size, piece-size, freed-size}
 
 -- a part of the table has as many entries as bodies, and their places

@@ -16,7 +16,7 @@ use Rattle.calls.specs.Limits.{listWithin}
 use Rattle.calls.proofs.lists.AllLaws.{all-nth}
 use Rattle.reader.specs.CallFields.{startsOk}
 use Rattle.reader.specs.Table.{FieldHere}
-use Rattle.reader.specs.Readings.{callRefusal, volumeRefusal, listRefusal}
+use Rattle.reader.specs.Readings.{callRefusal, listRefusal}
 use Rattle.reader.proofs.BoolLaws.{and-left, and-right, apart}
 use Rattle.reader.proofs.ShapeLaws.{same-or}
 use Rattle.reader.proofs.ListLaws.{bodies-here, bodies-other}
@@ -26,7 +26,7 @@ use Rattle.reader.proofs.FieldRankLaws.{AllListed}
 use Rattle.reader.proofs.FirstFieldLaws.{opened, after-first}
 use Rattle.reader.proofs.ListRefusalLaws.{refusal-is}
 use Rattle.reader.proofs.ReadingLaws.{all-listed}
-use Rattle.reader.proofs.VolumeLaws.{call-refusal, volume-refusal}
+use Rattle.reader.proofs.VolumeLaws.{call-refusal}
 
 -- a list that is not refused
 record Kept (s : List ℕ) (call : ℕ) (any : Bool) : Type 0 where

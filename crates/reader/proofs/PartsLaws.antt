@@ -4,11 +4,11 @@ use native.Mathlib.Omega.{arith}
 use mathlib.Core.Path.{_≡_, refl, sym, ap, _∙_}
 use mathlib.Core.Bool.{Bool, true, false}
 use mathlib.Core.List.{List, [], _∷_, map}
-use lib.ListN.{length, take, drop, length-map}
+use lib.ListN.{length, take, length-map}
 use lib.Dec.{leb}
 use borrow.Author.Tests.{leb-true}
 use Rattle.wire.specs.Fields.{fields}
-use Rattle.wire.specs.Keys.{Key, keyOf}
+use Rattle.wire.specs.Keys.{keyOf}
 use Rattle.wire.specs.Kinds.{bucketRead}
 use Rattle.calls.specs.CallList.{CallList, bodies, treesOf, callListOf, callLaidOut, pieceOf, freedOf}
 use Rattle.calls.specs.Limits.{fewKeys, countsOk, bucketsOk, volumeWithin, listWithin}

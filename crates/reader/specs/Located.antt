@@ -1,7 +1,7 @@
 -- Where fields stand: offsets that find, one for one, the keys of a tree, the reserved buckets and the requests.
 use Prim.Native.Nat.{ℕ, _+_, _≤_, _<_}
 use mathlib.Core.Path.{_≡_}
-use mathlib.Core.List.{List, [], _∷_}
+use mathlib.Core.List.{List, []}
 use lib.ListN.{length, take, drop, getD}
 use Rattle.wire.specs.Keys.{Key}
 use Rattle.wire.specs.Kinds.{bucketRead, noBucket, noSector}

@@ -1,7 +1,7 @@
 -- Laws of `put` and of what an emitter promises, each with no bound on the place.
 use mathlib.Core.Path.{_≡_, refl, sym, ap, _∙_}
-use Prim.Native.Nat.{ℕ, zero, suc, _+_, _-_, _*_, _/_, _%_, _≤_, _<_, zero-le, suc-le-suc, min}
-use native.Mathlib.Nat.{add-zero, not-suc-le-zero, zero-mul, suc-mul, add-comm, mul-comm}
+use Prim.Native.Nat.{ℕ, zero, suc, _+_, _-_, _*_, _≤_, _<_, zero-le, suc-le-suc, min}
+use native.Mathlib.Nat.{add-zero, zero-mul, suc-mul, add-comm, mul-comm}
 use native.Mathlib.Omega.{arith}
 use native.Mathlib.Numerals.{add-one}
 use mathlib.Core.Logic.{_⊎_, inl, inr, ⊎-elim}

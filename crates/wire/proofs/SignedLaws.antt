@@ -56,4 +56,3 @@ pub record Off (z : ℤ) (rest total most : ℕ) : Type 0 where
   pub is : z ≡ negℤ (pos amount)
   pub whole : amount + rest ≡ total
   pub bound : amount ≤ most
-

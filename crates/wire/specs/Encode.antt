@@ -1,6 +1,6 @@
 -- Fields and keys as bytes, the other way round from Fields and Keys.
 use Prim.Native.Nat.{ℕ}
-use mathlib.Core.List.{List, [], _∷_, _++_}
+use mathlib.Core.List.{List, _++_}
 use lib.ListN.{length}
 use Rattle.wire.specs.Numbers.{leBytes, each}
 use Rattle.wire.specs.Fields.{Field}

@@ -1,6 +1,6 @@
 -- A key as the code holds it, by value: a value is a 256-byte array with its length, in one record (DECISIONS.md, "The forms that document 01 names").
 use Prim.Native.Nat.{ℕ, _-_}
-use mathlib.Core.List.{List, [], _∷_, _++_}
+use mathlib.Core.List.{List, _++_}
 use lib.ListN.{length, take, replicate}
 use Rattle.wire.specs.Keys.{Key}
 use Rattle.wire.specs.declared.keys.Value.{Value}

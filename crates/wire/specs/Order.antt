@@ -1,5 +1,5 @@
 -- FORMAT.md, "Call list": keys of a tree ascend strictly by (inode, offset, snapshot).
-use Prim.Native.Nat.{ℕ, compare, Ordering, Ordering·lt, Ordering·eq, Ordering·gt}
+use Prim.Native.Nat.{compare, Ordering, Ordering·lt, Ordering·eq, Ordering·gt}
 use mathlib.Core.Bool.{Bool, true, false}
 use lib.Dec.{isEq}
 use Rattle.wire.specs.declared.bpos.Bpos.{Bpos}

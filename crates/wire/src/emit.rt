@@ -1,7 +1,7 @@
 // Emitters. Each is total: what has no room is left out, and the place after it is counted all the same, so that a run into one byte tells the length.
 ghost use mathlib.Core.Path.{_≡_};
 ghost use Prim.Native.Nat.{_+_, _*_, _<_, _≤_, min};
-ghost use mathlib.Core.List.{[], _∷_, _++_};
+ghost use mathlib.Core.List.{[], _∷_};
 ghost use lib.ListN.{length, take, drop};
 ghost use Rattle.wire.specs.Numbers.{leBytes, wordsBytes};
 ghost use Rattle.wire.specs.Held.{valueIn};

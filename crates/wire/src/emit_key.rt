@@ -1,11 +1,10 @@
 // Emitters of positions and keys.
-ghost use mathlib.Core.Path.{_≡_};
 ghost use Prim.Native.Nat.{_+_, _*_, _≤_};
-ghost use mathlib.Core.List.{[], _++_};
+ghost use mathlib.Core.List.{[]};
 ghost use lib.ListN.{take};
 ghost use Rattle.wire.specs.Numbers.{wordsBytes};
 ghost use Rattle.wire.specs.Held.{keyIn, keyWith};
-ghost use Rattle.wire.specs.Encode.{headBytes, encodeField, posBytes, keyStart, keyField};
+ghost use Rattle.wire.specs.Encode.{encodeField, posBytes, keyStart, keyField};
 ghost use Rattle.wire.specs.Output.{Wrote};
 use crate::bpos::Bpos;
 use crate::emit;

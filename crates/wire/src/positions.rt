@@ -1,6 +1,6 @@
 // The positions that key a tree by a kind, and the kinds that they hold.
 ghost use mathlib.Core.Path.{_≡_};
-ghost use Prim.Native.Nat.{_+_, _<_, _≤_, _^_};
+ghost use Prim.Native.Nat.{_+_, _<_, _^_};
 ghost use Rattle.wire.specs.Positions.{extentAt, allocAt, lruAt, runAt, needDiscardAt, backpointerAt, gensAt, gensByte, bucketIn};
 use crate::bpos::Bpos;
 use crate::kinds::Bucket;

@@ -3,7 +3,7 @@ ghost use mathlib.Core.Path.{_≡_};
 ghost use Prim.Native.Nat.{_+_, _*_, _<_, _≤_, _^_};
 ghost use mathlib.Core.List.{[], _∷_};
 ghost use lib.IntN.{pos, negℤ, _+ℤ_};
-ghost use lib.ListN.{length, getD};
+ghost use lib.ListN.{getD};
 ghost use mir.Syntax.{w64};
 ghost use mir.Val.{SFits, ofZ};
 ghost use Rattle.wire.specs.Output.{Wrote};

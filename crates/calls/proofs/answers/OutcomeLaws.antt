@@ -1,12 +1,11 @@
 -- The outcome of a call that is refused, and of one that is accepted.
-use mathlib.Core.Path.{_≡_, refl, sym, ap, _∙_}
+use mathlib.Core.Path.{_≡_, sym, ap, _∙_}
 use mathlib.Core.List.{List, [], _∷_, _++_}
 use Prim.Native.Nat.{ℕ, _≤_, _<_}
-use lib.Dec.{leb, eqb}
 use lib.ListN.{length, drop}
 use borrow.Author.Tests.{le-leb, lt-leb, eq-eqb, ne-eqb}
 use Rattle.calls.specs.Refusals.{verdict}
-use Rattle.calls.specs.Answers.{Answer, answer, outputAfter, Outcome, made, outcome}
+use Rattle.calls.specs.Answers.{Answer, answer, outputAfter, made, outcome}
 
 -- where no test is left but 21
 pub answer-short : (bytes : List ℕ) (room : ℕ) → room < length bytes → answer [] bytes room ≡ record { number = 21; written = [] }

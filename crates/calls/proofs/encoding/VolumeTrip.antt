@@ -23,7 +23,7 @@ use Rattle.calls.specs.History.{withoutRequests}
 use Rattle.calls.proofs.lists.AllLaws.{all-imp, all-join, all-map, all-test, test-all, map-back}
 use Rattle.calls.proofs.encoding.Blocks.{Block, field, flat, InBlock, flat-all, chosen-flat, hasOf, bodies-flat, bodies-all, order-ascend, flat-order, gather, gathered, Sound, takes, shaped-in, shaped-out, shaped-fits, tagsOf, shaped-tag, shaped-widen, shaped-after}
 use Rattle.calls.proofs.lists.BoolLaws.{both, parts}
-use Rattle.calls.proofs.encoding.FieldBytes.{number-back, encode-bytes, fields-bytes}
+use Rattle.calls.proofs.encoding.FieldBytes.{number-back, fields-bytes}
 use Rattle.calls.proofs.encoding.TreeFields.{TreesFit, treeTags, treeBlocks, map-block, trees-sound, part-back, trees-back, trees-read, trees-again}
 
 -- the head

@@ -1,7 +1,5 @@
 use borrow.Author.Needs.{needs}
 use mathlib.Core.Path.{refl, ap, _∙_}
-use mathlib.Core.List.{List}
-use Prim.Native.Nat.{ℕ}
 use lib.ListN.{take}
 use Rattle.wire.specs.Numbers.{leBytes}
 use Rattle.wire.proofs.OutputLaws.{put-take}

@@ -1,5 +1,4 @@
 use borrow.Author.Needs.{needs}
-use native.Mathlib.Omega.{arith}
 use mathlib.Core.Path.{refl}
 use Rattle.format.proofs.ValueLaws.{gen-stored}
 use Rattle.format.proofs.gens.with_gen.Statement.{statement}

@@ -1,8 +1,7 @@
 -- `type_at` meets its contract.
-use borrow.Author.Needs.{needs}
 use mathlib.Core.Path.{sym, _∙_}
 use native.Mathlib.Omega.{arith}
-use Rattle.merge.proofs.EntryLaws.{key-size, bucket-size, bucket-gone, bucket-stays, key-type}
+use Rattle.merge.proofs.EntryLaws.{key-size, bucket-gone, bucket-stays, key-type}
 use Rattle.merge.proofs.entries.type_at.Statement.{statement}
 use Rattle.merge.proofs.entries.type_at.Tie as tie
 

@@ -1,7 +1,6 @@
 -- `put_head` meets its contract.
 use borrow.Author.Needs.{needs}
 use Rattle.wire.proofs.OutputLaws.{wrote-length, then, field}
-use Rattle.wire.specs.Encode.{encodeField}
 use Rattle.calls.specs.CallList.{headBody}
 use Rattle.reader.specs.Heads.{headSizes}
 use Rattle.reader.proofs.head.put_head.Statement.{statement}

@@ -1,5 +1,5 @@
 -- `key::pos_at` meets its contract.
-use mathlib.Core.Path.{_≡_, refl, sym, ap, _∙_}
+use mathlib.Core.Path.{sym, ap, _∙_}
 use Rattle.wire.specs.Keys.{Key}
 use Rattle.reader.proofs.KeyHereLaws.{here-at}
 use borrow.Author.Needs.{needs}

@@ -1,5 +1,5 @@
 -- `key::value_len` meets its contract.
-use mathlib.Core.Path.{_≡_, sym, ap, _∙_}
+use mathlib.Core.Path.{sym, ap, _∙_}
 use Prim.Native.Nat.{ℕ, _-_}
 use Rattle.reader.proofs.KeyHereLaws.{value-length-here}
 use borrow.Author.Needs.{needs}
