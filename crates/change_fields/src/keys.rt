@@ -1,15 +1,11 @@
-// Keys that are queued: new ones and deletions, which have no value, and old ones with another value.
-ghost use mathlib.Core.Path.{_≡_};
+// Keys that are queued without a value: new ones and deletions.
 ghost use mathlib.Core.List.{[]};
 ghost use Rattle.wire.specs.Encode.{encodeField, keyField};
-ghost use Rattle.wire.specs.Held.{valueIn, keyIn};
 ghost use Rattle.wire.specs.Output.{Wrote};
-ghost use Rattle.calls.specs.Trees.{newKey, deletion, withValue};
+ghost use Rattle.calls.specs.Trees.{newKey, deletion};
 use wire::bpos::Bpos;
 use wire::emit_key;
-use wire::keys::Bkey;
 use wire::keys::KeyHead;
-use wire::keys::Value;
 
 // A new key of a tree, without a value.
 pub fn put_new_key(out: &mut [u8], at: usize, tree: u8, key_type: u8, size: u32, pos: Bpos) -> usize
@@ -34,19 +30,4 @@ pub fn put_deletion(out: &mut [u8], at: usize, tree: u8, pos: Bpos) -> usize
     ensures { λ r. ⌜ Wrote (now (out .entry)) at 40 (encodeField (keyField tree (deletion pos))) (now (out .exit)) r ⌝ }
 {
     put_new_key(out, at, tree, 0, 0, pos)
-}
-
-// A key with another value.
-pub fn with_value(k: Bkey, value: Value) -> Bkey
-    ensures { λ r. ⌜ (r .value ≡ value) × (keyIn r ≡ withValue (keyIn k) (valueIn value)) ⌝ }
-{
-    let pos = k.pos;
-    Bkey {
-        key_type: k.key_type,
-        size: k.size,
-        version_hi: k.version_hi,
-        version_lo: k.version_lo,
-        pos,
-        value,
-    }
 }

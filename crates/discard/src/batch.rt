@@ -28,9 +28,10 @@ fn put_alloc_key(out: &mut [u8], at: usize, s: &[u8], o: u32) -> usize
     requires { ⌜ DiscardedKept (now s) o ⌝ }
     ensures { λ r. ⌜ Emitted (now (out .entry)) at (encodeField (keyField 4 (discardedKey (keyHere (now (s .entry)) o)))) (now (out .exit)) r ⌝ }
 {
-    let k = key::key_at(s, o as usize);
-    let v = k.value;
-    emit_key::put_key(out, at, 4, keys::with_value(k, alloc::discarded(v)))
+    let mut k = key::key_at(s, o as usize);
+    let value = k.value;
+    k.value = alloc::discarded(value);
+    emit_key::put_key(out, at, 4, k)
 }
 
 // Tree 4.

@@ -16,7 +16,6 @@ ghost use Rattle.change_fields.specs.FieldBytes.{keysBytes};
 ghost use Rattle.release_keys.specs.Tables.{FreedTables, UnrefusedAt};
 use crate::freed_buckets;
 use crate::freed_buckets::FreedBucket;
-use change_fields::keys;
 use format::alloc;
 use reader::key;
 use wire::emit_key;
@@ -28,7 +27,9 @@ fn empty_bucket(k: Bkey, journal: u64) -> Bkey
     ensures { λ r. ⌜ (r .value .len ≤ 256) × (keyIn r ≡ withValue (keyIn k) (emptied journal (valueIn (k .value)))) ⌝ }
 {
     let value = k.value;
-    keys::with_value(k, alloc::emptied(value, journal))
+    let mut r = k;
+    r.value = alloc::emptied(value, journal);
+    r
 }
 
 // The alloc key of a bucket of which a part is freed.
@@ -37,7 +38,9 @@ fn free_part(k: Bkey, left: u32) -> Bkey
     ensures { λ r. ⌜ (r .value .len ≤ 256) × (keyIn r ≡ withValue (keyIn k) (withDirty left (valueIn (k .value)))) ⌝ }
 {
     let value = k.value;
-    keys::with_value(k, alloc::with_dirty(value, left))
+    let mut r = k;
+    r.value = alloc::with_dirty(value, left);
+    r
 }
 
 // The alloc key at a place after some of its bucket is freed. Refusal 18 shows that it holds what is freed.

@@ -17,7 +17,6 @@ ghost use Rattle.calls.specs.Trees.{newKey, withValue};
 ghost use Rattle.gens.specs.Records.{Recorded, RecordsFound};
 ghost use Rattle.change_fields.specs.FieldBytes.{keysBytes};
 ghost use Rattle.release_keys.specs.GenRecords.{GenerationsKnown, Next};
-use change_fields::keys;
 use gens::records;
 use reader::key;
 use wire::emit_key;
@@ -66,7 +65,9 @@ fn with_generation(k: Bkey, b: Bucket, generation: u8) -> Bkey
     if value.len <= positions::gens_byte(b) {
         return k;
     }
-    keys::with_value(k, format::gens::with_gen(value, b, generation))
+    let mut r = k;
+    r.value = format::gens::with_gen(value, b, generation);
+    r
 }
 
 // The record of the next emptied bucket: the last one continued, or the one before this release.

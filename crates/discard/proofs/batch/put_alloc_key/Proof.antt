@@ -2,7 +2,7 @@
 use native.Mathlib.Omega.{arith}
 use denote.Ref.{now}
 use Prim.Native.Nat.{_≤_}
-use mathlib.Core.Path.{ap}
+use mathlib.Core.Path.{refl, ap}
 use Rattle.wire.specs.Encode.{encodeField, keyField}
 use Rattle.wire.proofs.EmitLaws.{emitted}
 use Rattle.reader.proofs.KeyHereLaws.{value-length-here}
@@ -23,13 +23,10 @@ long c =
     (omega (arith, e, a .pre .valued), omega (arith, e, v, a .pre .kept .short))
 
 discarded-requires : tie.Need-discarded-requires
-discarded-requires c κs = long (c .before .before)
-
-with-value-requires : tie.Need-with-value-requires
-with-value-requires c κs = search needs
+discarded-requires c κs = long (c .before)
 
 put-key-requires : tie.Need-put-key-requires
-put-key-requires c κs = rw (c .with-value .ensures .0) (omega (arith, long (c .before .before .before .before), c .before .discarded .ensures .0))
+put-key-requires c κs = omega (arith, long (c .before .before .before), c .before .discarded .ensures .0)
 
 same-length : tie.Need-same-length
 same-length c = search needs
@@ -37,12 +34,11 @@ same-length c = search needs
 returns : tie.Need-returns
 returns c =
     let p = c .before .before in
-    let w = p .before in
-    let d = w .before in
-    let k = d .before .before .before in
+    let d = p .before .before in
+    let k = d .before .before in
     let a = k .before .before .before .args in
-    emitted (ap (λ q. encodeField (keyField 4 q)) (discarded-is (now (a .s)) (a .o) (k .key-at .ensures) (d .discarded .result) (d .discarded .ensures .1) (w .with-value .ensures .1))) (p .put-key .ensures)
+    emitted (ap (λ q. encodeField (keyField 4 q)) (discarded-is (now (a .s)) (a .o) (k .key-at .ensures) (d .discarded .result) (d .discarded .ensures .1) refl)) (p .put-key .ensures)
 
 pub put-alloc-key-spec : {M : Type 1} → statement M
 put-alloc-key-spec =
-    tie.close (tie.spec key-at-requires discarded-requires with-value-requires put-key-requires same-length returns)
+    tie.close (tie.spec key-at-requires discarded-requires put-key-requires same-length returns)

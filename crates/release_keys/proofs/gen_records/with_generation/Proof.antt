@@ -1,11 +1,10 @@
 -- `gen_records::with_generation` meets its contract.
 use native.Mathlib.Omega.{arith}
-use mathlib.Core.Path.{sym, ap, _∙_}
+use mathlib.Core.Path.{sym, ap}
 use mathlib.Core.List.{List}
 use Prim.Native.Nat.{ℕ, _≤_}
 use lib.ListN.{length, length-take}
 use Rattle.wire.specs.Held.{keyIn, valueIn}
-use Rattle.wire.specs.declared.keys.Value.{Value}
 use Rattle.calls.specs.Trees.{withValue}
 use Rattle.release_keys.proofs.GenRecordLaws.{generation-past}
 use borrow.Author.Needs.{needs}
@@ -24,16 +23,12 @@ returns c =
 with-gen-requires : tie.Need-with-gen-requires
 with-gen-requires c κs = (omega (arith, c .before .before .gens-byte .ensures), c .before .before .before .before .pre)
 
-with-value-requires : tie.Need-with-value-requires
-with-value-requires c κs = search needs
-
 returns-2 : tie.Need-returns-2
 returns-2 c =
-    let a = c .before .before .before .before .before .before in
-    let v = c .with-value .ensures in
-    let e = c .before .with-gen .ensures in
-    (omega (arith, ap (λ (x : Value). x .len) (v .0), e .0, a .pre), v .1 ∙ ap (λ (l : List ℕ). withValue (keyIn (a .args .k)) l) (e .1))
+    let a = c .before .before .before .before .before in
+    let e = c .with-gen .ensures in
+    (omega (arith, e .0, a .pre), ap (λ (l : List ℕ). withValue (keyIn (a .args .k)) l) (e .1))
 
 pub with-generation-spec : {M : Type 1} → statement M
 with-generation-spec =
-    tie.close (tie.spec gens-byte-requires returns with-gen-requires with-value-requires returns-2)
+    tie.close (tie.spec gens-byte-requires returns with-gen-requires returns-2)
