@@ -1,7 +1,7 @@
 pub mod RootLaws
 pub mod BatchLaws
 pub mod VolumeLaws
-pub mod PlacedLaws
+pub mod SectionPlaces
 pub mod NextLaws
 pub mod ResultLaws
 pub mod RefusalLaws

@@ -37,7 +37,7 @@ use Rattle.apply.specs.Roots.{rootsAfter, frontBytes}
 use Rattle.apply.specs.NextVolume.{endsOf, queueEnd, Ready, nextKeys, SectionDone, VolumeDone}
 use Rattle.apply.specs.declared.lists.Reached.{Reached}
 use Rattle.apply.proofs.VolumeLaws.{Parted, parted}
-use Rattle.apply.proofs.PlacedLaws.{startOf, firstOf}
+use Rattle.apply.proofs.SectionPlaces.{startOf, firstOf}
 use Rattle.apply.proofs.NextLaws.{nextOf, nextBytes, nextWithin, next-bytes, next-within}
 
 -- one section

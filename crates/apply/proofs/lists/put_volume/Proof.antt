@@ -8,7 +8,7 @@ use Rattle.wire.proofs.OutputLaws.{part-length, wrote-length}
 use Rattle.calls.proofs.lists.AllLaws.{all-nth}
 use Rattle.merge.specs.Entries.{sections}
 use Rattle.apply.proofs.VolumeLaws.{parted}
-use Rattle.apply.proofs.PlacedLaws.{Placed, placed-at, Queued, queued-at, section-ready}
+use Rattle.apply.proofs.SectionPlaces.{SectionAt, section-at, QueueAt, queue-at, section-ready}
 use Rattle.apply.proofs.ResultLaws.{Sectioning, sections-start, sections-on, sections-end}
 use Rattle.apply.proofs.lists.put_volume.Statement.{statement}
 use Rattle.apply.proofs.lists.put_volume.Tie as tie
@@ -34,7 +34,7 @@ queue-end-requires c κs = c .before .loop-test .taken
 -- the section's places, and those of its queued keys
 keys :
     (c : tie.After-queue-end Inv-loop μ-loop)
-    → Placed (now (c .before .before .before .before .before .before .before .before .before .before .before .before .before .args .vol))
+    → SectionAt (now (c .before .before .before .before .before .before .before .before .before .before .before .before .before .args .vol))
     (now (c .before .before .before .before .before .before .before .before .before .before .before .before .before .args .index))
     (getD sections (c .before .before .before .loop .i) 0)
     (c .before .before .before .loop .from)
@@ -42,11 +42,11 @@ keys :
 keys c =
     let l = c .before .before .before in
     let s = l .before .before .before .before .before .before .before .before .before .before in
-    rw (l .loop .inv .starts, c .before .end-at .ensures) (placed-at (parted (s .pre .0 .laid)) (s .pre .0 .read) (l .loop .i) (c .before .before .loop-test .taken))
+    rw (l .loop .inv .starts, c .before .end-at .ensures) (section-at (parted (s .pre .0 .laid)) (s .pre .0 .read) (l .loop .i) (c .before .before .loop-test .taken))
 
 queue :
     (c : tie.After-queue-end Inv-loop μ-loop)
-    → Queued (now (c .before .before .before .before .before .before .before .before .before .before .before .before .before .args .list))
+    → QueueAt (now (c .before .before .before .before .before .before .before .before .before .before .before .before .before .args .list))
     (now (c .before .before .before .before .before .before .before .before .before .before .before .before .before .args .table))
     (c .before .before .before .before .before .before .before .before .before .before .before .before .before .args .q)
     (getD sections (c .before .before .before .loop .i) 0)
@@ -55,7 +55,7 @@ queue :
 queue c =
     let l = c .before .before .before in
     let s = l .before .before .before .before .before .before .before .before .before .before in
-    rw (l .loop .inv .queue, c .queue-end .ensures) (queued-at _ _ _ (s .pre .1) (l .loop .i) (c .before .before .loop-test .taken))
+    rw (l .loop .inv .queue, c .queue-end .ensures) (queue-at _ _ _ (s .pre .1) (l .loop .i) (c .before .before .loop-test .taken))
 
 mul-put-next : tie.Need-mul-put-next Inv-loop μ-loop
 mul-put-next c = let k = keys (c .before) in omega (arith, k .on, k .within)

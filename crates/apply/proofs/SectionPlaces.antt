@@ -43,13 +43,13 @@ module _ {t at : ℕ} {s body : List ℕ} (f : FieldHere s at t body) where
   entry-at = λ i. entryOf t (field (sym (f .tagged) i) (sym (f .here) i))
 
 -- the fields of section t, from an index of the table on
-abbrev Part : ℕ → List ℕ → List ℕ → ℕ → List (List ℕ) → Type 0
-Part t s index base bs =
+abbrev PartIs : ℕ → List ℕ → List ℕ → ℕ → List (List ℕ) → Type 0
+PartIs t s index base bs =
     All (Stands t s) (take (length bs) (drop base index)) × (entriesAt t s (take (length bs) (drop base index)) ≡ map (λ b. entryOf t (field t b)) bs)
 
 tabled-part :
     (t : ℕ) (s index : List ℕ) (base : ℕ) (bs : List (List ℕ)) → base + length bs ≤ length index → All (λ b. isEntry t t (length b) ≡ true) bs
-    → Tabled s index base t bs → Part t s index base bs
+    → Tabled s index base t bs → PartIs t s index base bs
 unfolding entriesAt
 tabled-part t s index base [] h a f = (none, refl)
 tabled-part t s index base (b ∷ bs) h (more e a) f =
@@ -59,16 +59,16 @@ tabled-part t s index base (b ∷ bs) h (more e a) f =
     rw (drop-next 0 index base (omega arith)) (more (stands-at z e) (r .0), λ i. entry-at z i ∷ unfold entriesAt in (k i))
 
 -- section t stands between two ends of the table
-pub record Placed (vol index : List ℕ) (t from to : ℕ) : Type 0 where
+pub record SectionAt (vol index : List ℕ) (t from to : ℕ) : Type 0 where
   pub on : from ≤ to
   pub within : to ≤ length index
   pub stands : All (Stands t vol) (take (to - from) (drop from index))
   pub keys : entriesAt t vol (take (to - from) (drop from index)) ≡ entries t (fields vol)
 
-placed :
+section-between :
     {vol index : List ℕ} {t from to : ℕ} → SectionOf vol t → Tabled vol index from t (bodies t (fields vol)) → to ≡ from + length (bodies t (fields vol))
-    → to ≤ length index → Placed vol index t from to
-placed {vol} {index} {t} {from} {to} s f e w =
+    → to ≤ length index → SectionAt vol index t from to
+section-between {vol} {index} {t} {from} {to} s f e w =
     let bs = bodies t (fields vol) in
     let n : to - from ≡ length bs = omega arith in
     let r = tabled-part t vol index from bs (omega arith) (s .sized) f in
@@ -89,20 +89,20 @@ bound r (suc (suc (suc (suc (suc (suc (suc i))))))) l = absurd (omega arith)
 abbrev pub startOf : Ends → ℕ → ℕ
 startOf e i = getD (0 ∷ endsOf e) i 0
 
-pub placed-at :
+pub section-at :
     {vol index : List ℕ} {h : Head} {e : Ends} → Parted vol → ListRead 0 vol index h e → (i : ℕ) → i < 7
-    → Placed vol index (getD sections i 0) (startOf e i) (getD (endsOf e) i 0)
-placed-at p r zero l = placed (all-nth 0 (p .each) 0 (omega arith)) (r .table .alloc) (omega (arith, r .ends .alloc)) (bound r 0 (omega arith))
-placed-at p r (suc zero) l = placed (all-nth 0 (p .each) 1 (omega arith)) (r .table .lru) (omega (arith, r .ends .lru)) (bound r 1 (omega arith))
-placed-at p r (suc (suc zero)) l = placed (all-nth 0 (p .each) 2 (omega arith)) (r .table .freespace) (omega (arith, r .ends .freespace)) (bound r 2 (omega arith))
-placed-at p r (suc (suc (suc zero))) l = placed (all-nth 0 (p .each) 3 (omega arith)) (r .table .needDiscard) (omega (arith, r .ends .needDiscard)) (bound r 3 (omega arith))
-placed-at p r (suc (suc (suc (suc zero)))) l = placed (all-nth 0 (p .each) 4 (omega arith)) (r .table .backpointers) (omega (arith, r .ends .backpointers)) (bound r 4 (omega arith))
-placed-at p r (suc (suc (suc (suc (suc zero))))) l = placed (all-nth 0 (p .each) 5 (omega arith)) (r .table .gens) (omega (arith, r .ends .gens)) (bound r 5 (omega arith))
-placed-at p r (suc (suc (suc (suc (suc (suc zero)))))) l = placed (all-nth 0 (p .each) 6 (omega arith)) (r .table .reserved) (omega (arith, r .ends .reserved)) (bound r 6 (omega arith))
-placed-at p r (suc (suc (suc (suc (suc (suc (suc i))))))) l = absurd (omega arith)
+    → SectionAt vol index (getD sections i 0) (startOf e i) (getD (endsOf e) i 0)
+section-at p r zero l = section-between (all-nth 0 (p .each) 0 (omega arith)) (r .table .alloc) (omega (arith, r .ends .alloc)) (bound r 0 (omega arith))
+section-at p r (suc zero) l = section-between (all-nth 0 (p .each) 1 (omega arith)) (r .table .lru) (omega (arith, r .ends .lru)) (bound r 1 (omega arith))
+section-at p r (suc (suc zero)) l = section-between (all-nth 0 (p .each) 2 (omega arith)) (r .table .freespace) (omega (arith, r .ends .freespace)) (bound r 2 (omega arith))
+section-at p r (suc (suc (suc zero))) l = section-between (all-nth 0 (p .each) 3 (omega arith)) (r .table .needDiscard) (omega (arith, r .ends .needDiscard)) (bound r 3 (omega arith))
+section-at p r (suc (suc (suc (suc zero)))) l = section-between (all-nth 0 (p .each) 4 (omega arith)) (r .table .backpointers) (omega (arith, r .ends .backpointers)) (bound r 4 (omega arith))
+section-at p r (suc (suc (suc (suc (suc zero))))) l = section-between (all-nth 0 (p .each) 5 (omega arith)) (r .table .gens) (omega (arith, r .ends .gens)) (bound r 5 (omega arith))
+section-at p r (suc (suc (suc (suc (suc (suc zero)))))) l = section-between (all-nth 0 (p .each) 6 (omega arith)) (r .table .reserved) (omega (arith, r .ends .reserved)) (bound r 6 (omega arith))
+section-at p r (suc (suc (suc (suc (suc (suc (suc i))))))) l = absurd (omega arith)
 
 -- what the writing of a section asks
-pub section-ready : {vol index : List ℕ} {t from to : ℕ} → SectionOf vol t → Placed vol index t from to → SectionReady t vol (take (to - from) (drop from index))
+pub section-ready : {vol index : List ℕ} {t from to : ℕ} → SectionOf vol t → SectionAt vol index t from to → SectionReady t vol (take (to - from) (drop from index))
 section-ready s p = record { stands = p .stands; up = rw (p .keys) (s .up) }
 
 -- where the queued keys of section number i start in their table
@@ -110,18 +110,18 @@ abbrev pub firstOf : Parts → ℕ → ℕ
 firstOf q i = cond (q .fits) (getD (0 ∷ q .ends) i 0) 0
 
 -- a section's queued keys stand between two ends of their table, if it holds them
-pub record Queued (list table : List ℕ) (q : Parts) (t first last : ℕ) : Type 0 where
+pub record QueueAt (list table : List ℕ) (q : Parts) (t first last : ℕ) : Type 0 where
   pub on : first ≤ last
   pub within : last ≤ length table
   pub ready : q .fits ≡ true → QueueReady t list (take (last - first) (drop first table))
 
-pub queued-at :
-    (list table : List ℕ) (q : Parts) → InParts list table q → (i : ℕ) → i < 7 → Queued list table q (getD sections i 0) (firstOf q i) (queueEnd q i)
+pub queue-at :
+    (list table : List ℕ) (q : Parts) → InParts list table q → (i : ℕ) → i < 7 → QueueAt list table q (getD sections i 0) (firstOf q i) (queueEnd q i)
 unfolding queueEnd
-queued-at list table q h i l = go (q .fits) refl
+queue-at list table q h i l = go (q .fits) refl
   where
     go :
         (b : Bool) → q .fits ≡ b
-        → Queued list table q (getD sections i 0) (cond b (getD (0 ∷ q .ends) i 0) 0) (cond b (getD (q .ends) i 0) 0)
+        → QueueAt list table q (getD sections i 0) (cond b (getD (0 ∷ q .ends) i 0) 0) (cond b (getD (q .ends) i 0) 0)
     go true e = let p = h e i l in record { on = p .up; within = p .within; ready = λ z. record { kept = p .kept; keys = p .keys } }
     go false e = record { on = omega arith; within = omega arith; ready = λ z. absurd (false≢true (sym e ∙ z)) }
