@@ -1,6 +1,6 @@
 -- Next fit, one piece after the other: which bucket is open, and how much of it is used.
-use Prim.Native.Nat.{ℕ, _+_}
-use mathlib.Core.List.{List, [], _∷_}
+use Prim.Native.Nat.{ℕ, _+_, _*_, _/_, _%_}
+use mathlib.Core.List.{List, [], _∷_, map}
 use Rattle.calls.specs.Pieces as layouts
 use Rattle.calls.specs.Pieces.{nextFit}
 use Rattle.reader.specs.declared.piece.Piece.{Piece}
@@ -10,6 +10,17 @@ use Rattle.next_fit.specs.declared.slot.Slot.{Slot}
 -- a slot as the code holds it
 abbrev pub slotIn : Slot → layouts.Slot
 slotIn s = record { index = s .index; offset = s .offset }
+
+-- a slot as one number: the index of its bucket, and below 65,536 its offset there
+unfoldable pub slotNumber : layouts.Slot → ℕ
+slotNumber t = t .index * 65536 + t .offset
+
+unfoldable pub slotOf : ℕ → layouts.Slot
+slotOf n = record { index = n / 65536; offset = n % 65536 }
+
+-- the slots of a table that holds their numbers
+unfoldable pub slotsIn : List ℕ → List layouts.Slot
+slotsIn ns = map slotOf ns
 
 -- at first the first bucket is open, and none of it is used
 abbrev pub unused : Open

@@ -2,8 +2,9 @@
 ghost use mathlib.Core.Path.{_≡_};
 ghost use Prim.Native.Nat.{_<_, _^_};
 ghost use mathlib.Core.List.{[], _∷_};
+ghost use lib.ListN.{length, getD};
 ghost use Rattle.calls.specs.Pieces.{nextFit};
-ghost use Rattle.next_fit.specs.Fit.{slotIn};
+ghost use Rattle.next_fit.specs.Fit.{slotIn, slotOf};
 
 // The open bucket, by its index among those taken, and how many of its sectors are used.
 pub struct Open {
@@ -31,5 +32,18 @@ pub fn next_fit(o: Open, stored: u64, bucket: u64) -> Slot
     Slot {
         index: o.index + 1,
         offset: 0,
+    }
+}
+
+// The slot at an index of a table.
+pub fn slot_at(slots: &[u32], i: usize) -> Slot
+    requires { ⌜ i < length (now slots) ⌝ }
+    ensures { λ r. ⌜ slotIn r ≡ slotOf (getD (now (slots .entry)) i 0) ⌝ }
+{
+    let n = slots[i] as u64;
+    let index = (n / 65536) as usize;
+    Slot {
+        index,
+        offset: n % 65536,
     }
 }
