@@ -1,7 +1,14 @@
--- Laws of lists, of tests and of totals.
+-- Laws of lists, of tests, of totals and of sorts.
 pub mod AllLaws
 pub mod AllOfLaws
+pub mod AnyLaws
 pub mod BoolLaws
+pub mod MapLaws
+pub mod OneSort
 pub mod OrderLaws
+pub mod SortLaws
+pub mod SortParts
 pub mod ThoseLaws
 pub mod TotalLaws
+pub mod TwiceLaws
+pub mod WeakLaws

@@ -14,7 +14,7 @@ use Rattle.wire.specs.declared.kinds.DeviceSector.{DeviceSector}
 use Rattle.wire.specs.Bytes.{All, Bytes}
 use Rattle.format.specs.Packing.{get}
 use Rattle.format.specs.AllocV4.{gen, dataType, dirtySectors, needDiscardType}
-use Rattle.calls.specs.Lists.{allOf, anyOf, those, total, fromOption}
+use Rattle.calls.specs.Lists.{allOf, anyOf, those, total, one, fromOption}
 use Rattle.calls.specs.CallList.{Piece, Freed, volumeLaidOut}
 use Rattle.calls.specs.Limits.{isSet, isRun}
 use Rattle.calls.specs.Freespace.{isIn, runsOf, endOf, bucketsOf, overlaps}
@@ -148,9 +148,6 @@ abbrev pub start : List ℕ → State
 start s = record { volume = s; live = [] }
 
 -- ---- what is claimed
-
-abbrev pub one : Bool → ℕ
-one t = cond t 1 0
 
 abbrev pub sectorsOf : State → ℕ
 sectorsOf st = readVolume (st .volume) .head .bucketSectors

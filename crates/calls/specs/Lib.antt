@@ -1,4 +1,5 @@
 pub mod Lists
+pub mod Sorting
 pub mod CallList
 pub mod Limits
 pub mod Trees

@@ -30,6 +30,14 @@ unfoldable pub total : {A : Type 0} → (A → ℕ) → List A → ℕ
 total f [] = 0
 total f (x ∷ xs) = f x + total f xs
 
+-- 1 where a test holds, else 0
+abbrev pub one : Bool → ℕ
+one t = cond t 1 0
+
+-- of how many elements the test holds
+abbrev pub count : {A : Type 0} → (A → Bool) → List A → ℕ
+count t xs = total (λ x. one (t x)) xs
+
 -- the largest number, or 0
 unfoldable pub largest : List ℕ → ℕ
 largest [] = 0

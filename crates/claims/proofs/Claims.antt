@@ -485,11 +485,11 @@ pub walk-taken-ascend : (reserved used : Bucket → Bool) (need : ℕ) (l : List
 walk-taken-ascend reserved used need l k = taken.walk-taken-ascend reserved used need l (keys-order l k .0)
 
 -- an accepted placement writes one batch; its fields 72 and its extents' pointers, the last word of each, tell the same, and a pointer gives sector and generation back
-pub pointers-told : (s : List ℕ) (room : ℕ) → Bytes s → place s room .number ≡ 0
+pub pointers-agree : (s : List ℕ) (room : ℕ) → Bytes s → place s room .number ≡ 0
     → (b : Batch) × (changesOf (place s room .written) ≡ b ∷ [])
     × (map (λ k. le 8 (drop (length (k .value) - 8) (k .value))) (b .extents) ≡ map (λ t. pointer (t .first) (t .generation)) (b .spots))
     × All (λ t. unpack (1 ∷ 1 ∷ 1 ∷ 1 ∷ 44 ∷ 8 ∷ 8 ∷ []) (pointer (t .first) (t .generation)) ≡ 1 ∷ 0 ∷ 0 ∷ 0 ∷ sectorNumber (t .first) ∷ 0 ∷ t .generation ∷ []) (b .spots)
-pointers-told s room r h = let p = pointers.pointers-told s room r h in (p .0, p .1, p .2 .same, p .2 .read)
+pointers-agree s room r h = let p = pointers.pointers-agree s room r h in (p .0, p .1, p .2 .same, p .2 .read)
 
 -- ---- it is not empty: eight calls on a small volume, of which one is refused and one has its apply refused
 pub worked-clean : Clean example.clean

@@ -22,6 +22,7 @@ use Rattle.calls.proofs.lists.BoolLaws.{parts, or-then}
 use Rattle.calls.proofs.answers.AnswerLaws.{discard-is}
 use Rattle.calls.proofs.answers.OutcomeLaws.{answer-next, answer-stops}
 use Rattle.calls.proofs.encoding.KeyFitsLaws.{list-within}
+use Rattle.calls.proofs.lists.MapLaws.{map-take, map-drop}
 use Rattle.calls.proofs.lists.ThoseLaws.{those-map}
 use Rattle.reader.specs.Located.{KeyAt, KeysAt}
 use Rattle.reader.specs.Readings.{callRefusal, ListRead}
@@ -89,16 +90,6 @@ ready-found {s} {alloc} {needs} r =
     }
 
 -- the batches of the offsets are those of the definition
-
-map-take : {A B : Type 0} (f : A → B) (n : ℕ) (xs : List A) → take n (map f xs) ≡ map f (take n xs)
-map-take f zero xs = refl
-map-take f (suc n) [] = refl
-map-take f (suc n) (x ∷ xs) = ap (λ l. f x ∷ l) (map-take f n xs)
-
-map-drop : {A B : Type 0} (f : A → B) (n : ℕ) (xs : List A) → drop n (map f xs) ≡ map f (drop n xs)
-map-drop f zero xs = refl
-map-drop f (suc n) [] = refl
-map-drop f (suc n) (x ∷ xs) = map-drop f n xs
 
 chunks-map : {A B : Type 0} (f : A → B) (m size : ℕ) (xs : List A) → chunks m size (map f xs) ≡ map (map f) (chunks m size xs)
 unfolding chunks

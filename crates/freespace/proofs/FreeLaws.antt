@@ -11,10 +11,9 @@ use borrow.Author.Tests.{lt-ltb, le-ltb, ltb-true, ltb-false, eqb-true, eqb-fals
 use Rattle.wire.specs.Keys.{Key}
 use Rattle.wire.specs.Kinds.{bucketBelow, sameBucket, nextBucket, bucketsFrom, bucketsUpTo, noBucket}
 use Rattle.wire.specs.declared.kinds.Bucket.{Bucket}
-use Rattle.calls.specs.Lists.{anyOf, those, total}
+use Rattle.calls.specs.Lists.{anyOf, those, total, one as ind}
 use Rattle.calls.specs.Limits.{isRun}
 use Rattle.calls.specs.Freespace.{isIn, runsOf, startOf, endOf, bucketsOf, freeCount}
-use Rattle.calls.specs.History.{one as ind}
 use Rattle.reader.specs.Checked.{endInRange}
 use Rattle.freespace.specs.Runs.{runIn, countBelow}
 use Rattle.freespace.specs.declared.runs.Run.{Run}

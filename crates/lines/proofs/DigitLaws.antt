@@ -7,7 +7,8 @@ use native.Mathlib.Nat.{pow-zero, pow-suc, div-one, div-div-eq-div-mul}
 use native.Mathlib.Omega.{arith}
 use lib.Dec.{ltb}
 use lib.ListN.{length, take, drop, set, length-set, length-drop, drop-of-length-le}
-use lib.Seq.{drop-cons, getD-set-same, drop-set-lt, lt-length-set, take-all}
+use lib.Seq.{take-all}
+use Rattle.calls.proofs.lists.MapLaws.{drop-set}
 use borrow.Author.Tests.{lt-ltb, le-ltb}
 use Rattle.wire.proofs.OutputLaws.{lt-or-ge}
 use Rattle.calls.proofs.lists.BoolLaws.{cond-most}
@@ -35,11 +36,6 @@ fill-none base n text h =
       left = sym (ap (λ (k : ℕ). n / k) (pow-zero base) ∙ div-one n);
       digits = drop-of-length-le text {i = 20} (omega arith);
     }
-
-drop-set : (l : List ℕ) (i a : ℕ) → i < length l → drop i (set l i a) ≡ a ∷ drop (suc i) l
-drop-set l i a h =
-    drop-cons (set l i a) i 0 (lt-length-set l i a h)
-    ∙ (λ j. getD-set-same l i a 0 h j ∷ drop-set-lt (suc i) l i a (omega arith) j)
 
 pub fill-more : {base n : ℕ} {text : List ℕ} {from rest : ℕ} → Filled base n text from rest → 0 < from
     → Filled base n (set text (from - 1) (digit (rest % base))) (from - 1) (rest / base)

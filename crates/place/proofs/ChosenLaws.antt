@@ -10,7 +10,7 @@ use borrow.Author.Tests.{eq-eqb, eqb-true}
 use Rattle.wire.specs.Keys.{Key}
 use Rattle.wire.specs.Kinds.{noBucket, sameBucket, bucketsIn, bucketInRange}
 use Rattle.wire.specs.declared.kinds.Bucket.{Bucket}
-use Rattle.calls.specs.Lists.{allOf, those, total}
+use Rattle.calls.specs.Lists.{allOf, those, total, one}
 use Rattle.calls.specs.CallList.{CallList}
 use Rattle.calls.specs.Extents.{bucketAt}
 use Rattle.calls.specs.Limits.{isRun}
@@ -18,7 +18,6 @@ use Rattle.calls.specs.Freespace.{isIn, isUsed, runsOf, overlaps, walk}
 use Rattle.calls.specs.Pieces.{bucketsNeeded}
 use Rattle.calls.specs.Place.{slotsOf, walkOf}
 use Rattle.calls.specs.Answers.{readCall, readVolume}
-use Rattle.calls.specs.History.{one}
 use Rattle.calls.proofs.freespace.BucketLaws.{count}
 use Rattle.calls.proofs.freespace.CoverLaws.{cover-once}
 use Rattle.calls.proofs.freespace.RunLaws.{covered, walk-gives}

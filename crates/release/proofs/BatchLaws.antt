@@ -23,10 +23,11 @@ use Rattle.calls.specs.Lru.{needDiscardKey}
 use Rattle.calls.specs.Place.{rootMissing, rootsIf}
 use Rattle.calls.specs.Release.{freedOk, freedBuckets, freedIn, isEmptied, releasedKey, releasedLru, emptiedGen, gensQueued, unusedChange, releaseRows, releaseBatch}
 use Rattle.calls.specs.Trees.{deletion}
+use Rattle.calls.proofs.lists.MapLaws.{empty-length}
 use Rattle.calls.proofs.lists.ThoseLaws.{those-length}
 use Rattle.calls.proofs.encoding.ApplyLaws.{up-order, up-those}
 use Rattle.calls.proofs.lists.BoolLaws.{parts}
-use Rattle.calls.proofs.freespace.BucketLaws.{isIn-those}
+use Rattle.calls.proofs.freespace.BucketLaws.{isIn-those, map-in, all-in}
 use Rattle.calls.proofs.release.ReleaseFits.{named-few}
 use Rattle.calls.proofs.release.ReleaseLaws.{named-range}
 use Rattle.calls.proofs.history.View.{bucket}
@@ -40,10 +41,6 @@ use Rattle.change_fields.proofs.BucketTables.{table-length}
 use Rattle.release.specs.Outcomes.{BatchTables}
 
 -- ---- the batch
-empty-is : {A : Type 0} (l : List A) → isEmpty l ≡ eqb (length l) 0
-empty-is [] = refl
-empty-is (x ∷ l) = sym (ne-eqb (suc (length l)) 0 (λ z. omega arith))
-
 module _ (v : Volume) (rs : List Freed) where
   abbrev all : List Bucket
   all = freedBuckets (v .head .bucketSectors) rs
@@ -60,7 +57,7 @@ module _ (v : Volume) (rs : List Freed) where
       ++ encodeField endField
   unfolding batchFields releaseBatch treeFields
   batch-bytes emptied e =
-      rw (← e, ← empty-is emptied)
+      rw (← e, ← empty-length emptied)
       (simp (encode-append, append-nil, encode-one))
 
   -- its rows, by the sums that they are made of
@@ -81,21 +78,6 @@ in-at (n ∷ ns) (suc j) h = go (eqb n (getD ns j 0)) (in-at ns j (omega arith))
     go : (t : Bool) → isIn (bucketsIn ns) (bucket (getD ns j 0)) ≡ true → (t || isIn (bucketsIn ns) (bucket (getD ns j 0))) ≡ true
     go true h = refl
     go false h = h
-
--- what holds of each bucket of a list
-in-more : (t : Bool) {u : Bool} → u ≡ true → (t || u) ≡ true
-in-more true m = refl
-in-more false m = m
-
-map-in : (f g : Bucket → ℕ) (bs : List Bucket) → ((b : Bucket) → isIn bs b ≡ true → f b ≡ g b) → map f bs ≡ map g bs
-unfolding isIn anyOf
-map-in f g [] h = refl
-map-in f g (b ∷ bs) h = λ x. h b (rw (eq-eqb (b .0) (b .0) refl)) x ∷ map-in f g bs (λ c m. h c (in-more (sameBucket b c) m)) x
-
-all-in : (t : Bucket → Bool) (bs : List Bucket) → ((b : Bucket) → isIn bs b ≡ true → t b ≡ true) → allOf t bs ≡ true
-unfolding isIn anyOf allOf
-all-in t [] h = refl
-all-in t (b ∷ bs) h = rw (h b (rw (eq-eqb (b .0) (b .0) refl))) (all-in t bs (λ c m. h c (in-more (sameBucket b c) m)))
 
 module _ {s : List ℕ} {h : Head} {requests buckets freed places records emptied generations : List ℕ} (d : BatchTables s h requests buckets freed places records emptied generations) where
   abbrev rs : List Freed

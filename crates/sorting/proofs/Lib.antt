@@ -1,4 +1,3 @@
-pub mod SortLaws
 pub mod PlaceLaws
 pub mod MergeLaws
 pub mod LastLaws

@@ -3,7 +3,7 @@ ghost use mathlib.Core.Path.{_≡_};
 ghost use Prim.Native.Nat.{_+_, _≤_, _<_};
 ghost use lib.ListN.{length, take, drop, getD};
 ghost use Rattle.wire.specs.Bytes.{All};
-ghost use Rattle.sorting.specs.Sorting.{ahead, lasts};
+ghost use Rattle.sorting.specs.Lasts.{ahead, lasts};
 ghost use Rattle.sorting.specs.Places.{Inside, placeLess};
 use crate::places;
 

@@ -1,4 +1,4 @@
--- Refusals that do not come: each test of an accepted call held.
+-- The first refusal of some tests: the test that holds, the one that fails, and that none fails of an accepted call.
 use mathlib.Core.Path.{_≡_, refl, sym, ap, _∙_}
 use mathlib.Core.Bool.{Bool, true, false, _||_, cond}
 use mathlib.Core.List.{List, [], _∷_, _++_, map}
@@ -6,7 +6,7 @@ use Prim.Native.Nat.{ℕ, zero, suc, _<_}
 use native.Mathlib.Omega.{arith}
 use lib.Dec.{eqb}
 use lib.ListN.{drop}
-use borrow.Author.Tests.{eqb-true, eqb-false, ne-eqb}
+use borrow.Author.Tests.{eqb-true, eqb-false, eq-eqb, ne-eqb}
 use Rattle.wire.specs.Kinds.{sameBucket}
 use Rattle.wire.specs.declared.kinds.Bucket.{Bucket}
 use Rattle.calls.specs.Lists.{anyOf}
@@ -26,6 +26,40 @@ verdict-ok n ns e = go (eqb n 0) refl e
 pub test-ok : (n : ℕ) (t : Bool) → 0 < n → test n t ≡ 0 → t ≡ true
 test-ok n true p e = refl
 test-ok n false p e = absurd (omega arith)
+
+-- a test that holds, and one that fails
+pub verdict-next : (n : ℕ) (t : Bool) (ns : List ℕ) → t ≡ true → verdict (test n t ∷ ns) ≡ verdict ns
+unfolding verdict
+verdict-next n t ns e = rw e
+
+pub verdict-stops : (n : ℕ) (t : Bool) (ns : List ℕ) → 0 < n → t ≡ false → verdict (test n t ∷ ns) ≡ n
+unfolding verdict
+verdict-stops n t ns p e = rw (e, ne-eqb n 0 (omega arith))
+
+-- tests that all hold, and tests of which one fails
+pub verdict-past : (ns ms : List ℕ) → verdict ns ≡ 0 → verdict (ns ++ ms) ≡ verdict ms
+unfolding verdict
+verdict-past [] ms z = refl
+verdict-past (n ∷ ns) ms z =
+    let v = verdict-ok n ns z in
+    ap (λ (t : Bool). cond t (verdict (ns ++ ms)) n) (eq-eqb n 0 (v .0)) ∙ verdict-past ns ms (v .1)
+
+pub verdict-first : (ns ms : List ℕ) → (verdict ns ≡ 0 → ⊥) → verdict (ns ++ ms) ≡ verdict ns
+unfolding verdict
+verdict-first [] ms p = absurd (p refl)
+verdict-first (n ∷ ns) ms p = go (eqb n 0) p (verdict-first ns ms)
+  where
+    go : (t : Bool) → (cond t (verdict ns) n ≡ 0 → ⊥) → ((verdict ns ≡ 0 → ⊥) → verdict (ns ++ ms) ≡ verdict ns) → cond t (verdict (ns ++ ms)) n ≡ cond t (verdict ns) n
+    go true q ih = ih q
+    go false q ih = refl
+
+pub verdict-one : (n : ℕ) → verdict (n ∷ []) ≡ n
+unfolding verdict
+verdict-one n = go (eqb n 0) refl
+  where
+    go : (t : Bool) → eqb n 0 ≡ t → cond t 0 n ≡ n
+    go true e = sym (eqb-true n 0 e)
+    go false e = refl
 
 -- the tests before 21
 pub verdict-front : (ns ms : List ℕ) → verdict (ns ++ ms) ≡ 0 → verdict ns ≡ 0

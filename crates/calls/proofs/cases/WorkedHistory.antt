@@ -10,11 +10,11 @@ use borrow.Author.Tests.{ltb-true, eqb-true}
 use Rattle.wire.specs.Fields.{Field}
 use Rattle.wire.specs.Bytes.{Bytes}
 use Rattle.wire.specs.Kinds.{sameBucket, bucketOf, offsetIn, sectorWithin}
-use Rattle.calls.specs.Lists.{allOf, total, isNone, fromOption}
+use Rattle.calls.specs.Lists.{allOf, total, isNone, fromOption, one}
 use Rattle.calls.specs.Generations.{genOf}
 use Rattle.calls.specs.Computing.{computing}
 use Rattle.calls.specs.Answers.{readCall, readVolume, place, release, discard, apply}
-use Rattle.calls.specs.History.{Clean, Live, State, Step, answerTo, withoutRequests, appliedTo, placedPieces, takeOut, takeAll, advance, after, carried, Allowed, History, start, one, sectorsOf, allocOf, generationOf, dirtyOf, isFree, isInUse, isWaiting, Claim, GensAgree}
+use Rattle.calls.specs.History.{Clean, Live, State, Step, answerTo, withoutRequests, appliedTo, placedPieces, takeOut, takeAll, advance, after, carried, Allowed, History, start, sectorsOf, allocOf, generationOf, dirtyOf, isFree, isInUse, isWaiting, Claim, GensAgree}
 use Rattle.calls.specs.Examples.{bucket, sector}
 use Rattle.calls.specs.ExampleHistory.{clean, ran, steps, reached, piece}
 use Rattle.calls.proofs.lists.AllLaws.{all-imp, test-all}

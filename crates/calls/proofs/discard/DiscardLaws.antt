@@ -20,7 +20,7 @@ use Rattle.wire.proofs.NumberLaws.{all-take, all-drop}
 use Rattle.wire.proofs.OrderLaws.{pos-cmp, pos-equal, lt≢eq}
 use Rattle.format.specs.Packing.{get}
 use Rattle.format.specs.AllocV4.{gen, dataType, needDiscardType, discarded}
-use Rattle.calls.specs.Lists.{anyOf, total, isNone}
+use Rattle.calls.specs.Lists.{anyOf, total, isNone, one}
 use Rattle.calls.specs.CallList.{Trees, Volume}
 use Rattle.calls.specs.Limits.{atInode0}
 use Rattle.calls.specs.Trees.{onEq, lookup, applyQueue, withValue}
@@ -29,7 +29,7 @@ use Rattle.calls.specs.Generations.{genOf}
 use Rattle.calls.specs.Buckets.{insertBuckets}
 use Rattle.calls.specs.Discard.{waitingKey, genTaken, isDiscarded, discardedKeys, chunks, waitingDeletions, discardBatch, discardBatches}
 use Rattle.calls.specs.Apply.{applyTrees, applyBatch, applyBatches}
-use Rattle.calls.specs.History.{Live, one}
+use Rattle.calls.specs.History.{Live}
 use Rattle.calls.proofs.lists.AllLaws.{all-at, all-imp, all-join, all-chosen, test-all, all-each}
 use Rattle.calls.proofs.trees.AllocReads.{discarded-gen, discarded-kind, discarded-dirty}
 use Rattle.calls.proofs.lists.BoolLaws.{clash, parts, neither}

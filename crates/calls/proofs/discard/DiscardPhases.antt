@@ -5,8 +5,7 @@ use mathlib.Core.Option.{Option}
 use Prim.Native.Nat.{ℕ, _+_, _<_}
 use native.Mathlib.Omega.{arith}
 use native.Mathlib.Nat.{add-zero}
-use Rattle.calls.specs.Lists.{total}
-use Rattle.calls.specs.History.{one}
+use Rattle.calls.specs.Lists.{total, one}
 use Rattle.calls.proofs.lists.AllLaws.{all-at, all-of}
 use Rattle.calls.proofs.history.Phases.{inBucket, lenOn, Alloc, Seen, allocDirty, allocKind, Phase, idle, free, used, wait, PhaseAt, Good, mem-own}
 

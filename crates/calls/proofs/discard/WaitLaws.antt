@@ -16,13 +16,12 @@ use Rattle.wire.specs.declared.bpos.Bpos.{Bpos}
 use Rattle.wire.specs.declared.kinds.Bucket.{Bucket}
 use Rattle.wire.proofs.NumberLaws.{all-append}
 use Rattle.wire.proofs.OrderLaws.{pos-cmp}
-use Rattle.calls.specs.Lists.{anyOf, total, isNone, fromOption}
+use Rattle.calls.specs.Lists.{anyOf, total, isNone, fromOption, one}
 use Rattle.calls.specs.Limits.{isSet}
 use Rattle.calls.specs.Trees.{onEq, lookup, insertAt, upsert, step, applyQueue, newKey, deletion}
 use Rattle.calls.specs.Freespace.{isIn}
 use Rattle.calls.specs.Lru.{needDiscardKey}
 use Rattle.calls.specs.Discard.{waitingKey, waitingDeletions}
-use Rattle.calls.specs.History.{one}
 use Rattle.calls.proofs.lists.AllLaws.{all-imp}
 use Rattle.calls.proofs.lists.BoolLaws.{parts, neither, or-same, or-swap, or-shift, or-some, and-le-right}
 use Rattle.calls.proofs.trees.SortedLaws.{Sorted, sorted-step}

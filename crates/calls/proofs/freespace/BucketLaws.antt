@@ -15,11 +15,10 @@ use Rattle.wire.specs.Positions.{allocAt}
 use Rattle.wire.specs.declared.kinds.Bucket.{Bucket}
 use Rattle.wire.specs.Bytes.{All, none as nothing, more}
 use Rattle.wire.proofs.OrderLaws.{pos-cmp}
-use Rattle.calls.specs.Lists.{anyOf, those, total}
+use Rattle.calls.specs.Lists.{allOf, anyOf, those, total, one}
 use Rattle.calls.specs.Trees.{onEq}
 use Rattle.calls.specs.Freespace.{isIn}
 use Rattle.calls.specs.Buckets.{insertBucket, insertBuckets, removeBucket, removeBuckets}
-use Rattle.calls.specs.History.{one}
 use Rattle.calls.proofs.lists.BoolLaws.{or-swap, or-same, or-shift, cond-same, or-some, not-or}
 use Rattle.calls.proofs.trees.TreeLaws.{opOf, lastOp, onEq-ne, same-offset}
 use Rattle.calls.proofs.history.View.{bucket}
@@ -56,6 +55,21 @@ isIn-those t (c ∷ cs) b = go (t c) refl (sameBucket c b) refl (isIn-those t cs
     go true q false d ih = rw d ih
     go false q true d ih = let r : t b ≡ false = rw (← same-path c b d) q in rw (ih, r)
     go false q false d ih = ih
+
+-- what holds of each bucket of a list
+in-more : (t : Bool) {u : Bool} → u ≡ true → (t || u) ≡ true
+in-more true m = refl
+in-more false m = m
+
+pub map-in : (f g : Bucket → ℕ) (bs : List Bucket) → ((b : Bucket) → isIn bs b ≡ true → f b ≡ g b) → map f bs ≡ map g bs
+unfolding isIn anyOf
+map-in f g [] h = refl
+map-in f g (b ∷ bs) h = λ x. h b (rw (eq-eqb (b .0) (b .0) refl)) x ∷ map-in f g bs (λ c m. h c (in-more (sameBucket b c) m)) x
+
+pub all-in : (t : Bucket → Bool) (bs : List Bucket) → ((b : Bucket) → isIn bs b ≡ true → t b ≡ true) → allOf t bs ≡ true
+unfolding isIn anyOf allOf
+all-in t [] h = refl
+all-in t (b ∷ bs) h = rw (h b (rw (eq-eqb (b .0) (b .0) refl))) (all-in t bs (λ c m. h c (in-more (sameBucket b c) m)))
 
 same-sym : (a b : Bucket) → sameBucket a b ≡ sameBucket b a
 same-sym a b = go (sameBucket a b) refl (sameBucket b a) refl

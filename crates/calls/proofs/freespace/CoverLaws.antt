@@ -12,10 +12,9 @@ use Rattle.wire.specs.Keys.{Key}
 use Rattle.wire.specs.Kinds.{nextBucket, bucketsFrom, runEndInRange}
 use Rattle.wire.specs.Positions.{bucketIn}
 use Rattle.wire.specs.declared.kinds.Bucket.{Bucket}
-use Rattle.calls.specs.Lists.{allOf, anyOf, those, total}
+use Rattle.calls.specs.Lists.{allOf, anyOf, those, total, one}
 use Rattle.calls.specs.Limits.{isRun}
 use Rattle.calls.specs.Freespace.{isIn, runsOf, startOf, bucketsOf, overlap, overlaps}
-use Rattle.calls.specs.History.{one}
 use Rattle.calls.proofs.lists.BoolLaws.{ind-le, ind-ltb, clash, parts, neither, or-some, or-then}
 use Rattle.calls.proofs.history.View.{bucket, inR, covers, coverOf}
 

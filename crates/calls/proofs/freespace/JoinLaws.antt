@@ -14,12 +14,11 @@ use Rattle.wire.specs.Positions.{runAt}
 use Rattle.wire.specs.declared.bpos.Bpos.{Bpos}
 use Rattle.wire.specs.declared.kinds.Bucket.{Bucket}
 use Rattle.wire.specs.Bytes.{All, none, more}
-use Rattle.calls.specs.Lists.{total}
+use Rattle.calls.specs.Lists.{total, one}
 use Rattle.calls.specs.Limits.{isRun}
 use Rattle.calls.specs.Trees.{onEq, lookup, step, applyQueue}
 use Rattle.calls.specs.Freespace.{isIn}
 use Rattle.calls.specs.Discard.{Run, joinRun, joinedRuns, runKey}
-use Rattle.calls.specs.History.{one}
 use Rattle.calls.proofs.lists.AllLaws.{first, all-tail, all-of, all-at}
 use Rattle.calls.proofs.lists.BoolLaws.{some-in, ind-le}
 use Rattle.calls.proofs.freespace.BucketLaws.{count}

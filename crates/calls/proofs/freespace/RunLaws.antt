@@ -14,11 +14,10 @@ use Rattle.wire.specs.Kinds.{bucketsFrom}
 use Rattle.wire.specs.declared.kinds.Bucket.{Bucket}
 use Rattle.wire.specs.declared.bpos.Bpos.{Bpos}
 use Rattle.wire.specs.Bytes.{All, more}
-use Rattle.calls.specs.Lists.{those, total}
+use Rattle.calls.specs.Lists.{those, total, one}
 use Rattle.calls.specs.Limits.{isSet, isRun, atInode0}
 use Rattle.calls.specs.Trees.{lookup, applyQueue, deletion}
 use Rattle.calls.specs.Freespace.{runsOf, startOf, endOf, bucketsOf, freeCount, Passed, pass, shortened, Walked, walk}
-use Rattle.calls.specs.History.{one}
 use Rattle.calls.proofs.lists.AllLaws.{all-chosen}
 use Rattle.calls.proofs.lists.BoolLaws.{clash, parts}
 use Rattle.calls.proofs.freespace.BucketLaws.{count}

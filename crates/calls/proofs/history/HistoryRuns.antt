@@ -11,7 +11,7 @@ use Rattle.wire.specs.Keys.{Key}
 use Rattle.wire.specs.Kinds.{bucketBelow, beganBefore}
 use Rattle.wire.specs.declared.kinds.Bucket.{Bucket}
 use Rattle.wire.specs.Bytes.{All, none, more}
-use Rattle.calls.specs.Lists.{allOf, anyOf, those, total}
+use Rattle.calls.specs.Lists.{allOf, anyOf, those, total, one}
 use Rattle.calls.specs.CallList.{Trees, Volume}
 use Rattle.calls.specs.Limits.{isRun}
 use Rattle.calls.specs.Trees.{applyQueue, deletion}
@@ -22,7 +22,7 @@ use Rattle.calls.specs.Release.{releaseBatch}
 use Rattle.calls.specs.Discard.{runKey, discardBatch}
 use Rattle.calls.specs.Apply.{applyTrees, applyBatch}
 use Rattle.calls.specs.Answers.{readCall, readVolume}
-use Rattle.calls.specs.History.{Clean, Live, Step, after, History, start, one}
+use Rattle.calls.specs.History.{Clean, Live, Step, after, History, start}
 use Rattle.calls.proofs.lists.AllLaws.{all-imp, all-map, all-test, test-all, all-those}
 use Rattle.calls.proofs.encoding.ApplyLaws.{all-applyQueue}
 use Rattle.calls.proofs.lists.BoolLaws.{parts}

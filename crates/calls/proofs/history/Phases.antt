@@ -9,8 +9,8 @@ use native.Mathlib.Nat.{zero-add}
 use lib.Dec.{leb, ltb, eqb}
 use borrow.Author.Tests.{lt-ltb, eq-eqb}
 use Rattle.wire.specs.Bytes.{All, more}
-use Rattle.calls.specs.Lists.{anyOf, total}
-use Rattle.calls.specs.History.{Live, one}
+use Rattle.calls.specs.Lists.{anyOf, total, one}
+use Rattle.calls.specs.History.{Live}
 use Rattle.calls.proofs.lists.AllLaws.{all-imp}
 use Rattle.calls.proofs.lists.TotalLaws.{total-mem}
 

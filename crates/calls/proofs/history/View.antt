@@ -11,13 +11,13 @@ use Rattle.wire.specs.Positions.{allocAt, bucketIn}
 use Rattle.wire.specs.declared.kinds.Bucket.{Bucket}
 use Rattle.format.specs.Packing.{get}
 use Rattle.format.specs.AllocV4.{gen, dataType, dirtySectors}
-use Rattle.calls.specs.Lists.{anyOf, total}
+use Rattle.calls.specs.Lists.{anyOf, total, one}
 use Rattle.calls.specs.CallList.{Volume}
 use Rattle.calls.specs.Limits.{isSet, isRun}
 use Rattle.calls.specs.Trees.{lookup}
 use Rattle.calls.specs.Freespace.{isIn}
 use Rattle.calls.specs.Generations.{genOf}
-use Rattle.calls.specs.History.{Live, one}
+use Rattle.calls.specs.History.{Live}
 use Rattle.calls.proofs.history.Phases.{Seen, Alloc}
 
 abbrev pub bucket : ℕ → Bucket

@@ -23,6 +23,10 @@ pub all-at : {A : Type 0} {P : A → Type 0} {l : List A} {a : A} → All P l �
 all-at {P} (more h r) (List·Memᴰ·head e) = subst P (sym e) h
 all-at (more h r) (List·Memᴰ·tail m) = all-at r m
 
+pub all-any : {A : Type 0} {P : A → Type 0} → ((a : A) → P a) → (l : List A) → All P l
+all-any f [] = none
+all-any f (x ∷ xs) = more (f x) (all-any f xs)
+
 pub all-of : {A : Type 0} {P : A → Type 0} (l : List A) → ((a : A) → List·Memᴰ a l → P a) → All P l
 all-of [] f = none
 all-of (x ∷ xs) f = more (f x (List·Memᴰ·head refl)) (all-of xs (λ a m. f a (List·Memᴰ·tail m)))

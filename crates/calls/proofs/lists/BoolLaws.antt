@@ -6,7 +6,7 @@ use native.Mathlib.Omega.{arith}
 use native.Mathlib.Nat.{zero-add}
 use lib.Dec.{ltb}
 use borrow.Author.Tests.{lt-ltb, not-true}
-use Rattle.calls.specs.History.{one}
+use Rattle.calls.specs.Lists.{one}
 
 -- a test does not both hold and fail
 pub clash : {t : Bool} → t ≡ true → t ≡ false → ⊥

@@ -13,11 +13,10 @@ use Rattle.wire.specs.Kinds.{sectorAt, extentEnd, noBucket}
 use Rattle.wire.specs.declared.kinds.Bucket.{Bucket}
 use Rattle.wire.specs.declared.kinds.FileSector.{FileSector}
 use Rattle.wire.specs.Bytes.{All, none, more}
-use Rattle.calls.specs.Lists.{total}
+use Rattle.calls.specs.Lists.{total, one}
 use Rattle.calls.specs.CallList.{Piece}
 use Rattle.calls.specs.Pieces.{nextFit, bucketsNeeded}
 use Rattle.calls.specs.Extents.{Placed, bucketAt, placedAt}
-use Rattle.calls.specs.History.{one}
 use Rattle.calls.proofs.lists.AllLaws.{all-imp}
 use Rattle.calls.proofs.lists.BoolLaws.{and-le}
 use Rattle.calls.proofs.freespace.BucketLaws.{count}

@@ -152,20 +152,20 @@ needed-most B i u (z ∷ y ∷ zs) = go (leb (u + z) B) (λ j v. needed-most B j
 
 -- the pieces placed
 
-record Written (most : ℕ) (p : Placed) : Type 0 where
+record EndsBy (most : ℕ) (p : Placed) : Type 0 where
   piece : PieceFits (p .piece)
   end : p .end .0 ≤ most
 
 module _ (most sectors : ℕ) (gen : Bucket → ℕ) (bucket : ℕ → Bucket) where
-  placed-written :
+  placed-end-by :
       (from : FileSector) {ps : List Piece} (ss : List Slot) → All PieceFits ps → from .0 + total (λ p. p .file) ps ≤ most
-      → All (Written most) (placedAt sectors gen bucket from ps ss)
+      → All (EndsBy most) (placedAt sectors gen bucket from ps ss)
   unfolding placedAt total
-  placed-written from ss All.none l = All.none
-  placed-written from [] (All.more h r) l = All.none
-  placed-written from (s ∷ ss) (All.more {a = p} h r) l =
+  placed-end-by from ss All.none l = All.none
+  placed-end-by from [] (All.more h r) l = All.none
+  placed-end-by from (s ∷ ss) (All.more {a = p} h r) l =
       let e : from .0 + p .file ≤ most = omega arith in
-      All.more (record { piece = h; end = e }) (placed-written (extentEnd from (p .file)) ss r (omega arith))
+      All.more (record { piece = h; end = e }) (placed-end-by (extentEnd from (p .file)) ss r (omega arith))
 
   placed-length : (from : FileSector) (ps : List Piece) (ss : List Slot) → length (placedAt sectors gen bucket from ps ss) ≤ length ps
   unfolding placedAt
@@ -360,9 +360,9 @@ module _ (c : CallList) (f : VolumeFits (c .volume)) (ok : VolumeOk (c .volume))
   unfolding placedOf
   all-placed =
       let t : total (λ p. p .file) (c .pieces) < 2 ^ 26 = total-small (λ p. p .file) (all-imp (λ p s. s .file) fit) few in
-      let a : All (Written (2 ^ 41)) (placedOf c) = placed-written (2 ^ 41) _ _ _ (c .volume .head .base) (slotsOf c) fit (omega (arith, w .base)) in
+      let a : All (EndsBy (2 ^ 41)) (placedOf c) = placed-end-by (2 ^ 41) _ _ _ (c .volume .head .base) (slotsOf c) fit (omega (arith, w .base)) in
       all-join
-      (λ (p : Placed) (x : Written (2 ^ 41) p) (y : PlacedIn c p).
+      (λ (p : Placed) (x : EndsBy (2 ^ 41) p) (y : PlacedIn c p).
       record {
         piece = x .piece;
         end = omega (arith, x .end);

@@ -11,8 +11,8 @@ use lib.Dec.{leb, ltb}
 use borrow.Author.Tests.{ltb-true, leb-true, eq-eqb, ne-eqb}
 use Rattle.wire.specs.Bytes.{All, more}
 use Rattle.wire.proofs.NumberLaws.{all-append}
-use Rattle.calls.specs.Lists.{total}
-use Rattle.calls.specs.History.{Live, one}
+use Rattle.calls.specs.Lists.{total, one}
+use Rattle.calls.specs.History.{Live}
 use Rattle.calls.proofs.lists.AllLaws.{all-at, all-of, all-imp}
 use Rattle.calls.proofs.lists.BoolLaws.{clash}
 use Rattle.calls.proofs.history.Phases.{inBucket, occ, lenOn, LiesIn, Alloc, Seen, allocGen, allocDirty, allocKind, freeBy, Phase, idle, free, used, wait, PhaseAt, Good, mem-own}

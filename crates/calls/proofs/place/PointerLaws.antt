@@ -56,15 +56,15 @@ extent-pointers h (p ∷ ps) = rw (extent-pointer h p, extent-pointers h ps)
 abbrev pub ReadBack : Spot → Type 0
 ReadBack t = unpack (1 ∷ 1 ∷ 1 ∷ 1 ∷ 44 ∷ 8 ∷ 8 ∷ []) (pointerAt t) ≡ 1 ∷ 0 ∷ 0 ∷ 0 ∷ sectorNumber (t .first) ∷ 0 ∷ t .generation ∷ []
 
--- what an accepted placement's batch tells twice
-pub record Told (b : Batch) : Type 0 where
+-- in a batch, the fields 72 and the pointers of the extents have the same sectors and generations
+pub record PointersAgree (b : Batch) : Type 0 where
   pub same : map pointerOf (b .extents) ≡ map pointerAt (b .spots)
   pub read : All ReadBack (b .spots)
 
--- an accepted placement writes one batch, and its fields 72 and its extents' pointers tell the same sectors and generations
-pub pointers-told : (s : List ℕ) (room : ℕ) → Bytes s → place s room .number ≡ 0 → (b : Batch) × (changesOf (place s room .written) ≡ b ∷ []) × Told b
+-- an accepted placement writes one batch, in which they agree
+pub pointers-agree : (s : List ℕ) (room : ℕ) → Bytes s → place s room .number ≡ 0 → (b : Batch) × (changesOf (place s room .written) ≡ b ∷ []) × PointersAgree b
 unfolding placeBatch
-pointers-told s room r h =
+pointers-agree s room r h =
     let c = readCall s in
     let p = placement s room h in
     let f = place-fits r (p .laid-out) (p .within) (p .tests-held) in
