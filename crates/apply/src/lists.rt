@@ -1,7 +1,7 @@
 // The next volume, whole.
 ghost use mathlib.Core.Path.{_≡_};
 ghost use mathlib.Core.Bool.{true};
-ghost use Prim.Native.Nat.{_≤_, _<_, max};
+ghost use Prim.Native.Nat.{_/_, _≤_, _<_, max};
 ghost use lib.ListN.{length, getD};
 ghost use Rattle.calls.specs.Answers.{apply, made, outcome};
 ghost use Rattle.merge.specs.Entries.{sections};
@@ -81,7 +81,7 @@ fn put_keys(
     vol: &[u8],
     keys: &[u32],
     list: &[u8],
-    queue: &[u32],
+    queue: &[usize],
     fits: bool,
     section: u8,
 ) -> Cursor
@@ -101,7 +101,7 @@ fn put_next(
     vol: &[u8],
     keys: &[u32],
     list: &[u8],
-    queue: &[u32],
+    queue: &[usize],
     fits: bool,
     section: u8,
 ) -> Reached
@@ -124,7 +124,7 @@ fn put_volume(
     roots: u8,
     e: Ends,
     list: &[u8],
-    table: &[u32],
+    table: &[usize],
     q: Parts,
 ) -> Reached
     requires { ⌜ Ready (now vol) (now index) h e (now list) × InParts (now list) (now table) q × (roots ≡ rootsAfter (now list) (h .roots)) ⌝ }
@@ -162,7 +162,7 @@ fn write_volume(
     h: Head,
     e: Ends,
     list: &[u8],
-    table: &[u32],
+    table: &[usize],
     q: Parts,
     out: &mut [u8],
     written: &mut usize,
@@ -193,12 +193,12 @@ fn apply_with(
     h: Head,
     e: Ends,
     list: &[u8],
-    table: &mut [u32],
-    spare: &mut [u32],
+    table: &mut [usize],
+    spare: &mut [usize],
     out: &mut [u8],
     written: &mut usize,
 ) -> u32
-    requires { ⌜ Ready (now vol) (now index) h e (now list) × (length (now table) ≤ length (now spare)) ⌝ }
+    requires { ⌜ Ready (now vol) (now index) h e (now list) × (length (now table) / 2 ≤ length (now spare)) ⌝ }
     ensures { λ r. ⌜ made r (now (written .exit)) (now (out .exit)) ≡ outcome (apply (now (vol .entry)) (now (list .entry)) (length (now (out .entry)))) (now (out .entry)) ⌝ }
 {
     let q = queue::sort_queue(list, table, spare);
@@ -219,11 +219,11 @@ pub fn apply_lists(
     ensures { λ r. ⌜ made r (now (written .exit)) (now (out .exit)) ≡ outcome (apply (now (vol .entry)) (now (list .entry)) (length (now (out .entry)))) (now (out .entry)) ⌝ }
 {
     if list.len() <= 3584 {
-        let mut table = [0u32; 512];
-        let mut spare = [0u32; 512];
+        let mut table = [0usize; 512];
+        let mut spare = [0usize; 256];
         return apply_with(vol, index, h, e, list, &mut table, &mut spare, out, written);
     }
-    let mut table = [0u32; 16384];
-    let mut spare = [0u32; 16384];
+    let mut table = [0usize; 16384];
+    let mut spare = [0usize; 8192];
     apply_with(vol, index, h, e, list, &mut table, &mut spare, out, written)
 }

@@ -8,7 +8,7 @@ ghost use Rattle.sorting.specs.Places.{Inside, placeLess};
 use crate::places;
 
 // Whether the field at index i stands before the next, or none is left. `keep_last` shows the bounds.
-fn is_ahead(s: &[u8], t: &[u32], i: usize) -> bool
+fn is_ahead(s: &[u8], t: &[usize], i: usize) -> bool
     requires { ⌜ (i < length (now t)) × All (Inside (now s)) (drop i (now t)) ⌝ }
     ensures { λ r. ⌜ r ≡ ahead (placeLess (now (s .entry))) (getD (now (t .entry)) i 0) (drop (i + 1) (now (t .entry))) ⌝ }
 {
@@ -19,7 +19,7 @@ fn is_ahead(s: &[u8], t: &[u32], i: usize) -> bool
 }
 
 // Of places in order, the last at each position, moved to the front in order. The caller's table shows the bounds.
-pub fn keep_last(s: &[u8], t: &mut [u32]) -> usize
+pub fn keep_last(s: &[u8], t: &mut [usize]) -> usize
     requires { ⌜ All (Inside (now s)) (now t) ⌝ }
     ensures { λ r. ⌜ (r ≤ length (now (t .exit))) × (take r (now (t .exit)) ≡ lasts (placeLess (now (s .entry))) (now (t .entry))) ⌝ }
 {

@@ -48,4 +48,3 @@ unfolding anyOf
 any-at t [] i d h e = absurd (omega arith)
 any-at t (x ∷ xs) zero d h e = rw e
 any-at t (x ∷ xs) (suc i) d h e = rw (any-at t xs i d (omega arith) e) (or-true (t x))
-

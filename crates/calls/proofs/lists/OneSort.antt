@@ -128,4 +128,3 @@ module _ {A : Type 0} {less : A → A → Bool} (w : Weak less) where
   one-stable xs ys c =
       rising-classes (sortedBy less xs) (sortedBy less ys) (rising-sorted w xs) (rising-sorted w ys)
       (λ z. those-sorted w (same less z) xs ∙ ap (sortedBy less) (c z) ∙ sym (those-sorted w (same less z) ys))
-
