@@ -27,7 +27,7 @@ use Rattle.calls.proofs.lists.AllLaws.{all-join, test-all}
 use Rattle.calls.proofs.lists.BoolLaws.{parts}
 use Rattle.calls.proofs.encoding.Blocks.{field, Ascend, order-ascend, bodies-cons, bodies-none, keeps, shaped-out, shaped-tag}
 use Rattle.calls.proofs.encoding.ChangeTrip.{split-all}
-use Rattle.merge.specs.Entries.{bucketKey, isBucket, isEntry, entryOf, entries}
+use Rattle.sorting.specs.Entries.{bucketKey, isBucket, isEntry, entryOf, entries}
 use Rattle.apply.specs.Roots.{rootsIn}
 
 -- lists, one after the other

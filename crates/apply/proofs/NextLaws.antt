@@ -25,7 +25,7 @@ use Rattle.calls.proofs.lists.AllLaws.{all-imp, all-each, all-test, test-all}
 use Rattle.calls.proofs.lists.BoolLaws.{both, parts}
 use Rattle.calls.proofs.encoding.Blocks.{field, keeps}
 use Rattle.reader.proofs.BoolLaws.{same}
-use Rattle.merge.specs.Entries.{sections, bucketKey, entries, fieldFor, sectionBytes}
+use Rattle.sorting.specs.Entries.{sections, bucketKey, entries, fieldFor, sectionBytes}
 use Rattle.merge.specs.Counts.{keyFits, sectionWithin}
 use Rattle.apply.specs.Roots.{rootsAfter, frontBytes}
 use Rattle.apply.proofs.BatchLaws.{tree-changes, bucket-changes, head-changes}

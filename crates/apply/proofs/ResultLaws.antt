@@ -28,8 +28,8 @@ use Rattle.calls.proofs.answers.AnswerLaws.{apply-is}
 use Rattle.calls.proofs.answers.OutcomeLaws.{answer-short, answer-fits, answer-next, answer-stops, refused, accepted}
 use Rattle.merge.specs.declared.below.Cursor.{Cursor}
 use Rattle.merge.specs.declared.queue.Parts.{Parts}
-use Rattle.merge.specs.Entries.{sections, entries, sectionBytes}
-use Rattle.merge.specs.Places.{entriesAt}
+use Rattle.sorting.specs.Entries.{sections, entries, sectionBytes}
+use Rattle.sorting.specs.EntryPlaces.{entriesAt}
 use Rattle.merge.specs.Counts.{sectionWithin}
 use Rattle.merge.specs.Merging.{Done}
 use Rattle.merge.proofs.CountLaws.{within-on}

@@ -20,7 +20,7 @@ use Rattle.calls.specs.Apply.{setRoots}
 use Rattle.calls.proofs.lists.AllLaws.{first, all-imp, all-join, all-map, all-tail, test-all}
 use Rattle.calls.proofs.lists.BoolLaws.{parts}
 use Rattle.calls.proofs.encoding.Blocks.{bodies-all, shaped-out}
-use Rattle.merge.proofs.EntryLaws.{StepAt}
+use Rattle.sorting.proofs.EntryLaws.{StepAt}
 use Rattle.apply.specs.Roots.{withBit, withRoot, isRoot, rootsIn, NamesRoot, afterField, Rooted}
 
 -- one bit

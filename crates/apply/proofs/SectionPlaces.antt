@@ -17,8 +17,8 @@ use Rattle.reader.specs.Readings.{ListRead}
 use Rattle.reader.specs.declared.head.Head.{Head}
 use Rattle.reader.specs.declared.table.Ends.{Ends}
 use Rattle.reader.proofs.OfferedLaws.{here-length}
-use Rattle.merge.specs.Entries.{sections, isEntry, entryOf, entries}
-use Rattle.merge.specs.Places.{sizeAt, tagAt, entryFrom, entriesAt, Stands}
+use Rattle.sorting.specs.Entries.{sections, isEntry, entryOf, entries}
+use Rattle.sorting.specs.EntryPlaces.{sizeAt, tagAt, entryFrom, entriesAt, Stands}
 use Rattle.merge.specs.QueueTable.{InParts}
 use Rattle.merge.specs.declared.queue.Parts.{Parts}
 use Rattle.apply.specs.NextVolume.{endsOf, queueEnd, SectionReady, QueueReady}

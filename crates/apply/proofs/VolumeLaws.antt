@@ -23,7 +23,7 @@ use Rattle.calls.proofs.lists.AllLaws.{all-imp, test-all}
 use Rattle.calls.proofs.lists.BoolLaws.{both, parts}
 use Rattle.calls.proofs.trees.SixTrees.{trees-each}
 use Rattle.calls.proofs.encoding.Blocks.{field, bodies-cons, bodies-all, keeps, shaped-out, shaped-tag, tagsOf, isOf}
-use Rattle.merge.specs.Entries.{sections, bucketKey, isBucket, isEntry, entryOf, entries}
+use Rattle.sorting.specs.Entries.{sections, bucketKey, isBucket, isEntry, entryOf, entries}
 use Rattle.merge.specs.Queues.{ascending}
 use Rattle.apply.proofs.BatchLaws.{bucket-cmp}
 

@@ -17,8 +17,8 @@ use Rattle.calls.specs.Answers.{readVolume, nextVolume}
 use Rattle.reader.specs.Readings.{ListRead}
 use Rattle.reader.specs.declared.head.Head.{Head}
 use Rattle.reader.specs.declared.table.Ends.{Ends}
-use Rattle.merge.specs.Entries.{entries, sectionBytes}
-use Rattle.merge.specs.Places.{Kept, Stands, entriesAt}
+use Rattle.sorting.specs.Entries.{entries, sectionBytes}
+use Rattle.sorting.specs.EntryPlaces.{Kept, Stands, entriesAt}
 use Rattle.merge.specs.Queues.{gather, ascending}
 use Rattle.merge.specs.Counts.{sectionWithin}
 use Rattle.merge.specs.declared.queue.Parts.{Parts}

@@ -4,7 +4,7 @@ ghost use mathlib.Core.Bool.{true};
 ghost use Prim.Native.Nat.{_/_, _≤_, _<_, max};
 ghost use lib.ListN.{length, getD};
 ghost use Rattle.calls.specs.Answers.{apply, made, outcome};
-ghost use Rattle.merge.specs.Entries.{sections};
+ghost use Rattle.sorting.specs.Entries.{sections};
 ghost use Rattle.merge.specs.Merging.{Done};
 ghost use Rattle.merge.specs.QueueTable.{InParts};
 ghost use Rattle.apply.specs.Roots.{rootsAfter};

@@ -1,6 +1,5 @@
 pub mod QueueLaws
 pub mod ChunkLaws
-pub mod EntryLaws
 pub mod PlaceLaws
 pub mod FillLaws
 pub mod MergeLaws

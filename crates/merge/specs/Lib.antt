@@ -1,5 +1,4 @@
 pub mod Queues
-pub mod Entries
 pub mod Places
 pub mod Counts
 pub mod Merging

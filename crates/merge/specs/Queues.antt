@@ -7,7 +7,8 @@ use Rattle.wire.specs.Order.{cmp, posLess}
 use Rattle.wire.specs.declared.bpos.Bpos.{Bpos}
 use Rattle.calls.specs.Lists.{inOrder}
 use Rattle.calls.specs.Trees.{onEq, upsert}
-use Rattle.merge.specs.declared.bound.Bound.{Bound}
+use Rattle.sorting.specs.declared.bound.Bound.{Bound}
+use Rattle.sorting.specs.Bounds.{over, under}
 
 -- keys ascend strictly
 unfoldable pub ascending : List Key → Bool
@@ -21,18 +22,12 @@ gatherOn g (k ∷ ks) = gatherOn (upsert k g) ks
 abbrev pub gather : List Key → List Key
 gather q = gatherOn [] q
 
--- above a bound
-unfoldable pub over : Bound → Bpos → Bool
-over b p = cond (b .any) (posLess (b .pos) p) true
-
+-- those above a bound
 unfoldable pub above : Bound → List Key → List Key
 above b [] = []
 above b (k ∷ ks) = cond (over b (k .pos)) (k ∷ above b ks) (above b ks)
 
--- below a bound: those in front, and what is left
-unfoldable pub under : Bound → Bpos → Bool
-under b p = cond (b .any) (posLess p (b .pos)) true
-
+-- those in front that are below a bound, and what is left
 unfoldable pub below : Bound → List Key → List Key
 below b [] = []
 below b (x ∷ xs) = cond (under b (x .pos)) (x ∷ below b xs) []

@@ -1,8 +1,6 @@
 // One section of the next volume: the queued keys merged into the volume's, and their count. A section is the keys of a tree, or the reserved buckets.
 pub mod below;
-pub mod bound;
 pub mod chunk;
-pub mod entries;
 pub mod limits;
 pub mod merge;
 pub mod queue;

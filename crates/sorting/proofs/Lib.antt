@@ -2,3 +2,4 @@ pub mod PlaceLaws
 pub mod MergeLaws
 pub mod LastLaws
 pub mod KeepLaws
+pub mod EntryLaws

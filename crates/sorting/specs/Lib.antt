@@ -1,2 +1,5 @@
 pub mod Lasts
 pub mod Places
+pub mod Bounds
+pub mod Entries
+pub mod EntryPlaces

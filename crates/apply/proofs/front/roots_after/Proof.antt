@@ -5,7 +5,7 @@ use native.Mathlib.Omega.{arith}
 use denote.Ref.{now}
 use lib.ListN.{length}
 use Rattle.wire.proofs.FieldLaws.{stop-at}
-use Rattle.merge.proofs.EntryLaws.{StepAt, step-at}
+use Rattle.sorting.proofs.EntryLaws.{StepAt, step-at}
 use Rattle.apply.proofs.RootLaws.{Rooting, rooting-start, rooting-end, rooting-names, rooting-on}
 use Rattle.apply.proofs.front.roots_after.Statement.{statement}
 use Rattle.apply.proofs.front.roots_after.Tie as tie

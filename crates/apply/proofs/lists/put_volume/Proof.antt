@@ -6,7 +6,7 @@ use denote.Ref.{now}
 use lib.ListN.{getD}
 use Rattle.wire.proofs.OutputLaws.{part-length, wrote-length}
 use Rattle.calls.proofs.lists.AllLaws.{all-nth}
-use Rattle.merge.specs.Entries.{sections}
+use Rattle.sorting.specs.Entries.{sections}
 use Rattle.apply.proofs.VolumeLaws.{parted}
 use Rattle.apply.proofs.SectionPlaces.{SectionAt, section-at, QueueAt, queue-at, section-ready}
 use Rattle.apply.proofs.ResultLaws.{Sectioning, sections-start, sections-on, sections-end}

@@ -1,7 +1,7 @@
 -- `section_at` meets its contract.
 use borrow.Author.Needs.{needs}
 use Prim.Native.Nat.{zero-le}
-use Rattle.merge.specs.Entries.{sections}
+use Rattle.sorting.specs.Entries.{sections}
 use Rattle.apply.proofs.VolumeLaws.{up, last-at}
 use Rattle.apply.proofs.lists.section_at.Statement.{statement}
 use Rattle.apply.proofs.lists.section_at.Tie as tie

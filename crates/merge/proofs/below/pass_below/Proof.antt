@@ -6,7 +6,7 @@ use denote.Ref.{now}
 use lib.ListN.{length, getD}
 use Rattle.wire.proofs.NumberLaws.{bytes-from}
 use Rattle.calls.proofs.lists.AllLaws.{all-nth}
-use Rattle.merge.specs.Places.{sizeAt, Stands}
+use Rattle.sorting.specs.EntryPlaces.{sizeAt, Stands}
 use Rattle.merge.proofs.MergeLaws.{Stretching, stretching-start, stretched-out, stretched-apart, stretched-stop, stretching-on}
 use Rattle.merge.proofs.below.pass_below.Statement.{statement}
 use Rattle.merge.proofs.below.pass_below.Tie as tie

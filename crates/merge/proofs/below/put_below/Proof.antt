@@ -5,7 +5,7 @@ use denote.Ref.{now}
 use lib.ListN.{length, getD}
 use Rattle.wire.proofs.OutputLaws.{part-length}
 use Rattle.calls.proofs.lists.AllLaws.{all-nth}
-use Rattle.merge.specs.Places.{Stands}
+use Rattle.sorting.specs.EntryPlaces.{Stands}
 use Rattle.merge.proofs.SectionLaws.{Writing, writing-start, writing-on, writing-end, writing-out}
 use Rattle.merge.proofs.below.put_below.Statement.{statement}
 use Rattle.merge.proofs.below.put_below.Tie as tie

@@ -1,7 +1,7 @@
 -- `put_queued` meets its contract.
 use borrow.Author.Needs.{needs}
 use denote.Ref.{now}
-use Rattle.merge.specs.Places.{entryFrom}
+use Rattle.sorting.specs.EntryPlaces.{entryFrom}
 use Rattle.merge.proofs.SectionLaws.{put-one}
 use Rattle.merge.proofs.step.put_queued.Statement.{statement}
 use Rattle.merge.proofs.step.put_queued.Tie as tie

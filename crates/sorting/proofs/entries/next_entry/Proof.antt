@@ -6,10 +6,10 @@ use denote.Ref.{now}
 use lib.ListN.{length, drop}
 use Rattle.wire.specs.Fields.{fields}
 use Rattle.wire.proofs.FieldLaws.{stop-at}
-use Rattle.merge.specs.Entries.{entries}
-use Rattle.merge.proofs.EntryLaws.{StepAt, step-at, entries-past, entry-here, entries-none}
-use Rattle.merge.proofs.entries.next_entry.Statement.{statement}
-use Rattle.merge.proofs.entries.next_entry.Tie as tie
+use Rattle.sorting.specs.Entries.{entries}
+use Rattle.sorting.proofs.EntryLaws.{StepAt, step-at, entries-past, entry-here, entries-none}
+use Rattle.sorting.proofs.entries.next_entry.Statement.{statement}
+use Rattle.sorting.proofs.entries.next_entry.Tie as tie
 
 abbrev Inv-loop : tie.InvT-loop
 Inv-loop s from section at₀ at =

@@ -1,6 +1,6 @@
 // Positions on one side of another.
 ghost use mathlib.Core.Path.{_≡_};
-ghost use Rattle.merge.specs.Queues.{over, under};
+ghost use Rattle.sorting.specs.Bounds.{over, under};
 use wire::bpos;
 use wire::bpos::Bpos;
 

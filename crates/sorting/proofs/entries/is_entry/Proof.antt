@@ -1,9 +1,9 @@
 -- `is_entry` meets its contract.
 use borrow.Author.Needs.{needs}
 use borrow.Author.Tests.{eq-eqb, ne-eqb}
-use Rattle.merge.specs.Entries.{isEntry}
-use Rattle.merge.proofs.entries.is_entry.Statement.{statement}
-use Rattle.merge.proofs.entries.is_entry.Tie as tie
+use Rattle.sorting.specs.Entries.{isEntry}
+use Rattle.sorting.proofs.entries.is_entry.Statement.{statement}
+use Rattle.sorting.proofs.entries.is_entry.Tie as tie
 
 is-bucket-requires : tie.Need-is-bucket-requires
 is-bucket-requires c κs = search needs

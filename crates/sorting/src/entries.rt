@@ -2,8 +2,8 @@
 ghost use mathlib.Core.Path.{_≡_};
 ghost use Prim.Native.Nat.{_+_, _≤_};
 ghost use lib.ListN.{length};
-ghost use Rattle.merge.specs.Entries.{isBucket, isEntry};
-ghost use Rattle.merge.specs.Places.{Kept, entryFrom, EntryStepped};
+ghost use Rattle.sorting.specs.Entries.{isBucket, isEntry};
+ghost use Rattle.sorting.specs.EntryPlaces.{Kept, entryFrom, EntryStepped};
 use wire::bpos::Bpos;
 use wire::fields;
 use wire::fields::NextField;

@@ -1,8 +1,8 @@
 -- `is_over` meets its contract.
 use borrow.Author.Needs.{needs}
-use Rattle.merge.specs.Queues.{over}
-use Rattle.merge.proofs.bound.is_over.Statement.{statement}
-use Rattle.merge.proofs.bound.is_over.Tie as tie
+use Rattle.sorting.specs.Bounds.{over}
+use Rattle.sorting.proofs.bound.is_over.Statement.{statement}
+use Rattle.sorting.proofs.bound.is_over.Tie as tie
 
 pos-less-requires : tie.Need-pos-less-requires
 pos-less-requires c κs = search needs

@@ -3,9 +3,9 @@ use borrow.Author.Needs.{needs}
 use mathlib.Core.Path.{_∙_, ap}
 use native.Mathlib.Omega.{arith}
 use Rattle.wire.specs.Positions.{allocAt}
-use Rattle.merge.proofs.EntryLaws.{bucket-size, key-size, bucket-pos, key-pos}
-use Rattle.merge.proofs.entries.pos_at.Statement.{statement}
-use Rattle.merge.proofs.entries.pos_at.Tie as tie
+use Rattle.sorting.proofs.EntryLaws.{bucket-size, key-size, bucket-pos, key-pos}
+use Rattle.sorting.proofs.entries.pos_at.Statement.{statement}
+use Rattle.sorting.proofs.entries.pos_at.Tie as tie
 
 read-bucket-requires : tie.Need-read-bucket-requires
 read-bucket-requires c κs = bucket-size (c .before .before .pre) (c .if1 .taken)

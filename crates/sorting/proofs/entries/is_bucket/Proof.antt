@@ -1,9 +1,9 @@
 -- `is_bucket` meets its contract.
 use mathlib.Core.Bool.{or-true}
 use borrow.Author.Tests.{eq-eqb, ne-eqb}
-use Rattle.merge.specs.Entries.{isBucket}
-use Rattle.merge.proofs.entries.is_bucket.Statement.{statement}
-use Rattle.merge.proofs.entries.is_bucket.Tie as tie
+use Rattle.sorting.specs.Entries.{isBucket}
+use Rattle.sorting.proofs.entries.is_bucket.Statement.{statement}
+use Rattle.sorting.proofs.entries.is_bucket.Tie as tie
 
 returns : tie.Need-returns
 unfolding isBucket

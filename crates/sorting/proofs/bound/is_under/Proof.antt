@@ -1,8 +1,8 @@
 -- `is_under` meets its contract.
 use borrow.Author.Needs.{needs}
-use Rattle.merge.specs.Queues.{under}
-use Rattle.merge.proofs.bound.is_under.Statement.{statement}
-use Rattle.merge.proofs.bound.is_under.Tie as tie
+use Rattle.sorting.specs.Bounds.{under}
+use Rattle.sorting.proofs.bound.is_under.Statement.{statement}
+use Rattle.sorting.proofs.bound.is_under.Tie as tie
 
 pos-less-requires : tie.Need-pos-less-requires
 pos-less-requires c κs = search needs

@@ -1,9 +1,9 @@
 -- `type_at` meets its contract.
 use mathlib.Core.Path.{sym, _∙_}
 use native.Mathlib.Omega.{arith}
-use Rattle.merge.proofs.EntryLaws.{key-size, bucket-gone, bucket-stays, key-type}
-use Rattle.merge.proofs.entries.type_at.Statement.{statement}
-use Rattle.merge.proofs.entries.type_at.Tie as tie
+use Rattle.sorting.proofs.EntryLaws.{key-size, bucket-gone, bucket-stays, key-type}
+use Rattle.sorting.proofs.entries.type_at.Statement.{statement}
+use Rattle.sorting.proofs.entries.type_at.Tie as tie
 
 tag-at-requires : tie.Need-tag-at-requires
 tag-at-requires c κs =

@@ -25,8 +25,8 @@ use Rattle.wire.proofs.OutputLaws.{lt-or-ge}
 use Rattle.wire.proofs.RoundTrip.{body-again}
 use Rattle.calls.specs.CallList.{reservedField}
 use Rattle.calls.proofs.lists.BoolLaws.{parts}
-use Rattle.merge.specs.Entries.{isBucket, isEntry, entryOf, entries, fieldFor}
-use Rattle.merge.specs.Places.{sizeAt, tagAt, entryFrom, Kept, Stands, EntryHere}
+use Rattle.sorting.specs.Entries.{isBucket, isEntry, entryOf, entries, fieldFor}
+use Rattle.sorting.specs.EntryPlaces.{sizeAt, tagAt, entryFrom, Kept, Stands, EntryHere}
 
 -- a field that a step found, by the place of its body
 pub record StepAt (s : List ℕ) (at t b n : ℕ) : Type 0 where
