@@ -1,4 +1,4 @@
--- Next fit, one piece after the other: which bucket is open, and how much of it is used.
+-- Next fit, one piece after the other: the slot of each, as one number in a table, which bucket is open, and how much of it is used.
 use Prim.Native.Nat.{ℕ, _+_, _*_, _/_, _%_}
 use mathlib.Core.List.{List, [], _∷_, map}
 use Rattle.calls.specs.Pieces as layouts
@@ -26,14 +26,18 @@ slotsIn ns = map slotOf ns
 abbrev pub unused : Open
 unused = record { index = 0; used = 0 }
 
--- the bucket that is open once a piece of z sectors is in the first of these slots
-unfoldable pub filled : Open → ℕ → List layouts.Slot → Open
-filled o z [] = o
-filled o z (t ∷ ts) = record { index = t .index; used = t .offset + z }
+-- the first of some slots
+unfoldable pub firstOf : List layouts.Slot → layouts.Slot
+firstOf [] = record { index = 0; offset = 0 }
+firstOf (t ∷ ts) = t
 
--- the bucket that is open after a piece: that of its slot by next fit
+-- the slot of a piece, by next fit
+unfoldable pub fitSlot : ℕ → Open → Piece → layouts.Slot
+fitSlot bucket o p = firstOf (nextFit bucket (o .index) (o .used) (p .stored ∷ []))
+
+-- the bucket that is open after a piece: that of its slot
 unfoldable pub fitPiece : ℕ → Open → Piece → Open
-fitPiece bucket o p = filled o (p .stored) (nextFit bucket (o .index) (o .used) (p .stored ∷ []))
+fitPiece bucket o p = let t = fitSlot bucket o p in record { index = t .index; used = t .offset + p .stored }
 
 -- the bucket that is open after each of some pieces
 unfoldable pub lay : ℕ → Open → List Piece → Open

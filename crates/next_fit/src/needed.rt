@@ -1,4 +1,4 @@
-// The pieces of a call list as records, and how many buckets they need.
+// The pieces of a call list as records, their slots, and how many buckets they need.
 ghost use mathlib.Core.Path.{_≡_};
 ghost use Prim.Native.Nat.{_≤_};
 ghost use mathlib.Core.List.{map};
@@ -7,6 +7,7 @@ ghost use Rattle.calls.specs.Pieces.{nextFit, bucketsNeeded};
 ghost use Rattle.calls.specs.Answers.{readCall};
 ghost use Rattle.reader.specs.Located.{PiecesAt};
 ghost use Rattle.reader.specs.Pieces.{pieceIn};
+ghost use Rattle.next_fit.specs.Fit.{slotsIn};
 use crate::pieces;
 use reader::piece;
 use reader::piece::Piece;
@@ -31,17 +32,17 @@ pub fn read_pieces(s: &[u8], offsets: &[u32]) -> [Piece; 1024]
     ps
 }
 
-// How many buckets the pieces need.
-pub fn buckets_needed(s: &[u8], pieces: &[u32], bucket: u16) -> usize
+// Lays the pieces out: their slots at the front of a table, and how many buckets they need.
+pub fn lay_out(s: &[u8], pieces: &[u32], bucket: u16, slots: &mut [u32]) -> usize
     requires { ⌜ PiecesAt (now s) (now pieces) (readCall (now s) .pieces) ⌝ }
-    requires { ⌜ length (now pieces) ≤ 1024 ⌝ }
-    ensures { λ r. ⌜ r ≡ bucketsNeeded (nextFit bucket 0 0 (map (λ p. p .stored) (readCall (now (s .entry)) .pieces))) ⌝ }
+    requires { ⌜ (length (now pieces) ≤ 1024) × (length (now pieces) ≤ length (now slots)) ⌝ }
+    ensures { λ r. ⌜ (r ≡ bucketsNeeded (nextFit bucket 0 0 (map (λ p. p .stored) (readCall (now (s .entry)) .pieces)))) × (slotsIn (take (length (now (pieces .entry))) (now (slots .exit))) ≡ nextFit bucket 0 0 (map (λ p. p .stored) (readCall (now (s .entry)) .pieces))) ⌝ }
 {
     let n = pieces.len();
     if n == 0 {
         return 0;
     }
     let records = read_pieces(s, pieces);
-    let o = pieces::layout_of(records, n, bucket as u64);
+    let o = pieces::layout_of(records, n, bucket as u64, slots);
     o.index + 1
 }

@@ -50,7 +50,7 @@ six : (a b c d : List Field) (e f : Field)
     → encode (a ++ b ++ c ++ d ++ (e ∷ []) ++ [] ++ (f ∷ [])) ≡ encode a ++ (encode b ++ (encode c ++ (encode d ++ (encodeField e ++ encodeField f))))
 six a b c d e f = simp (encode-append, encode-next, encode-none, append-assoc, append-nil)
 
-module _ {s offsets : List ℕ} {buckets : List Bucket} {generations : List ℕ} {h : Head} (plan : Plan s offsets buckets generations h) where
+module _ {s offsets numbers : List ℕ} {buckets : List Bucket} {generations : List ℕ} {h : Head} (plan : Plan s offsets numbers buckets generations h) where
   -- the keys, by what planning hands over
   pub keys-of :
       encode (keyFields (placement s))

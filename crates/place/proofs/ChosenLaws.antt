@@ -1,4 +1,4 @@
--- What the walk hands over to the change list: as many buckets as are needed, each below 65,536, none of them twice.
+-- What choosing hands over to the change list: the pieces' slots, and as many buckets as are needed, each below 65,536, none of them twice.
 use mathlib.Core.Path.{_≡_, refl, ap, sym, _∙_}
 use mathlib.Core.Bool.{Bool, true, false, cond}
 use mathlib.Core.List.{List, [], _∷_}
@@ -76,14 +76,14 @@ taken-once R U n l sorted apart b = go (R (bucket b)) refl
     go false e = omega (arith, covered R U n l b sorted .plain e, cover-once b (runsOf l) apart, cover-runs b l)
 
 -- what is chosen, for the change list
-pub record Choice (s : List ℕ) (h : Head) (runs pieces table : List ℕ) (r : Walked) : Type 0 where
+pub record Choice (s : List ℕ) (h : Head) (runs pieces numbers table : List ℕ) (r : Walked) : Type 0 where
   pub few : r .count ≤ 1024
-  pub plan : PlanFor s h pieces (bucketsIn (take (r .count) table))
+  pub plan : PlanFor s h pieces numbers (bucketsIn (take (r .count) table))
   pub walk : Walk s runs (r .passed) (r .left)
 
 module _
-    {s : List ℕ} {h : Head} {alloc-at runs-at reserved-at pieces-at before table : List ℕ} {r : Walked}
-    (q : Called s h alloc-at runs-at reserved-at pieces-at) (o : ChosenIs s before table r) (none : r .refusal ≡ 0) where
+    {s : List ℕ} {h : Head} {alloc-at runs-at reserved-at pieces-at before table numbers : List ℕ} {r : Walked}
+    (q : Called s h alloc-at runs-at reserved-at pieces-at) (o : ChosenIs s before table numbers r) (none : r .refusal ≡ 0) where
   abbrev c : CallList
   c = readCall s
 
@@ -121,7 +121,7 @@ module _
   passed-all : length (take (r .passed) ks) ≡ r .passed
   passed-all = omega (arith, w .passed)
 
-  pub chosen : Choice s h runs-at pieces-at table r
+  pub chosen : Choice s h runs-at pieces-at numbers table r
   chosen =
       let few : r .count ≤ 1024 = omega (arith, w .count, taken-many, needed-short q (passed .requests)) in
       record {
@@ -129,6 +129,7 @@ module _
         plan =
             record {
               pieces = q .pieces;
+              slots = o .laid none;
               head = q .head;
               taken = taken-is;
               gens = refl;

@@ -7,5 +7,5 @@ use Rattle.calls.specs.Generations.{genOf}
 use Rattle.reader.specs.declared.head.Head.{Head}
 use Rattle.place_keys.specs.Plan.{Plan}
 
-abbrev pub PlanFor : List ℕ → Head → List ℕ → List Bucket → Type 0
-PlanFor s h pieces buckets = Plan s pieces buckets (map (genOf (readVolume s .trees .gens)) buckets) h
+abbrev pub PlanFor : List ℕ → Head → List ℕ → List ℕ → List Bucket → Type 0
+PlanFor s h pieces numbers buckets = Plan s pieces numbers buckets (map (genOf (readVolume s .trees .gens)) buckets) h

@@ -1,33 +1,29 @@
 // The change list of a placement.
-ghost use mathlib.Core.Path.{_≡_};
-ghost use Prim.Native.Nat.{_<_, _≤_};
-ghost use lib.ListN.{length};
+ghost use Prim.Native.Nat.{_<_};
 ghost use mathlib.Core.Bool.{_&&_};
 ghost use mathlib.Core.List.{[], _∷_, map};
 ghost use Rattle.wire.specs.Encode.{encode, encodeField};
-ghost use Rattle.calls.specs.Clock.{clockOf};
 ghost use Rattle.calls.specs.Lru.{lruWanted};
 ghost use Rattle.calls.specs.ChangeList.{takenField, sectorsField, changeBytes};
-ghost use Rattle.calls.specs.Place.{rootMissing, rootsIf, placedOf};
-ghost use Rattle.calls.specs.Answers.{readCall, readVolume};
+ghost use Rattle.calls.specs.Place.{rootMissing, rootsIf};
+ghost use Rattle.calls.specs.Answers.{readCall};
+ghost use Rattle.accounting.specs.Tally.{Tallied};
 ghost use Rattle.change_fields.specs.FieldBytes.{rootsBytes};
 ghost use Rattle.wire.specs.Kinds.{bucketsIn};
-ghost use Rattle.place_keys.specs.Plan.{Plan, Dirty};
-ghost use Rattle.place_keys.specs.Queue.{Walk};
+ghost use Rattle.place_keys.specs.Plan.{Plan};
 ghost use Rattle.wire.specs.Output.{Emitted};
 ghost use Rattle.place.specs.Change.{placement, keyFields, otherFields};
+ghost use Rattle.place.specs.Prepared.{Prepared};
+use crate::inputs::Inputs;
 use accounting::place_rows;
-use accounting::tally as tallies;
 use change_fields::end;
 use change_fields::roots as root_fields;
-use freespace::take::Walked;
 use place_keys::allocs;
 use place_keys::backpointers;
 use place_keys::extents;
 use place_keys::lru;
 use place_keys::queue;
 use place_keys::spots;
-use reader::head::Head;
 use wire::emit;
 use wire::kinds::Bucket;
 
@@ -37,24 +33,23 @@ pub fn put_keys(
     at: usize,
     s: &[u8],
     pieces: &[u32],
+    slots: &[u32],
     taken: &[u64],
     gens: &[u8],
     dirty: &[u32],
     runs: &[u32],
-    w: Walked,
-    h: Head,
-    clock: u64,
+    v: Inputs,
 ) -> usize
-    requires { ⌜ Plan (now s) (now pieces) (bucketsIn (now taken)) (now gens) h ⌝ }
-    requires { ⌜ (length (now taken) ≤ length (now dirty)) × Dirty (placedOf (readCall (now s))) (bucketsIn (now taken)) (now dirty) ⌝ }
-    requires { ⌜ Walk (now s) (now runs) (w .passed) (w .left) × (clockOf (readVolume (now s) .trees .alloc) ≡ clock) ⌝ }
+    requires { ⌜ Prepared (now s) (now pieces) (now slots) (now taken) (now gens) (now dirty) (now runs) v ⌝ }
     ensures { λ r. ⌜ Emitted (now (out .entry)) at (encode (keyFields (placement (now (s .entry))))) (now (out .exit)) r ⌝ }
 {
-    let p = extents::put_extents(out, at, s, pieces, taken, gens, h);
-    let p = allocs::put_allocs(out, p, taken, gens, dirty, h.journal, clock);
+    let h = v.head;
+    let w = v.walked;
+    let p = extents::put_extents(out, at, s, pieces, slots, taken, gens, h);
+    let p = allocs::put_allocs(out, p, taken, gens, dirty, h.journal, v.clock);
     let p = lru::put_lrus(out, p, taken, dirty, h.bucket_sectors as u64);
     let p = queue::put_queue(out, p, s, runs, w.passed, w.left);
-    backpointers::put_backpointers(out, p, s, pieces, taken, gens, h)
+    backpointers::put_backpointers(out, p, s, pieces, slots, taken, gens, h)
 }
 
 // Field 70: the LRU root, where it is wanted and does not exist. Refusal 4 shows that a bucket has sectors.
@@ -95,18 +90,20 @@ pub fn put_others(
     at: usize,
     s: &[u8],
     pieces: &[u32],
+    slots: &[u32],
     taken: &[u64],
     gens: &[u8],
-    h: Head,
+    v: Inputs,
 ) -> usize
-    requires { ⌜ Plan (now s) (now pieces) (bucketsIn (now taken)) (now gens) h ⌝ }
+    requires { ⌜ Plan (now s) (now pieces) (now slots) (bucketsIn (now taken)) (now gens) (v .head) × Tallied (readCall (now s) .pieces) (v .tallies) ⌝ }
     ensures { λ r. ⌜ Emitted (now (out .entry)) at (encode (otherFields (placement (now (s .entry))))) (now (out .exit)) r ⌝ }
 {
-    let t = tallies::tally_pieces(s, pieces);
+    let h = v.head;
+    let t = v.tallies;
     let all = t.all;
     let p = put_lru_root(out, at, h.bucket_sectors as u64, all.stored, h.roots);
     let p = put_taken(out, p, taken);
-    let p = spots::put_spots(out, p, s, pieces, taken, gens, h);
+    let p = spots::put_spots(out, p, s, pieces, slots, taken, gens, h);
     let p = place_rows::put_rows(out, p, taken.len() as u64, t, h);
     let p = put_sectors(out, p, all.file);
     end::put_end(out, p)
@@ -118,19 +115,16 @@ pub fn put_change(
     at: usize,
     s: &[u8],
     pieces: &[u32],
+    slots: &[u32],
     taken: &[u64],
     gens: &[u8],
     dirty: &[u32],
     runs: &[u32],
-    w: Walked,
-    h: Head,
-    clock: u64,
+    v: Inputs,
 ) -> usize
-    requires { ⌜ Plan (now s) (now pieces) (bucketsIn (now taken)) (now gens) h ⌝ }
-    requires { ⌜ (length (now taken) ≤ length (now dirty)) × Dirty (placedOf (readCall (now s))) (bucketsIn (now taken)) (now dirty) ⌝ }
-    requires { ⌜ Walk (now s) (now runs) (w .passed) (w .left) × (clockOf (readVolume (now s) .trees .alloc) ≡ clock) ⌝ }
+    requires { ⌜ Prepared (now s) (now pieces) (now slots) (now taken) (now gens) (now dirty) (now runs) v ⌝ }
     ensures { λ r. ⌜ Emitted (now (out .entry)) at (changeBytes (placement (now (s .entry)) ∷ [])) (now (out .exit)) r ⌝ }
 {
-    let p = put_keys(out, at, s, pieces, taken, gens, dirty, runs, w, h, clock);
-    put_others(out, p, s, pieces, taken, gens, h)
+    let p = put_keys(out, at, s, pieces, slots, taken, gens, dirty, runs, v);
+    put_others(out, p, s, pieces, slots, taken, gens, v)
 }

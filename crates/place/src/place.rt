@@ -1,26 +1,25 @@
 // The call: a list is read, then answered.
 ghost use mathlib.Core.Path.{_≡_};
 ghost use mathlib.Core.List.{[], _∷_};
-ghost use Prim.Native.Nat.{_≤_};
 ghost use lib.ListN.{length};
 ghost use Rattle.wire.specs.Kinds.{bucketsIn};
 ghost use Rattle.calls.specs.Answers as answers;
 ghost use Rattle.calls.specs.Answers.{answer, made, outcome, readCall, readVolume};
 ghost use Rattle.calls.specs.ChangeList.{changeBytes};
-ghost use Rattle.calls.specs.Clock.{clockOf};
-ghost use Rattle.calls.specs.Place.{placeTests, placedOf};
+ghost use Rattle.calls.specs.Place.{placeTests};
 ghost use Rattle.reader.specs.Located.{KeysAt};
 ghost use Rattle.reader.specs.Readings.{callRefusal, ListRead};
 ghost use Rattle.reader.specs.Table.{Fits};
 ghost use Rattle.place_tests.specs.Called.{Called};
 ghost use Rattle.place.specs.Change.{placement};
 ghost use Rattle.place.specs.Planned.{PlanFor};
-ghost use Rattle.place_keys.specs.Plan.{Plan, Dirty};
+ghost use Rattle.place.specs.Prepared.{Prepared};
 ghost use Rattle.place_keys.specs.Queue.{Walk};
 use crate::change;
+use crate::inputs;
+use crate::inputs::Inputs;
 use freespace::take::Walked;
 use gens::records;
-use place_keys::clock;
 use place_keys::dirty;
 use place_keys::generations;
 use place_tests::refusals;
@@ -32,44 +31,29 @@ use reader::table::Ends;
 // A run into one byte tells the length; then 21, or the run into the output. Planning shows what is required, here and below.
 fn write_change(
     s: &[u8],
-    h: Head,
     runs: &[u32],
     pieces: &[u32],
+    slots: &[u32],
     taken: &[u64],
     gens: &[u8],
     dirty: &[u32],
-    w: Walked,
-    clock: u64,
+    v: Inputs,
     out: &mut [u8],
     written: &mut usize,
 ) -> u32
-    requires { ⌜ Plan (now s) (now pieces) (bucketsIn (now taken)) (now gens) h ⌝ }
-    requires { ⌜ (length (now taken) ≤ length (now dirty)) × Dirty (placedOf (readCall (now s))) (bucketsIn (now taken)) (now dirty) ⌝ }
-    requires { ⌜ Walk (now s) (now runs) (w .passed) (w .left) × (clockOf (readVolume (now s) .trees .alloc) ≡ clock) × (now written ≡ 0) ⌝ }
+    requires { ⌜ Prepared (now s) (now pieces) (now slots) (now taken) (now gens) (now dirty) (now runs) v × (now written ≡ 0) ⌝ }
     ensures { λ r. ⌜ made r (now (written .exit)) (now (out .exit)) ≡ outcome (answer [] (changeBytes (placement (now (s .entry)) ∷ [])) (length (now (out .entry)))) (now (out .entry)) ⌝ }
 {
     let mut one = [0u8; 1];
-    let n = change::put_change(
-        &mut one,
-        0,
-        s,
-        pieces,
-        taken,
-        gens,
-        dirty,
-        runs,
-        w,
-        h,
-        clock,
-    );
+    let n = change::put_change(&mut one, 0, s, pieces, slots, taken, gens, dirty, runs, v);
     if out.len() < n {
         return 21;
     }
-    *written = change::put_change(out, 0, s, pieces, taken, gens, dirty, runs, w, h, clock);
+    *written = change::put_change(out, 0, s, pieces, slots, taken, gens, dirty, runs, v);
     0
 }
 
-// The answer where the buckets are taken: their generations, their dirty counts and the clock, and the change list.
+// The answer where the buckets are taken: their generations, their dirty counts, the tallies and the clock, and the change list.
 fn place_buckets(
     s: &[u8],
     h: Head,
@@ -77,12 +61,13 @@ fn place_buckets(
     runs: &[u32],
     gens: &[u32],
     pieces: &[u32],
+    slots: &[u32],
     taken: &[u64],
     w: Walked,
     out: &mut [u8],
     written: &mut usize,
 ) -> u32
-    requires { ⌜ PlanFor (now s) h (now pieces) (bucketsIn (now taken)) ⌝ }
+    requires { ⌜ PlanFor (now s) h (now pieces) (now slots) (bucketsIn (now taken)) ⌝ }
     requires { ⌜ Walk (now s) (now runs) (w .passed) (w .left) × KeysAt (now s) (now alloc) (readVolume (now s) .trees .alloc) × KeysAt (now s) (now gens) (readVolume (now s) .trees .gens) × (now written ≡ 0) ⌝ }
     ensures { λ r. ⌜ made r (now (written .exit)) (now (out .exit)) ≡ outcome (answer [] (changeBytes (placement (now (s .entry)) ∷ [])) (length (now (out .entry)))) (now (out .entry)) ⌝ }
 {
@@ -92,18 +77,17 @@ fn place_buckets(
     let mut dirty = [0u32; 1024];
     records::find_records(s, gens, &mut records);
     generations::fill_gens(&mut generations, s, &records, taken);
-    dirty::fill_dirty(&mut dirty, s, pieces, taken, &generations[..n], h);
-    let clock = clock::write_clock(s, alloc);
+    dirty::fill_dirty(&mut dirty, s, pieces, slots);
+    let v = inputs::read_inputs(s, h, w, alloc, pieces);
     write_change(
         s,
-        h,
         runs,
         pieces,
+        slots,
         taken,
         &generations[..n],
         &dirty,
-        w,
-        clock,
+        v,
         out,
         written,
     )
@@ -125,11 +109,13 @@ fn place_lists(
     ensures { λ r. ⌜ made r (now (written .exit)) (now (out .exit)) ≡ outcome (answer (placeTests (readCall (now (s .entry)))) (changeBytes (placement (now (s .entry)) ∷ [])) (length (now (out .entry)))) (now (out .entry)) ⌝ }
 {
     let mut taken = [0u64; 1024];
-    let w = refusals::choose_buckets(s, h, alloc, runs, reserved, pieces, &mut taken);
+    let mut slots = [0u32; 1024];
+    let w = refusals::choose_buckets(s, h, alloc, runs, reserved, pieces, &mut taken, &mut slots);
     if w.refusal != 0 {
         return w.refusal;
     }
     let n = w.count;
+    let k = pieces.len();
     place_buckets(
         s,
         h,
@@ -137,6 +123,7 @@ fn place_lists(
         runs,
         gens,
         pieces,
+        &slots[..k],
         &taken[..n],
         w,
         out,

@@ -1,7 +1,7 @@
 pub mod BucketLaws
 pub mod ClockLaws
 pub mod FillLaws
-pub mod LayoutLaws
 pub mod QueueLaws
+pub mod SlotTables
 pub mod StepLaws
 pub mod WalkLaws

@@ -1,4 +1,4 @@
--- Laws of the step that every walk over the pieces takes.
+-- Laws of the step over the pieces that every emitter takes.
 use mathlib.Core.Path.{_≡_, refl, sym, ap, _∙_}
 use mathlib.Core.Bool.{true}
 use mathlib.Core.List.{List, [], _∷_, map}
@@ -16,23 +16,21 @@ use Rattle.calls.specs.CallList as calls
 use Rattle.calls.specs.CallList.{pieceOf}
 use Rattle.calls.specs.Generations.{genOf}
 use Rattle.calls.specs.Pieces as slots
-use Rattle.calls.specs.Pieces.{nextFit, bucketsNeeded, kindListed, blockOf, pieceSized}
+use Rattle.calls.specs.Pieces.{kindListed, blockOf, pieceSized}
 use Rattle.calls.specs.Extents.{bucketAt, placedAt}
-use Rattle.calls.specs.Place.{walkOf}
+use Rattle.calls.specs.Place.{slotsOf, walkOf}
 use Rattle.calls.specs.Answers.{readCall, readVolume}
 use Rattle.calls.proofs.lists.BoolLaws.{parts as and-true}
 use Rattle.calls.proofs.lists.AllOfLaws.{all-of-drop, all-of-first}
 use Rattle.reader.specs.declared.head.Head.{Head}
 use Rattle.reader.specs.Pieces.{pieceIn}
-use Rattle.next_fit.specs.Fit.{slotIn}
+use Rattle.next_fit.specs.Fit.{slotIn, slotOf}
 use Rattle.place_keys.specs.Plan.{Plan, Reached, Stepped, placedFrom}
 use Rattle.reader.specs.declared.piece.Piece.{Piece}
 use Rattle.next_fit.specs.declared.slot.Slot.{Slot}
-use Rattle.place_keys.specs.declared.placed.Cursor.{Cursor}
 use Rattle.reader.proofs.NextLaws.{pieces-next}
 use Rattle.place_tests.proofs.SizedLaws.{kind-bound, file-low, file-high, stored-low, stored-high}
-use Rattle.next_fit.proofs.NextFitLaws.{fit-next, fit-high, fit-offset, fit-used}
-use Rattle.place_keys.proofs.LayoutLaws.{needs-first, enough-next}
+use Rattle.place_keys.proofs.SlotTables.{slot-offset, slots-length, slots-next, slot-needed}
 
 -- the buckets taken, by index
 
@@ -55,26 +53,16 @@ low-at (b ∷ bs) h zero = and-true (bucketInRange b) (allOf bucketInRange bs) h
 low-at (b ∷ bs) h (suc i) = low-at bs (and-true (bucketInRange b) (allOf bucketInRange bs) h .1) i
 
 -- the first of some pieces at its place, and the pieces after it
-placed-here :
-    (c : calls.CallList) (i : ℕ) (o : Cursor) (p : calls.Piece) (t : slots.Slot) → drop i (c .pieces) ≡ p ∷ drop (i + 1) (c .pieces)
-    → nextFit (c .volume .head .bucketSectors) (o .index) (o .used) (p .stored ∷ []) ≡ t ∷ []
+pub placed-here :
+    (c : calls.CallList) (i : ℕ) (from : FileSector) (p : calls.Piece) (t : slots.Slot) → drop i (c .pieces) ≡ p ∷ drop (i + 1) (c .pieces)
+    → drop i (slotsOf c) ≡ t ∷ drop (i + 1) (slotsOf c)
     → (b : Bucket) (g : ℕ) (first : DeviceSector) (end : FileSector) → bucketAt noBucket (walkOf c .taken) (t .index) ≡ b
-    → genOf (c .volume .trees .gens) b ≡ g → sectorAt b (c .volume .head .bucketSectors) (t .offset) ≡ first → extentEnd (o .end) (p .file) ≡ end
-    → placedFrom c i o
-    ≡ record { piece = p; first = first; bucket = b; generation = g; end = end }
-    ∷ placedFrom c (i + 1) (record { index = t .index; used = t .offset + p .stored; end = end })
+    → genOf (c .volume .trees .gens) b ≡ g → sectorAt b (c .volume .head .bucketSectors) (t .offset) ≡ first → extentEnd from (p .file) ≡ end
+    → placedFrom c i from ≡ record { piece = p; first = first; bucket = b; generation = g; end = end } ∷ placedFrom c (i + 1) end
 unfolding placedFrom placedAt
-placed-here c i o p t e f b g first end eb eg ef ee =
-    rw (
-      e,
-      fit-next (c .volume .head .bucketSectors) (o .index) (o .used) (p .stored) t f (map (λ p. p .stored) (drop (i + 1) (c .pieces))),
-      eb,
-      eg,
-      ef,
-      ee,
-    )
+placed-here c i from p t e f b g first end eb eg ef ee = rw (e, f, eb, eg, ef, ee)
 
-module _ {s offsets : List ℕ} {buckets : List Bucket} {generations : List ℕ} {h : Head} (plan : Plan s offsets buckets generations h) where
+module _ {s offsets numbers : List ℕ} {buckets : List Bucket} {generations : List ℕ} {h : Head} (plan : Plan s offsets numbers buckets generations h) where
   pub bucket-sectors : readVolume s .head .bucketSectors ≡ h .«bucket_sectors»
   bucket-sectors = ap (λ (x : calls.Head). x .bucketSectors) (sym (plan .head))
 
@@ -82,86 +70,66 @@ module _ {s offsets : List ℕ} {buckets : List Bucket} {generations : List ℕ}
   gens-length = ap length (plan .gens) ∙ length-map buckets (genOf (readVolume s .trees .gens))
 
   -- the generation of the bucket at an index
-  pub gen-at : (i : ℕ) → i < length buckets → getD generations i 0 ≡ genOf (readVolume s .trees .gens) (bucketAt noBucket buckets i)
+  gen-at : (i : ℕ) → i < length buckets → getD generations i 0 ≡ genOf (readVolume s .trees .gens) (bucketAt noBucket buckets i)
   gen-at i k = ap (λ (l : List ℕ). getD l i 0) (plan .gens) ∙ map-at (genOf (readVolume s .trees .gens)) buckets i k
 
-  module _ (i : ℕ) (l : i < length offsets) (p : Piece) (e : pieceIn p ≡ pieceOf (take 13 (drop (getD offsets i 0) s))) where
-    pub pieces-here : drop i (readCall s .pieces) ≡ pieceIn p ∷ drop (i + 1) (readCall s .pieces)
-    pieces-here = pieces-next (plan .pieces) i l ∙ ap (λ (x : calls.Piece). x ∷ drop (i + 1) (readCall s .pieces)) (sym e)
+  -- a slot for each piece, in one of the buckets
+  pub numbers-length : length numbers ≡ length offsets
+  numbers-length = slots-length (readCall s) numbers (plan .slots) ∙ sym (plan .pieces .count)
 
-    pub listed : kindListed (pieceIn p) ≡ true
-    listed = all-of-first kindListed (all-of-drop kindListed _ i (plan .kinds)) pieces-here
+  module _ (i : ℕ) (l : i < length offsets) where
+    module _ (t : Slot) (f : slotIn t ≡ slotOf (getD numbers i 0)) where
+      pub slots-here : drop i (slotsOf (readCall s)) ≡ slotIn t ∷ drop (i + 1) (slotsOf (readCall s))
+      slots-here =
+          slots-next (readCall s) numbers (plan .slots) i (omega (arith, l, numbers-length))
+          ∙ ap (λ (x : slots.Slot). x ∷ drop (i + 1) (slotsOf (readCall s))) (sym f)
 
-    pub sized : pieceSized (h .«bucket_sectors») (blockOf (h .«block_sectors»)) (pieceIn p) ≡ true
-    sized = let t = pieceSized (h .«bucket_sectors») (blockOf (h .«block_sectors»)) in all-of-first t (all-of-drop t _ i (plan .sizes)) pieces-here
+      pub index-low : t .index < length buckets
+      index-low = omega (arith, ap (λ (x : slots.Slot). x .index) f, plan .enough, slot-needed (readCall s) numbers (plan .slots) i (omega (arith, l, numbers-length)))
 
-    pub stored-most : p .stored ≤ 128
-    stored-most = stored-high _ _ (pieceIn p) sized
+      pub offset-low : t .offset < 65536
+      offset-low = omega (arith, ap (λ (x : slots.Slot). x .offset) f, slot-offset (getD numbers i 0))
 
-    pub file-most : p .file ≤ 128
-    file-most = file-high _ _ (pieceIn p) sized
+    module _ (p : Piece) (e : pieceIn p ≡ pieceOf (take 13 (drop (getD offsets i 0) s))) where
+      pub pieces-here : drop i (readCall s .pieces) ≡ pieceIn p ∷ drop (i + 1) (readCall s .pieces)
+      pieces-here = pieces-next (plan .pieces) i l ∙ ap (λ (x : calls.Piece). x ∷ drop (i + 1) (readCall s .pieces)) (sym e)
 
-    module _ (o : Cursor) (r : Reached s buckets h i o) (t : Slot)
-        (f : nextFit (h .«bucket_sectors») (o .index) (o .used) (p .stored ∷ []) ≡ slotIn t ∷ []) where
-      B : ℕ
-      B = h .«bucket_sectors»
+      listed : kindListed (pieceIn p) ≡ true
+      listed = all-of-first kindListed (all-of-drop kindListed _ i (plan .kinds)) pieces-here
 
-      after : List slots.Slot
-      after = nextFit (h .«bucket_sectors») (t .index) (t .offset + p .stored) (map (λ p. p .stored) (drop (i + 1) (readCall s .pieces)))
+      sized : pieceSized (h .«bucket_sectors») (blockOf (h .«block_sectors»)) (pieceIn p) ≡ true
+      sized = let t = pieceSized (h .«bucket_sectors») (blockOf (h .«block_sectors»)) in all-of-first t (all-of-drop t _ i (plan .sizes)) pieces-here
 
-      slots-here : nextFit (h .«bucket_sectors») (o .index) (o .used) (map (λ p. p .stored) (drop i (readCall s .pieces))) ≡ slotIn t ∷ after
-      unfolding after
-      slots-here = rw pieces-here (fit-next (h .«bucket_sectors») (o .index) (o .used) (p .stored) (slotIn t) f _)
+      pub stored-most : p .stored ≤ 128
+      stored-most = stored-high _ _ (pieceIn p) sized
 
-      enough : bucketsNeeded (slotIn t ∷ after) ≤ length buckets
-      enough = rw slots-here at (r .enough)
+      file-most : p .file ≤ 128
+      file-most = file-high _ _ (pieceIn p) sized
 
-      pub slot-index : t .index < length buckets
-      unfolding after
-      slot-index = omega (arith, enough, needs-first (h .«bucket_sectors») (slotIn t) (t .offset + p .stored) (map (λ p. p .stored) (drop (i + 1) (readCall s .pieces))))
+    module _ (t : Slot) (f : slotIn t ≡ slotOf (getD numbers i 0)) (p : Piece) (e : pieceIn p ≡ pieceOf (take 13 (drop (getD offsets i 0) s))) (from : FileSector) (r : Reached i from)
+        (k : h .«bucket_sectors» < 65536) (b : Bucket) (first : DeviceSector) (end : FileSector) (eb : b ≡ bucketAt noBucket buckets (t .index))
+        (ef : first ≡ sectorAt b (h .«bucket_sectors») (t .offset)) (ee : end ≡ extentEnd from (p .file)) where
+      first-low : first .0 < 2 ^ 44
+      first-low =
+          let d : first .0 ≡ b .0 * h .«bucket_sectors» + t .offset = ap (λ (d : DeviceSector). d .0) ef in
+          let m : b .0 < 65536 = ltb-true (b .0) 65536 (ap bucketInRange eb ∙ low-at buckets (plan .low) (t .index)) in
+          omega (arith, below 16 {a = b .0} {b = h .«bucket_sectors»} m k, offset-low t f)
 
-      pub slot-offset : t .offset < 65536
-      slot-offset = omega (arith, r .used, fit-offset (h .«bucket_sectors») (o .index) (o .used) (p .stored) (slotIn t) f)
-
-      pub slot-used : h .«bucket_sectors» < 65536 → t .offset + p .stored < 65536
-      slot-used k = fit-used (h .«bucket_sectors») (o .index) (o .used) (p .stored) (slotIn t) f (omega (arith, stored-most)) k
-
-      module _ (k : h .«bucket_sectors» < 65536) (b : Bucket) (first : DeviceSector) (end : FileSector) (eb : b ≡ bucketAt noBucket buckets (t .index))
-          (ef : first ≡ sectorAt b (h .«bucket_sectors») (t .offset)) (ee : end ≡ extentEnd (o .end) (p .file)) where
-        first-low : first .0 < 2 ^ 44
-        first-low =
-            let e : first .0 ≡ b .0 * h .«bucket_sectors» + t .offset = ap (λ (d : DeviceSector). d .0) ef in
-            let l : b .0 < 65536 = ltb-true (b .0) 65536 (ap bucketInRange eb ∙ low-at buckets (plan .low) (t .index)) in
-            omega (arith, below 16 {a = b .0} {b = h .«bucket_sectors»} l k, slot-offset)
-
-        pub stepped : Stepped s buckets h i o
-            (record {
-              placed = record { piece = p; first = first; bucket = b; generation = getD generations (t .index) 0; end = end };
-              next = record { index = t .index; used = t .offset + p .stored; end = end };
-            })
-        unfolding after
-        stepped =
-            record {
-              here =
-                  placed-here (readCall s) i o (pieceIn p) (slotIn t) pieces-here (rw bucket-sectors f) b (getD generations (t .index) 0) first end
-                  (ap (λ l. bucketAt noBucket l (t .index)) (sym (plan .taken)) ∙ sym eb)
-                  (ap (genOf (readVolume s .trees .gens)) eb ∙ sym (gen-at (t .index) slot-index)) (rw bucket-sectors (sym ef)) (sym ee);
-              reached =
-                  record {
-                    index = omega (arith, r .index, fit-high (h .«bucket_sectors») (o .index) (o .used) (p .stored) (slotIn t) f);
-                    used = slot-used k;
-                    end =
-                        let e : end .0 ≡ o .end .0 + p .file = ap (λ (x : FileSector). x .0) ee in
-                        omega (arith, r .end, file-most);
-                    enough = enough-next (slotIn t) after enough;
-                  };
-              bounded =
-                  record {
-                    stored = (stored-low _ _ (pieceIn p) sized, stored-most);
-                    file = (file-low _ _ (pieceIn p) sized, file-most);
-                    kind = kind-bound (pieceIn p) listed;
-                    first = first-low;
-                  };
-              index = slot-index;
-              bucket = eb;
-            }
+      pub stepped : Stepped s i from (record { piece = p; first = first; bucket = b; generation = getD generations (t .index) 0; end = end })
+      stepped =
+          record {
+            here =
+                placed-here (readCall s) i from (pieceIn p) (slotIn t) (pieces-here p e) (slots-here t f) b (getD generations (t .index) 0) first end
+                (ap (λ l. bucketAt noBucket l (t .index)) (sym (plan .taken)) ∙ sym eb)
+                (ap (genOf (readVolume s .trees .gens)) eb ∙ sym (gen-at (t .index) (index-low t f))) (rw bucket-sectors (sym ef)) (sym ee);
+            reached =
+                let d : end .0 ≡ from .0 + p .file = ap (λ (x : FileSector). x .0) ee in
+                omega (arith, r, file-most p e);
+            bounded =
+                record {
+                  stored = (stored-low _ _ (pieceIn p) (sized p e), stored-most p e);
+                  file = (file-low _ _ (pieceIn p) (sized p e), file-most p e);
+                  kind = kind-bound (pieceIn p) (listed p e);
+                  first = first-low;
+                };
+          }

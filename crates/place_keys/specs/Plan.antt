@@ -1,4 +1,4 @@
--- What planning hands over to the layout and the emission, with the bounds that refusals and limits have shown by then; and the walk over the pieces.
+-- What planning hands over to the emission, with the bounds that refusals and limits have shown by then; and the pieces one after the other.
 use Prim.Native.Nat.{ℕ, _+_, _*_, _≤_, _<_, _^_}
 use mathlib.Core.Path.{_≡_}
 use mathlib.Core.Bool.{true}
@@ -6,11 +6,12 @@ use mathlib.Core.List.{List, _∷_, map}
 use lib.ListN.{length, getD, drop}
 use Rattle.wire.specs.Kinds.{noBucket, sameBucket, bucketInRange, baseInRange, fileSectorNumber, sectorNumber}
 use Rattle.wire.specs.declared.kinds.Bucket.{Bucket}
+use Rattle.wire.specs.declared.kinds.FileSector.{FileSector}
 use Rattle.calls.specs.Lists.{allOf}
 use Rattle.calls.specs.CallList.{CallList, Volume}
 use Rattle.calls.specs.Clock.{clockOf}
 use Rattle.calls.specs.Generations.{genOf}
-use Rattle.calls.specs.Pieces.{nextFit, bucketsNeeded, kindListed, blockOf, pieceSized}
+use Rattle.calls.specs.Pieces.{bucketsNeeded, kindListed, blockOf, pieceSized}
 use Rattle.calls.specs.Extents as calls
 use Rattle.calls.specs.Extents.{bucketAt, placedAt}
 use Rattle.calls.specs.Place.{slotsOf, walkOf, dirtyIn}
@@ -19,13 +20,13 @@ use Rattle.reader.specs.Heads.{headIn}
 use Rattle.reader.specs.Located.{PiecesAt}
 use Rattle.reader.specs.declared.head.Head.{Head}
 use Rattle.reader.specs.Pieces.{pieceIn}
+use Rattle.next_fit.specs.Fit.{slotsIn}
 use Rattle.place_keys.specs.declared.placed.Placed.{Placed}
-use Rattle.place_keys.specs.declared.placed.Cursor.{Cursor}
-use Rattle.place_keys.specs.declared.placed.Step.{Step}
 
--- The pieces' offsets in s, the buckets taken, their generations and the head.
-pub record Plan (s offsets : List ℕ) (buckets : List Bucket) (generations : List ℕ) (h : Head) : Type 0 where
+-- The pieces' offsets in s, the numbers of their slots, the buckets taken, their generations and the head.
+pub record Plan (s offsets numbers : List ℕ) (buckets : List Bucket) (generations : List ℕ) (h : Head) : Type 0 where
   pub pieces : PiecesAt s offsets (readCall s .pieces)
+  pub slots : slotsIn numbers ≡ slotsOf (readCall s)
   pub head : headIn h ≡ readVolume s .head
   pub taken : buckets ≡ walkOf (readCall s) .taken
   pub gens : generations ≡ map (genOf (readVolume s .trees .gens)) buckets
@@ -47,27 +48,27 @@ pub record Plan (s offsets : List ℕ) (buckets : List Bucket) (generations : Li
       (i j : ℕ) → i < length buckets → j < length buckets → sameBucket (bucketAt noBucket buckets i) (bucketAt noBucket buckets j) ≡ true
       → i ≡ j
 
+-- a plan for the buckets that the walk takes, whatever the head and the generations that the code holds
+pub record PlanKnown (s offsets numbers : List ℕ) : Type 0 where
+  pub generations : List ℕ
+  pub head : Head
+  pub plan : Plan s offsets numbers (walkOf (readCall s) .taken) generations head
+
 -- the piece that the code holds, at its place
 abbrev pub placedIn : Placed → calls.Placed
 placedIn p =
     record { piece = pieceIn (p .piece); first = p .first; bucket = p .bucket; generation = p .generation; end = p .end }
 
--- the pieces from piece i on, placed from a cursor on; from the start on, they are `placedOf`
-unfoldable pub placedFrom : CallList → ℕ → Cursor → List calls.Placed
-placedFrom c i o =
-    placedAt (c .volume .head .bucketSectors) (genOf (c .volume .trees .gens)) (bucketAt noBucket (walkOf c .taken)) (o .end)
+-- the pieces from piece i on, at their slots, the first extent from a file sector on; from the base on, all are `placedOf`
+unfoldable pub placedFrom : CallList → ℕ → FileSector → List calls.Placed
+placedFrom c i end =
+    placedAt (c .volume .head .bucketSectors) (genOf (c .volume .trees .gens)) (bucketAt noBucket (walkOf c .taken)) end
     (drop i (c .pieces))
-    (nextFit (c .volume .head .bucketSectors) (o .index) (o .used) (map (λ p. p .stored) (drop i (c .pieces))))
+    (drop i (slotsOf c))
 
--- a cursor that stands at piece i: the buckets taken are enough for what is left
-pub record Reached (s : List ℕ) (buckets : List Bucket) (h : Head) (i : ℕ) (o : Cursor) : Type 0 where
-  pub index : o .index ≤ i
-  pub used : o .used < 65536
-  pub end : fileSectorNumber (o .end) ≤ 2 ^ 40 + 128 * i
-  pub enough :
-      bucketsNeeded
-      (nextFit (h .«bucket_sectors») (o .index) (o .used) (map (λ p. p .stored) (drop i (readCall s .pieces))))
-      ≤ length buckets
+-- how far in the file the extents of the first i pieces end at most
+abbrev pub Reached : ℕ → FileSector → Type 0
+Reached i end = fileSectorNumber end ≤ 2 ^ 40 + 128 * i
 
 -- the bounds that the words of a key ask for
 pub record Bounded (p : Placed) : Type 0 where
@@ -76,13 +77,11 @@ pub record Bounded (p : Placed) : Type 0 where
   pub kind : p .piece .kind < 16
   pub first : sectorNumber (p .first) < 2 ^ 44
 
--- one step: piece i at its place, in the bucket that is now open, and the pieces after it
-pub record Stepped (s : List ℕ) (buckets : List Bucket) (h : Head) (i : ℕ) (o : Cursor) (r : Step) : Type 0 where
-  pub here : placedFrom (readCall s) i o ≡ placedIn (r .placed) ∷ placedFrom (readCall s) (i + 1) (r .next)
-  pub reached : Reached s buckets h (i + 1) (r .next)
-  pub bounded : Bounded (r .placed)
-  pub index : r .next .index < length buckets
-  pub bucket : r .placed .bucket ≡ bucketAt noBucket buckets (r .next .index)
+-- one step: piece i at its place, and the pieces after it
+pub record Stepped (s : List ℕ) (i : ℕ) (end : FileSector) (r : Placed) : Type 0 where
+  pub here : placedFrom (readCall s) i end ≡ placedIn r ∷ placedFrom (readCall s) (i + 1) (r .end)
+  pub reached : Reached (i + 1) (r .end)
+  pub bounded : Bounded r
 
 -- the dirty counts of the buckets taken, by index
 pub record Dirty (ps : List calls.Placed) (buckets : List Bucket) (counts : List ℕ) : Type 0 where

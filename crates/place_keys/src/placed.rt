@@ -1,11 +1,9 @@
-// A piece at its place, and the one step of the walk over the pieces that every emitter takes.
-ghost use mathlib.Core.Path.{_≡_};
+// A piece at its place, and the one step over the pieces that every emitter takes.
 ghost use Prim.Native.Nat.{_<_};
 ghost use lib.ListN.{length};
 ghost use Rattle.wire.specs.Kinds.{bucketsIn};
 ghost use Rattle.place_keys.specs.Plan.{Plan, Reached, Stepped};
 use next_fit::slot;
-use next_fit::slot::Open;
 use reader::head::Head;
 use reader::piece;
 use reader::piece::Piece;
@@ -23,67 +21,30 @@ pub struct Placed {
     pub end: FileSector,
 }
 
-// How far the walk is: the open bucket, its used sectors, and where the last extent ends.
-pub struct Cursor {
-    pub index: usize,
-    pub used: u64,
-    pub end: FileSector,
-}
-
-pub struct Step {
-    pub placed: Placed,
-    pub next: Cursor,
-}
-
-// Before the first piece.
-pub fn start(h: Head) -> Cursor
-    ensures { λ r. ⌜ r ≡ record { index = 0; used = 0; end = h .base } ⌝ }
-{
-    let end = h.base;
-    Cursor {
-        index: 0,
-        used: 0,
-        end,
-    }
-}
-
-// Piece i at its place, and how far the walk is after it.
+// Piece i at its place: its slot is in the table, and its extent starts where the last one ends.
 pub fn place_piece(
     s: &[u8],
     pieces: &[u32],
+    slots: &[u32],
     i: usize,
     taken: &[u64],
     gens: &[u8],
     h: Head,
-    o: Cursor,
-) -> Step
-    requires { ⌜ Plan (now s) (now pieces) (bucketsIn (now taken)) (now gens) h ⌝ }
-    requires { ⌜ (i < length (now pieces)) × Reached (now s) (bucketsIn (now taken)) h i o ⌝ }
-    ensures { λ r. ⌜ Stepped (now (s .entry)) (bucketsIn (now (taken .entry))) h i o r ⌝ }
+    end: FileSector,
+) -> Placed
+    requires { ⌜ Plan (now s) (now pieces) (now slots) (bucketsIn (now taken)) (now gens) h ⌝ }
+    requires { ⌜ (i < length (now pieces)) × Reached i end ⌝ }
+    ensures { λ r. ⌜ Stepped (now (s .entry)) i end r ⌝ }
 {
     let piece = piece::read_piece(s, pieces[i] as usize);
-    let stored = piece.stored as u64;
-    let sectors = h.bucket_sectors as u64;
-    let open = Open {
-        index: o.index,
-        used: o.used,
-    };
-    let slot = slot::next_fit(open, stored, sectors);
+    let slot = slot::slot_at(slots, i);
     let index = slot.index;
     let bucket = Bucket(taken[index]);
-    let end = kinds::extent_end(o.end, piece.file as u64);
-    Step {
-        placed: Placed {
-            piece,
-            first: kinds::sector_at(bucket, sectors, slot.offset),
-            bucket,
-            generation: gens[index],
-            end,
-        },
-        next: Cursor {
-            index,
-            used: slot.offset + stored,
-            end,
-        },
+    Placed {
+        piece,
+        first: kinds::sector_at(bucket, h.bucket_sectors as u64, slot.offset),
+        bucket,
+        generation: gens[index],
+        end: kinds::extent_end(end, piece.file as u64),
     }
 }

@@ -31,21 +31,21 @@ pub fn put_spots(
     at: usize,
     s: &[u8],
     pieces: &[u32],
+    slots: &[u32],
     taken: &[u64],
     gens: &[u8],
     h: Head,
 ) -> usize
-    requires { ⌜ Plan (now s) (now pieces) (bucketsIn (now taken)) (now gens) h ⌝ }
+    requires { ⌜ Plan (now s) (now pieces) (now slots) (bucketsIn (now taken)) (now gens) h ⌝ }
     ensures { λ r. ⌜ Emitted (now (out .entry)) at (encode (map spotField (map spotAt (placedOf (readCall (now (s .entry))))))) (now (out .exit)) r ⌝ }
 {
     let mut p = at;
-    let mut o = placed::start(h);
+    let mut end = h.base;
     let mut i: usize = 0;
     while i < pieces.len() {
-        let step = placed::place_piece(s, pieces, i, taken, gens, h, o);
-        let here = step.placed;
+        let here = placed::place_piece(s, pieces, slots, i, taken, gens, h, end);
         p = put_spot(out, p, here);
-        o = step.next;
+        end = here.end;
         i += 1;
     }
     p

@@ -16,13 +16,14 @@ use Rattle.reader.specs.declared.head.Head.{Head}
 use Rattle.place_tests.specs.Choice.{ChosenIs}
 use Rattle.freespace.specs.Walks.{stopped, unwalked, WalkIs}
 use Rattle.freespace.specs.declared.take.Walked.{Walked}
+use Rattle.next_fit.specs.Fit.{slotsIn}
 use Rattle.place_tests.proofs.RefusalLaws.{enough}
 
 -- a refusal before the walk
-pub chosen-stopped : {s before after : List ℕ} (r : Walked) {number : ℕ} → r ≡ stopped number → (number ≡ 0 → ⊥) → number ≡ verdict (placeTests (readCall s)) → ChosenIs s before after r
+pub chosen-stopped : {s before after numbers : List ℕ} (r : Walked) {number : ℕ} → r ≡ stopped number → (number ≡ 0 → ⊥) → number ≡ verdict (placeTests (readCall s)) → ChosenIs s before after numbers r
 chosen-stopped r e n v =
     let q = ap (λ (x : Walked). x .refusal) e in
-    record { refusal = q ∙ v; took = λ z. absurd (n (sym q ∙ z)) }
+    record { refusal = q ∙ v; took = λ z. absurd (n (sym q ∙ z)); laid = λ z. absurd (n (sym q ∙ z)) }
 
 module _ (s : List ℕ) {n : ℕ} (e : n ≡ bucketsNeeded (slotsOf (readCall s))) where
   -- refusal 11's test
@@ -38,9 +39,9 @@ module _ (s : List ℕ) {n : ℕ} (e : n ≡ bucketsNeeded (slotsOf (readCall s)
   unfolding walkOf
   walk-is = ap walked e
 
-  pub chosen-walk : {before after : List ℕ} {r : Walked} → walkOf (readCall s) .refusal ≡ verdict (placeTests (readCall s))
-      → WalkIs n (take (r .passed) (readVolume s .trees .freespace)) (walked n) unwalked before after r → ChosenIs s before after r
-  chosen-walk {before} {after} {r} v w =
+  pub chosen-walk : {before after numbers : List ℕ} {r : Walked} → walkOf (readCall s) .refusal ≡ verdict (placeTests (readCall s)) → slotsIn numbers ≡ slotsOf (readCall s)
+      → WalkIs n (take (r .passed) (readVolume s .trees .freespace)) (walked n) unwalked before after r → ChosenIs s before after numbers r
+  chosen-walk {before} {after} {r = r} v l w =
       let ks = take (r .passed) (readVolume s .trees .freespace) in
       let f : WalkIs (bucketsNeeded (slotsOf (readCall s))) ks (walkOf (readCall s)) unwalked before after r = rw (← e, ← walk-is) w in
-      record { refusal = f .refusal ∙ v; took = f .took }
+      record { refusal = f .refusal ∙ v; took = f .took; laid = λ z. l }

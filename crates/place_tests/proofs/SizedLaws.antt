@@ -79,10 +79,10 @@ module _ {s : List ℕ} {h : Head} {alloc-at runs-at reserved-at pieces-at : Lis
   sectors : readVolume s .head .bucketSectors ≡ h .«bucket_sectors»
   sectors = ap (λ (x : calls.Head). x .bucketSectors) (sym (q .head))
 
-  -- the buckets that the code finds needed
-  pub needed-is : {n : ℕ} → n ≡ bucketsNeeded (nextFit (h .«bucket_sectors») 0 0 (map (λ p. p .stored) (readCall s .pieces))) → n ≡ bucketsNeeded (slotsOf (readCall s))
+  -- the slots that the code lays out
+  pub slots-are : nextFit (h .«bucket_sectors») 0 0 (map (λ p. p .stored) (readCall s .pieces)) ≡ slotsOf (readCall s)
   unfolding slotsOf
-  needed-is e = rw sectors e
+  slots-are = rw sectors
 
   pub needed-short : Asked (readCall s) h → bucketsNeeded (slotsOf (readCall s)) ≤ 1024
   unfolding slotsOf

@@ -56,7 +56,7 @@ fn enough_free(s: &[u8], reserve: u32, runs: &[u32], reserved: &[u32], n: usize)
     wanted <= runs::free_count(s, runs, reserved)
 }
 
-// The buckets for the pieces: the first refusal of 4 to 13, or those taken. The reader and the lent table show what is required.
+// The slots and the buckets of the pieces: the first refusal of 4 to 13, or the buckets taken. The reader and the lent tables show what is required.
 pub fn choose_buckets(
     s: &[u8],
     h: Head,
@@ -65,9 +65,10 @@ pub fn choose_buckets(
     reserved: &[u32],
     pieces: &[u32],
     taken: &mut [u64],
+    slots: &mut [u32],
 ) -> Walked
-    requires { ⌜ Called (now s) h (now alloc) (now runs) (now reserved) (now pieces) × (1024 ≤ length (now taken)) ⌝ }
-    ensures { λ r. ⌜ ChosenIs (now (s .entry)) (now (taken .entry)) (now (taken .exit)) r ⌝ }
+    requires { ⌜ Called (now s) h (now alloc) (now runs) (now reserved) (now pieces) × (1024 ≤ length (now taken)) × (1024 ≤ length (now slots)) ⌝ }
+    ensures { λ r. ⌜ ChosenIs (now (s .entry)) (now (taken .entry)) (now (taken .exit)) (take (length (now (pieces .entry))) (now (slots .exit))) r ⌝ }
 {
     // 4 to 9: what is asked
     let number = refuse_requests(s, h, pieces);
@@ -79,7 +80,7 @@ pub fn choose_buckets(
         return take::stopped(10);
     }
     // 11: too few buckets are free
-    let n = needed::buckets_needed(s, pieces, h.bucket_sectors);
+    let n = needed::lay_out(s, pieces, h.bucket_sectors, slots);
     if !enough_free(s, h.reserve, runs, reserved, n) {
         return take::stopped(11);
     }

@@ -23,11 +23,11 @@ volume a = readVolume (a .args .s .now)
 abbrev placed : tie.Start → List calls.Placed
 placed a = placedOf (readCall (a .args .s .now))
 
-allocs-of : (a : tie.Start) → AllocsOf (volume a) (bucketsIn (a .args .taken .now)) (a .args .gens .now) (a .args .h .journal) (a .args .clock)
-allocs-of a = record { number = ap (λ (x : Head). x .journal) (sym (a .pre .0 .head)); gens = a .pre .0 .gens; time = a .pre .1 .1 .1 }
+allocs-of : (a : tie.Start) → AllocsOf (volume a) (bucketsIn (a .args .taken .now)) (a .args .gens .now) (a .args .v .head .journal) (a .args .v .clock)
+allocs-of a = record { number = ap (λ (x : Head). x .journal) (sym (a .pre .plan .head)); gens = a .pre .plan .gens; time = sym (a .pre .clock) }
 
 abbrev start : tie.After-put-extents → tie.Start
-start c = c .before .before .before .before .before .before .before .before .before
+start c = c .before .before .before .before .before .before .before .before .before .before .before .before
 
 put-extents-requires : tie.Need-put-extents-requires
 put-extents-requires c κs = search needs
@@ -35,21 +35,21 @@ put-extents-requires c κs = search needs
 put-allocs-requires : tie.Need-put-allocs-requires
 put-allocs-requires c κs =
     let a = start (c .before .before .before) in (
-      (omega (arith, gens-length (a .pre .0), table-length (a .args .taken .now)), a .pre .1 .0 .0),
-      (record { volume = volume a; allocs = allocs-of a }, record { placed = placed a; dirty = a .pre .1 .0 .1 }),
+      (omega (arith, gens-length (a .pre .plan), table-length (a .args .taken .now)), a .pre .long),
+      (record { volume = volume a; allocs = allocs-of a }, record { placed = placed a; dirty = a .pre .dirty }),
     )
 
 cast-put-lrus : tie.Need-cast-put-lrus
 cast-put-lrus c = search needs
 
 put-lrus-requires : tie.Need-put-lrus-requires
-put-lrus-requires c κs = let a = start (c .before .before .before .before .before .before .before .before) in ((a .pre .1 .0 .0, a .pre .0 .sectors), record { placed = placed a; dirty = a .pre .1 .0 .1 })
+put-lrus-requires c κs = let a = start (c .before .before .before .before .before .before .before .before) in ((a .pre .long, a .pre .plan .sectors), record { placed = placed a; dirty = a .pre .dirty })
 
 put-queue-requires : tie.Need-put-queue-requires
-put-queue-requires c κs = start (c .before .before .before .before .before .before .before .before .before .before .before .before) .pre .1 .1 .0
+put-queue-requires c κs = start (c .before .before .before .before .before .before .before .before .before .before .before .before) .pre .walk
 
 put-backpointers-requires : tie.Need-put-backpointers-requires
-put-backpointers-requires c κs = start (c .before .before .before .before .before .before .before .before .before .before .before .before .before .before .before .before) .pre .0
+put-backpointers-requires c κs = start (c .before .before .before .before .before .before .before .before .before .before .before .before .before .before .before .before) .pre .plan
 
 same-length : tie.Need-same-length
 same-length c = search needs
@@ -62,10 +62,10 @@ returns c =
     let m = l .before .before .before .before .before in
     let e = m .before .before .before .before in
     let a = start e in
-    emitted (sym (keys-of (a .pre .0)))
+    emitted (sym (keys-of (a .pre .plan)))
     (and-then (e .put-extents .ensures)
-    (and-then (m .put-allocs .ensures (volume a) (placed a) (allocs-of a) (a .pre .1 .0 .1))
-    (and-then (l .put-lrus .ensures (placed a) (a .pre .1 .0 .1)) (and-then (q .put-queue .ensures) (b .put-backpointers .ensures)))))
+    (and-then (m .put-allocs .ensures (volume a) (placed a) (allocs-of a) (a .pre .dirty))
+    (and-then (l .put-lrus .ensures (placed a) (a .pre .dirty)) (and-then (q .put-queue .ensures) (b .put-backpointers .ensures)))))
 
 pub put-keys-spec : {M : Type 1} → statement M
 put-keys-spec =

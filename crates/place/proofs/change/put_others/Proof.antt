@@ -15,9 +15,6 @@ use borrow.Author.Needs.{needs}
 use Rattle.place.proofs.change.put_others.Statement.{statement}
 use Rattle.place.proofs.change.put_others.Tie as tie
 
-tally-pieces-requires : tie.Need-tally-pieces-requires
-tally-pieces-requires c κs = search needs
-
 cast-put-lru-root : tie.Need-cast-put-lru-root
 cast-put-lru-root c = search needs
 
@@ -34,14 +31,16 @@ put-spots-requires c κs = search needs
 abbrev placed : tie.Start → List calls.Placed
 placed a = placedOf (readCall (a .args .s .now))
 
-tallied : (k : tie.After-tally-pieces) → k .tally-pieces .result ≡ talliesOf (map (λ p. p .piece) (placed (k .before .before .before .before .before .before)))
-tallied k = k .tally-pieces .ensures .is ∙ ap talliesOf (sym (placed-pieces (readCall (k .before .before .before .before .before .before .args .s .now))))
+tallied : (a : tie.Start) → a .args .v .tallies ≡ talliesOf (map (λ p. p .piece) (placed a))
+tallied a = a .pre .1 .is ∙ ap talliesOf (sym (placed-pieces (readCall (a .args .s .now))))
+
+abbrev start : tie.After-put-lru-root → tie.Start
+start r = r .before .before .before .before .before .before .before .before .before .before .before .before
 
 put-rows-requires : tie.Need-put-rows-requires
 put-rows-requires c κs =
-    let k = c .before .before .before .before .before .before .before .before .before .before .before .before .before .before .before in
-    let a = k .before .before .before .before .before .before in
-    ((omega (arith, a .pre .short, table-length (a .args .taken .now)), a .pre .option), record { buckets = bucketsIn (a .args .taken .now); placed = placed a; count = table-length (a .args .taken .now); tallied = record { is = tallied k; small = k .tally-pieces .ensures .small } })
+    let a = start (c .before .before .before .before .before .before .before .before .before .before .before) in
+    ((omega (arith, a .pre .0 .short, table-length (a .args .taken .now)), a .pre .0 .option), record { buckets = bucketsIn (a .args .taken .now); placed = placed a; count = table-length (a .args .taken .now); tallied = record { is = tallied a; small = a .pre .1 .small } })
 
 put-sectors-requires : tie.Need-put-sectors-requires
 put-sectors-requires c κs = search needs
@@ -60,10 +59,9 @@ returns c =
     let p = w .before .before .before .before in
     let t = p .before .before .before .before in
     let r = t .before .before .before .before in
-    let k = r .before .before .before .before in
-    let a = k .before .before .before .before .before .before in
-    let rows = w .put-rows .ensures (bucketsIn (a .args .taken .now)) (placed a) (table-length (a .args .taken .now)) (tallied k) in
-    emitted (sym (others-of (a .pre) (k .tally-pieces .result) (k .tally-pieces .ensures .is)))
+    let a = start r in
+    let rows = w .put-rows .ensures (bucketsIn (a .args .taken .now)) (placed a) (table-length (a .args .taken .now)) (tallied a) in
+    emitted (sym (others-of (a .pre .0) (a .args .v .tallies) (a .pre .1 .is)))
     (and-then (r .put-lru-root .ensures)
     (and-then (t .put-taken .ensures)
     (and-then (p .put-spots .ensures) (and-then rows (and-then (n .put-sectors .ensures) (z .put-end .ensures))))))
@@ -72,7 +70,6 @@ pub put-others-spec : {M : Type 1} → statement M
 put-others-spec =
     tie.close
     (tie.spec
-    tally-pieces-requires
     cast-put-lru-root
     put-lru-root-requires
     put-taken-requires

@@ -10,16 +10,16 @@ slice-aggregate-put-change : tie.Need-slice-aggregate-put-change
 slice-aggregate-put-change c = search needs
 
 put-change-requires : tie.Need-put-change-requires
-put-change-requires c κs = let a = c .before .before .before .before .before .before .before .before in (a .pre .0, (a .pre .1 .0, (a .pre .1 .1 .0, a .pre .1 .1 .1)))
+put-change-requires c κs = c .before .before .before .before .before .before .before .before .before .pre .0
 
 returns : tie.Need-returns
 returns c =
     let k = c .before .before in
-    let a = k .before .before .before .before .before .before .before .before .before in
-    refused 21 _ (answer-short _ _ (short (a .args .out .now) (k .put-change .ensures) (omega (arith, a .good)) (c .if1 .taken))) (a .pre .1 .1 .2)
+    let a = k .before .before .before .before .before .before .before .before .before .before in
+    refused 21 _ (answer-short _ _ (short (a .args .out .now) (k .put-change .ensures) (omega (arith, a .good)) (c .if1 .taken))) (a .pre .1)
 
 put-change-requires-2 : tie.Need-put-change-requires-2
-put-change-requires-2 c κs = let a = c .before .before .before .before .before .before .before .before .before .before .before .before in (a .pre .0, (a .pre .1 .0, (a .pre .1 .1 .0, a .pre .1 .1 .1)))
+put-change-requires-2 c κs = c .before .before .before .before .before .before .before .before .before .before .before .before .before .pre .0
 
 same-length : tie.Need-same-length
 same-length c = search needs
@@ -29,7 +29,7 @@ returns-2 c =
     let x = c .before .before .put-change2 .ensures in
     let i = c .before .before .before .before in
     let k = i .before .before in
-    let a = k .before .before .before .before .before .before .before .before .before in
+    let a = k .before .before .before .before .before .before .before .before .before .before in
     let f = fits (a .args .out .now) (k .put-change .ensures) (omega (arith, a .good)) (i .if1 .left) in
     let g = fits (a .args .out .now) x (omega (arith, a .good)) (omega (arith, a .good, x .next, f .1)) in
     accepted _ _ (answer-fits _ _ (f .1)) (g .0) (wet x (f .1))
