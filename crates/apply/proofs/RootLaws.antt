@@ -1,6 +1,6 @@
 -- Root bits: one field 70, and the loop over a change list.
 use mathlib.Core.Path.{_≡_, refl, ap, sym, _∙_}
-use mathlib.Core.Bool.{Bool, true, false, _||_, cond}
+use mathlib.Core.Bool.{Bool, true, false, cond}
 use mathlib.Core.List.{List, [], _∷_}
 use Prim.Native.Nat.{ℕ, _+_, _/_, _%_, _≤_, _<_}
 use native.Mathlib.Nat.{add-zero}
@@ -17,9 +17,9 @@ use Rattle.calls.specs.CallList.{bodies, shaped}
 use Rattle.calls.specs.ChangeList.{changeShapes, rootListed, fieldOk, changeLaidOut}
 use Rattle.calls.specs.Place.{rootMissing}
 use Rattle.calls.specs.Apply.{setRoots}
-use Rattle.calls.proofs.lists.AllLaws.{first, all-imp, all-join, all-map, all-tail, test-all}
+use Rattle.calls.proofs.lists.AllLaws.{first, all-join, all-tail, test-all}
 use Rattle.calls.proofs.lists.BoolLaws.{parts}
-use Rattle.calls.proofs.encoding.Blocks.{bodies-all, shaped-out}
+use Rattle.calls.proofs.encoding.Blocks.{shaped-out}
 use Rattle.sorting.proofs.EntryLaws.{StepAt}
 use Rattle.apply.specs.Roots.{withBit, withRoot, isRoot, rootsIn, NamesRoot, afterField, Rooted}
 
@@ -97,11 +97,6 @@ all-named-in list h =
     let b = parts (allOf (shaped changeShapes) fs) _ (a .1) in
     let c = parts (allOf fieldOk fs) _ (b .1) in
     all-join named-field (test-all (shaped changeShapes) fs (b .0)) (test-all fieldOk fs (c .0))
-
--- each root that a change list names is one of three
-pub roots-listed : (list : List ℕ) → changeLaidOut list ≡ true → All (λ id. (eqb id 10 || (eqb id 12 || eqb id 14)) ≡ true) (rootsIn (fields list))
-unfolding rootsIn isRoot
-roots-listed list h = all-map (le 1) (all-imp (λ b f. f refl .1) (bodies-all 70 (unfold isRoot in (all-named-in list h))))
 
 pub rooting-start : (list : List ℕ) (roots : ℕ) → roots < 8 → changeLaidOut list ≡ true → Rooting list roots 0 roots
 rooting-start list roots l h = record { within = omega arith; low = l; rest = refl; named = all-named-in list h }

@@ -1,5 +1,5 @@
 -- FORMAT.md, "Pieces and extents": what place queues for each piece.
-use Prim.Native.Nat.{ℕ, zero, suc, _+_}
+use Prim.Native.Nat.{ℕ, zero, suc}
 use mathlib.Core.List.{List, [], _∷_}
 use Rattle.wire.specs.Numbers.{wordsBytes}
 use Rattle.wire.specs.Keys.{Key}

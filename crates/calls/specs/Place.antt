@@ -1,5 +1,5 @@
 -- Place: refusals 2 to 13, and the batch that it writes.
-use Prim.Native.Nat.{ℕ, _+_, _-_, _*_, _/_, _%_, _^_}
+use Prim.Native.Nat.{ℕ, _+_, _*_, _/_, _%_, _^_}
 use mathlib.Core.List.{List, [], _∷_, map, flatMap}
 use mathlib.Core.Bool.{Bool, not, _&&_, _||_, cond}
 use lib.IntN.{ℤ, pos, negℤ, _+ℤ_}

@@ -3,7 +3,7 @@ use mathlib.Core.Path.{_≡_}
 use Prim.Native.Nat.{ℕ, _+_, _≤_}
 use native.Mathlib.Omega.{arith}
 use mathlib.Core.List.{List}
-use mathlib.Core.Option.{some, none}
+use mathlib.Core.Option.{none}
 use lib.ListN.{length, take, drop, set, length-take}
 use lib.Seq.{drop-drop}
 use borrow.Author.Tests.{le-ltb}

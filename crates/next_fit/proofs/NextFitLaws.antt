@@ -41,9 +41,6 @@ module _ (B i u z : ℕ) where
             let h : _≡_ {A = Slot} (record { index = suc i; offset = 0 }) t = cc in
             inr (let g : t .index ≡ suc i = ap (λ (x : Slot). x .index) (sym h) in omega arith, ap (λ (x : Slot). x .offset) (sym h))
 
-    pub fit-low : i ≤ t .index
-    fit-low = ⊎-elim (λ c. omega (arith, c .0)) (λ c. omega (arith, c .0)) fit-cases
-
     pub fit-high : t .index ≤ i + 1
     fit-high = ⊎-elim (λ c. omega (arith, c .0)) (λ c. omega (arith, c .0)) fit-cases
 

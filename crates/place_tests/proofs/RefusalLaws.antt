@@ -1,12 +1,12 @@
 -- Refusals 4 to 13, one after the other, and what they tell where none is met.
-use mathlib.Core.Path.{_≡_, refl, ap, sym, _∙_}
-use mathlib.Core.Bool.{Bool, true, false, not, _&&_, _||_, cond}
-use mathlib.Core.List.{List, [], _∷_, _++_}
-use Prim.Native.Nat.{ℕ, _+_, _≤_, _<_}
+use mathlib.Core.Path.{_≡_, ap, sym, _∙_}
+use mathlib.Core.Bool.{Bool, true, false, not, _&&_, _||_}
+use mathlib.Core.List.{List, [], _∷_}
+use Prim.Native.Nat.{ℕ, _≤_, _<_}
 use native.Mathlib.Omega.{arith}
 use lib.Dec.{leb, eqb}
 use lib.ListN.{take}
-use borrow.Author.Tests.{eq-eqb, ne-eqb, eqb-true, eqb-false, leb-true, not-true}
+use borrow.Author.Tests.{eqb-false, leb-true, not-true}
 use Rattle.calls.specs.Lists.{allOf}
 use Rattle.calls.specs.CallList as calls
 use Rattle.calls.specs.CallList.{CallList}
@@ -14,43 +14,9 @@ use Rattle.calls.specs.Freespace.{isIn, runsOf, overlaps, freeCount, wanted}
 use Rattle.calls.specs.Pieces.{bucketsNeeded, kindListed, blockOf, divides, pieceSized}
 use Rattle.calls.specs.Place.{slotsOf, walkOf, placeTests}
 use Rattle.calls.specs.Refusals.{test, verdict}
-use Rattle.calls.proofs.answers.RefusalLaws.{verdict-ok, verdict-front, test-ok}
+use Rattle.calls.proofs.answers.RefusalLaws.{verdict-ok, verdict-front, verdict-next, verdict-stops, verdict-past, verdict-first, verdict-one, test-ok}
 use Rattle.reader.specs.Heads.{headIn}
 use Rattle.reader.specs.declared.head.Head.{Head}
-
--- a test that holds, and one that fails
-pub verdict-next : (n : ℕ) (t : Bool) (ns : List ℕ) → t ≡ true → verdict (test n t ∷ ns) ≡ verdict ns
-unfolding verdict
-verdict-next n t ns e = rw e
-
-pub verdict-stops : (n : ℕ) (t : Bool) (ns : List ℕ) → 0 < n → t ≡ false → verdict (test n t ∷ ns) ≡ n
-unfolding verdict
-verdict-stops n t ns p e = rw (e, ne-eqb n 0 (omega arith))
-
--- tests that all hold, and tests of which one fails
-verdict-past : (ns ms : List ℕ) → verdict ns ≡ 0 → verdict (ns ++ ms) ≡ verdict ms
-unfolding verdict
-verdict-past [] ms z = refl
-verdict-past (n ∷ ns) ms z =
-    let v = verdict-ok n ns z in
-    ap (λ (t : Bool). cond t (verdict (ns ++ ms)) n) (eq-eqb n 0 (v .0)) ∙ verdict-past ns ms (v .1)
-
-verdict-first : (ns ms : List ℕ) → (verdict ns ≡ 0 → ⊥) → verdict (ns ++ ms) ≡ verdict ns
-unfolding verdict
-verdict-first [] ms p = absurd (p refl)
-verdict-first (n ∷ ns) ms p = go (eqb n 0) p (verdict-first ns ms)
-  where
-    go : (t : Bool) → (cond t (verdict ns) n ≡ 0 → ⊥) → ((verdict ns ≡ 0 → ⊥) → verdict (ns ++ ms) ≡ verdict ns) → cond t (verdict (ns ++ ms)) n ≡ cond t (verdict ns) n
-    go true q ih = ih q
-    go false q ih = refl
-
-verdict-one : (n : ℕ) → verdict (n ∷ []) ≡ n
-unfolding verdict
-verdict-one n = go (eqb n 0) refl
-  where
-    go : (t : Bool) → eqb n 0 ≡ t → cond t 0 n ≡ n
-    go true e = sym (eqb-true n 0 e)
-    go false e = refl
 
 -- ---- 4 to 9: the tests from one on, by the head that the code holds
 module _ (c : CallList) (h : Head) where

@@ -38,21 +38,21 @@ block-is block = (λ e. omega arith, λ n. omega arith)
 
 -- refusal 9's test, one bound after the other
 module _ (bucket block : ℕ) (p : Piece) where
-  pub file-low : p .file < 1 → pieceSized bucket block p ≡ false
+  pub no-file : p .file < 1 → pieceSized bucket block p ≡ false
   unfolding pieceSized
-  file-low h = rw (lt-leb 1 (p .file) h)
+  no-file h = rw (lt-leb 1 (p .file) h)
 
-  pub file-high : min 128 bucket < p .file → pieceSized bucket block p ≡ false
+  pub file-too-long : min 128 bucket < p .file → pieceSized bucket block p ≡ false
   unfolding pieceSized
-  file-high h = simp (lt-leb (p .file) (min 128 bucket) h, and-false)
+  file-too-long h = simp (lt-leb (p .file) (min 128 bucket) h, and-false)
 
-  pub stored-low : p .stored < 1 → pieceSized bucket block p ≡ false
+  pub no-stored : p .stored < 1 → pieceSized bucket block p ≡ false
   unfolding pieceSized
-  stored-low h = simp (lt-leb 1 (p .stored) h, and-false)
+  no-stored h = simp (lt-leb 1 (p .stored) h, and-false)
 
-  pub stored-high : p .file < p .stored → pieceSized bucket block p ≡ false
+  pub stored-too-long : p .file < p .stored → pieceSized bucket block p ≡ false
   unfolding pieceSized
-  stored-high h = simp (lt-leb (p .stored) (p .file) h, and-false)
+  stored-too-long h = simp (lt-leb (p .stored) (p .file) h, and-false)
 
   pub file-broken : divides block (p .file) ≡ false → pieceSized bucket block p ≡ false
   unfolding pieceSized

@@ -7,10 +7,10 @@ use native.Mathlib.Omega.{arith}
 use lib.IntN.{pos, negℤ, _+ℤ_}
 use lib.ListN.{length, getD}
 use lib.Dec.{eqb}
-use borrow.Author.Tests.{eq-eqb, ne-eqb, lt-ltb}
+use borrow.Author.Tests.{eq-eqb, lt-ltb}
 use Rattle.wire.specs.Encode.{encode, encodeField}
 use Rattle.wire.specs.Rows.{rowField}
-use Rattle.wire.specs.Kinds.{sameBucket, bucketBelow, bucketsIn, bucketInRange}
+use Rattle.wire.specs.Kinds.{bucketBelow, bucketsIn, bucketInRange}
 use Rattle.wire.specs.Positions.{backpointerAt}
 use Rattle.wire.specs.declared.kinds.Bucket.{Bucket}
 use Rattle.wire.proofs.EncodeLaws.{encode-append, encode-one}
@@ -18,7 +18,7 @@ use Rattle.calls.specs.Accounting.{countedRows, sectorsRow, bucketsRow}
 use Rattle.calls.specs.CallList.{Head, Volume, Freed, treeFields}
 use Rattle.calls.specs.ChangeList.{Batch, endField, batchFields, changeFields, changeBytes}
 use Rattle.calls.specs.Freespace.{isIn}
-use Rattle.calls.specs.Lists.{allOf, anyOf, those, total, isEmpty, inOrder}
+use Rattle.calls.specs.Lists.{allOf, anyOf, those, total, inOrder}
 use Rattle.calls.specs.Lru.{needDiscardKey}
 use Rattle.calls.specs.Place.{rootMissing, rootsIf}
 use Rattle.calls.specs.Release.{freedOk, freedBuckets, freedIn, isEmptied, releasedKey, releasedLru, emptiedGen, gensQueued, unusedChange, releaseRows, releaseBatch}

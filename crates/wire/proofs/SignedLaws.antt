@@ -3,7 +3,7 @@ use mathlib.Core.Path.{_≡_, sym, ap, _∙_}
 use mathlib.Core.Bool.{true, false}
 use Prim.Native.Nat.{ℕ, zero, suc, _+_, _≤_, _<_, _^_}
 use native.Mathlib.Omega.{arith}
-use lib.IntN.{ℤ, pos, negsuc, negℤ, _+ℤ_, _-ℤ_, +ℤ-idl, negℤ-+ℤ}
+use lib.IntN.{ℤ, pos, negsuc, negℤ, _+ℤ_, _-ℤ_, +ℤ-idl}
 use lib.ListN.{length}
 use lib.Signed.{ltZ, mag}
 use mir.Syntax.{w64}
@@ -41,10 +41,6 @@ minus-fits (suc n) h = record { sfits = omega arith }
 -- n below zero is what the machine's 0 - n is
 pub zero-minus : (n : ℕ) → n < 2 ^ 63 → pos 0 -ℤ toZ w64 n ≡ negℤ (pos n)
 zero-minus n h = ap (λ (z : ℤ). pos 0 -ℤ z) (toZ-pos w64 n h) ∙ +ℤ-idl (negℤ (pos n))
-
--- a sum of two numbers at or below zero
-pub neg-add : (a b : ℕ) → negℤ (pos a) +ℤ negℤ (pos b) ≡ negℤ (pos (a + b))
-neg-add a b = sym (negℤ-+ℤ (pos a) (pos b))
 
 pub signed-length : (z : ℤ) → length (signedBytes z) ≡ 8
 unfolding signedBytes

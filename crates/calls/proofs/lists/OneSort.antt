@@ -1,9 +1,9 @@
 -- Lists that have one sort: those in which every element stands as often, no position twice; and those in which the elements at each position stand
 -- in the same order.
 use mathlib.Core.Path.{_≡_, refl, ap, sym, _∙_}
-use mathlib.Core.Bool.{Bool, true, false, not, _&&_, _||_, cond}
-use mathlib.Core.List.{List, [], _∷_, _++_, map}
-use Prim.Native.Nat.{ℕ, zero, suc, _+_, _≤_, _<_}
+use mathlib.Core.Bool.{Bool, true, false, not, _&&_, cond}
+use mathlib.Core.List.{List, [], _∷_}
+use Prim.Native.Nat.{ℕ, _+_, _<_}
 use native.Mathlib.Omega.{arith}
 use Rattle.wire.specs.Bytes.{All, none, more}
 use Rattle.calls.specs.Lists.{those, inOrder, total, one, count}

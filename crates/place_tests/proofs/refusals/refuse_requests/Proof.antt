@@ -12,7 +12,8 @@ use Rattle.calls.specs.Lists.{allOf}
 use Rattle.calls.specs.Pieces.{blockOf, divides, pieceSized}
 use Rattle.calls.specs.Place.{placeTests}
 use Rattle.calls.specs.Refusals.{verdict}
-use Rattle.place_tests.proofs.RefusalLaws.{verdict-next, verdict-stops, from-5, from-6, from-7, from-8, from-9, first-tests}
+use Rattle.calls.proofs.answers.RefusalLaws.{verdict-next, verdict-stops}
+use Rattle.place_tests.proofs.RefusalLaws.{from-5, from-6, from-7, from-8, from-9, first-tests}
 use borrow.Author.Needs.{needs}
 use Rattle.place_tests.proofs.refusals.refuse_requests.Statement.{statement}
 use Rattle.place_tests.proofs.refusals.refuse_requests.Tie as tie

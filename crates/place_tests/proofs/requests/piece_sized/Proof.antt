@@ -1,26 +1,26 @@
 -- `piece_sized` meets its contract.
 use mathlib.Core.Path.{sym, _∙_}
 use borrow.Author.Tests.{not-true, not-false}
-use Rattle.place_tests.proofs.RequestLaws.{file-low, file-high, stored-low, stored-high, file-broken, stored-broken, sized-else}
+use Rattle.place_tests.proofs.RequestLaws.{no-file, file-too-long, no-stored, stored-too-long, file-broken, stored-broken, sized-else}
 use native.Mathlib.Omega.{arith}
 use borrow.Author.Needs.{needs}
 use Rattle.place_tests.proofs.requests.piece_sized.Statement.{statement}
 use Rattle.place_tests.proofs.requests.piece_sized.Tie as tie
 
 returns : tie.Need-returns
-returns c = sym (file-low _ _ _ (c .if1 .taken))
+returns c = sym (no-file _ _ _ (c .if1 .taken))
 
 returns-2 : tie.Need-returns-2
-returns-2 c = sym (file-high _ _ _ (omega arith))
+returns-2 c = sym (file-too-long _ _ _ (omega arith))
 
 returns-3 : tie.Need-returns-3
-returns-3 c = sym (file-high _ _ _ (omega arith))
+returns-3 c = sym (file-too-long _ _ _ (omega arith))
 
 returns-4 : tie.Need-returns-4
-returns-4 c = sym (stored-low _ _ _ (c .if4 .taken))
+returns-4 c = sym (no-stored _ _ _ (c .if4 .taken))
 
 returns-5 : tie.Need-returns-5
-returns-5 c = sym (stored-high _ _ _ (c .if5 .taken))
+returns-5 c = sym (stored-too-long _ _ _ (c .if5 .taken))
 
 divides-requires : tie.Need-divides-requires
 divides-requires c κs = search needs
