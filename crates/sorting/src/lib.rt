@@ -3,4 +3,5 @@ pub mod bound;
 pub mod entries;
 pub mod last;
 pub mod places;
+pub mod repeats;
 pub mod sort;
