@@ -8,6 +8,7 @@ pub mod SectionLaws
 pub mod BoundLaws
 pub mod ChunkLaws
 pub mod PassLaws
+pub mod AlikeLaws
 pub mod HeldLaws
 pub mod TableLaws
 pub mod WalkLaws
