@@ -3,3 +3,4 @@ pub mod Places
 pub mod Bounds
 pub mod Entries
 pub mod EntryPlaces
+pub mod Chunks

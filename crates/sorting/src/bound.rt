@@ -1,6 +1,6 @@
 // Positions on one side of another.
 ghost use mathlib.Core.Path.{_≡_};
-ghost use Rattle.sorting.specs.Bounds.{over, under};
+ghost use Rattle.sorting.specs.Bounds.{over, under, within};
 use wire::bpos;
 use wire::bpos::Bpos;
 
@@ -30,4 +30,18 @@ pub fn is_under(b: Bound, p: Bpos) -> bool
         return bpos::pos_less(p, q);
     }
     true
+}
+
+// Whether a position is above one bound, and not above another.
+pub fn is_within(low: Bound, high: Bound, p: Bpos) -> bool
+    ensures { λ r. ⌜ r ≡ within low high p ⌝ }
+{
+    if !is_over(low, p) {
+        return false;
+    }
+    if !high.any {
+        return true;
+    }
+    let past = bpos::pos_less(high.pos, p);
+    !past
 }
