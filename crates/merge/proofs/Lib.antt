@@ -6,7 +6,6 @@ pub mod MergeLaws
 pub mod SectionLaws
 pub mod CountLaws
 pub mod GatherLaws
-pub mod SectionNumbers
 pub mod CollectLaws
 pub mod TableLaws
 pub mod SortQueueLaws

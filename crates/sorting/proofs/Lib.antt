@@ -12,3 +12,4 @@ pub mod AlikeLaws
 pub mod HeldLaws
 pub mod TableLaws
 pub mod WalkLaws
+pub mod SectionNumbers

@@ -9,9 +9,8 @@ use lib.Dec.{leb, eqb}
 use lib.ListN.{getD}
 use borrow.Author.Tests.{eqb-true, leb-true}
 use Rattle.calls.proofs.lists.BoolLaws.{parts}
-use Rattle.sorting.specs.Places.{isTree}
+use Rattle.sorting.specs.Places.{isTree, isSection}
 use Rattle.sorting.specs.Entries.{sections}
-use Rattle.merge.specs.QueueTable.{isSection}
 
 tree-range : (t : ℕ) → isTree t ≡ true → (t ≡ 4) ⊎ ((10 ≤ t) × (t ≤ 14))
 unfolding isTree
