@@ -8,6 +8,9 @@ use Rattle.apply.proofs.RefusalLaws.{volume-broken, change-broken, volu
 use Rattle.apply.proofs.apply.apply_by.Statement.{statement}
 use Rattle.apply.proofs.apply.apply_by.Tie as tie
 
+abbrev start : tie.After-read-volume → tie.Start
+start v = v .before .before .before .before .before .before
+
 read-volume-requires : tie.Need-read-volume-requires
 read-volume-requires c κs = search needs
 
@@ -20,7 +23,7 @@ same-length c = search needs
 returns : tie.Need-returns
 returns c =
     let v = c .before .before .before .before .before .before in
-    let s = v .before .before .before .before .before .before in
+    let s = start v in
     let a = rw (c .before .before .number .given .1) at (v .read-volume .ensures) in
     rw (s .pre .1) (volume-broken (now (s .args .volume)) (now (s .args .change)) (now (s .args .out)) (sym (c .if1 .taken) ∙ a .0) refl)
 
@@ -33,7 +36,7 @@ same-length-2 c = search needs
 returns-2 : tie.Need-returns-2
 returns-2 c =
     let k = c .before in
-    let s = k .before .before .before .before .before .before .before .before .before .before .before .before .before in
+    let s = start (k .before .before .before .before .before .before .before) in
     rw (s .pre .1)
     (change-broken (now (s .args .volume)) (now (s .args .change)) (now (s .args .out))
     (sym (k .check-change .ensures) ∙ not-true (k .check-change .result) (c .if2 .taken)))
@@ -50,7 +53,7 @@ same-length-3 c = search needs
 returns-3 : tie.Need-returns-3
 returns-3 c =
     let k = c .before in
-    let s = k .before .before .before .before .before .before .before .before .before .before .before .before in
+    let s = start (k .before .before .before .before .before .before) in
     rw (s .pre .1)
     (change-broken (now (s .args .volume)) (now (s .args .change)) (now (s .args .out))
     (sym (k .check-change2 .ensures) ∙ not-true (k .check-change2 .result) (c .if3 .taken)))
@@ -60,7 +63,7 @@ apply-lists-requires c κs =
     let k = c .before .before .before .before in
     let v = k .before .before .before .before .before .before in
     let a = rw (k .before .before .h .given .1) at (v .read-volume .ensures) in
-    ready (now (v .before .before .before .before .before .before .args .volume)) (a .0) refl (a .1)
+    ready (now (start v .args .volume)) (a .0) refl (a .1)
     (sym (k .check-change2 .ensures) ∙ not-false (k .check-change2 .result) (c .before .before .before .if3 .left))
 
 same-length-4 : tie.Need-same-length-4
@@ -70,7 +73,7 @@ returns-4 : tie.Need-returns-4
 returns-4 c =
     let k = c .before in
     let v = k .before .before .before .before .before .before .before in
-    let s = v .before .before .before .before .before .before in
+    let s = start v in
     let a = rw (k .before .before .before .number .given .1) at (v .read-volume .ensures) in
     rw (s .pre .1)
     (volume-over (now (s .args .volume)) (now (s .args .change)) (now (s .args .out)) (a .0) (k .before .if1 .left)

@@ -19,6 +19,10 @@ Inv-loop out₀ vol index roots e list table q p at₀ from₀ first₀ i₀ out
 abbrev μ-loop : tie.MeasureT-loop
 μ-loop out₀ vol index roots e list table q p at₀ from₀ first₀ i₀ out at from first i = 7 - i
 
+-- the call's start, from before the loop, so that `rw` of the loop's numbers leaves it alone
+abbrev start : tie.After-slice-known2 Inv-loop μ-loop → tie.Start Inv-loop μ-loop
+start c = c .before .before .before .before .before .before .before .before .before
+
 put-front-requires : tie.Need-put-front-requires Inv-loop μ-loop
 put-front-requires c κs = tt
 
@@ -34,27 +38,24 @@ queue-end-requires c κs = c .before .loop-test .taken
 -- the section's places, and those of its queued keys
 keys :
     (c : tie.After-queue-end Inv-loop μ-loop)
-    → SectionAt (now (c .before .before .before .before .before .before .before .before .before .before .before .before .before .args .vol))
-    (now (c .before .before .before .before .before .before .before .before .before .before .before .before .before .args .index))
-    (getD sections (c .before .before .before .loop .i) 0)
-    (c .before .before .before .loop .from)
+    → let l = c .before .before .before in
+    let a = start (l .before) .args in
+    SectionAt (now (a .vol)) (now (a .index)) (getD sections (l .loop .i) 0) (l .loop .from)
     (c .before .end-at .result)
 keys c =
     let l = c .before .before .before in
-    let s = l .before .before .before .before .before .before .before .before .before .before in
+    let s = start (l .before) in
     rw (l .loop .inv .starts, c .before .end-at .ensures) (section-at (parted (s .pre .0 .laid)) (s .pre .0 .read) (l .loop .i) (c .before .before .loop-test .taken))
 
 queue :
     (c : tie.After-queue-end Inv-loop μ-loop)
-    → QueueAt (now (c .before .before .before .before .before .before .before .before .before .before .before .before .before .args .list))
-    (now (c .before .before .before .before .before .before .before .before .before .before .before .before .before .args .table))
-    (c .before .before .before .before .before .before .before .before .before .before .before .before .before .args .q)
-    (getD sections (c .before .before .before .loop .i) 0)
-    (c .before .before .before .loop .first)
+    → let l = c .before .before .before in
+    let a = start (l .before) .args in
+    QueueAt (now (a .list)) (now (a .table)) (a .q) (getD sections (l .loop .i) 0) (l .loop .first)
     (c .queue-end .result)
 queue c =
     let l = c .before .before .before in
-    let s = l .before .before .before .before .before .before .before .before .before .before in
+    let s = start (l .before) in
     rw (l .loop .inv .queue, c .queue-end .ensures) (queue-at _ _ _ (s .pre .1) (l .loop .i) (c .before .before .loop-test .taken))
 
 mul-put-next : tie.Need-mul-put-next Inv-loop μ-loop
@@ -88,7 +89,7 @@ put-next-requires : tie.Need-put-next-requires Inv-loop μ-loop
 put-next-requires c κs =
     let q = c .before .before .before .before in
     let l = q .before .before .before in
-    let s = l .before .before .before .before .before .before .before .before .before .before in
+    let s = start (l .before) in
     let p = parted (s .pre .0 .laid) in
     rw (c .section-at .ensures)
     (section-ready (all-nth 0 (p .each) (l .loop .i) (q .before .before .loop-test .taken)) (keys q), queue q .ready)
@@ -112,7 +113,7 @@ same-length c = part-length (c .before .loop .inv .part) ∙ wrote-length (c .be
 
 returns : tie.Need-returns Inv-loop μ-loop
 returns c =
-    let s = c .before .before .before .before .before .before .before .before .before .before .before in
+    let s = start (c .before .before) in
     sections-end (parted (s .pre .0 .laid)) (s .pre .0) (s .pre .2) (c .before .before .before .before .put-front .ensures) (c .before .loop .inv) (c .loop-test .left)
 
 pub put-volume-spec : {M : Type 1} → statement M

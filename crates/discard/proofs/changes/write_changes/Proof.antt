@@ -10,6 +10,9 @@ use borrow.Author.Needs.{needs}
 use Rattle.discard.proofs.changes.write_changes.Statement.{statement}
 use Rattle.discard.proofs.changes.write_changes.Tie as tie
 
+abbrev start : tie.After-discard-freed → tie.Start
+start c = c .before .before .before .before .before .before .before
+
 slice-aggregate-discard-freed : tie.Need-slice-aggregate-discard-freed
 slice-aggregate-discard-freed c = search needs
 
@@ -18,7 +21,7 @@ discard-freed-requires c κs = search needs
 
 returns : tie.Need-returns
 returns c =
-    let a = c .before .before .before .before .before .before .before .before .before .args in
+    let a = start (c .before .before) .args in
     let d = c .before .before .discard-freed .ensures in
     let bytes = changesFrom (now (a .s)) (now (a .needs)) (a .size) (now (a .discarded)) in
     refused 21 (now (a .out)) (answer-short bytes (length (now (a .out))) (short (now (a .out)) d (omega arith) (c .if1 .taken))) refl
@@ -31,8 +34,9 @@ same-length c = search needs
 
 returns-2 : tie.Need-returns-2
 returns-2 c =
-    let a = c .before .before .before .before .before .before .before .before .before .before .before .before .before .args in
-    let d = c .before .before .before .before .before .before .discard-freed .ensures in
+    let k = c .before .before .before .before .before .before in
+    let a = start k .args in
+    let d = k .discard-freed .ensures in
     let f = fits (now (a .out)) d (omega arith) (c .before .before .before .before .if1 .left) in
     let bytes = changesFrom (now (a .s)) (now (a .needs)) (a .size) (now (a .discarded)) in
     accepted bytes (now (a .out)) (answer-fits bytes (length (now (a .out))) (f .1)) (f .0) (wet (c .before .before .discard-freed2 .ensures) (f .1))

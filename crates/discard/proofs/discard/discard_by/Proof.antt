@@ -25,8 +25,9 @@ same-length c = search needs
 
 returns : tie.Need-returns
 returns c =
-    let b = c .before .before .before .before .before .before .before .before .before .before .args in
-    let a = rw (c .before .reading .given .1) at (c .before .before .before .before .before .read-call .ensures) in
+    let k = c .before .before .before .before .before in
+    let b = k .before .before .before .before .before .args in
+    let a = rw (c .before .reading .given .1) at (k .read-call .ensures) in
     refused (c .before .reading .given .0 .0) (now (b .out)) (discard-refused (now (b .list)) (length (now (b .out))) (a .0) (a .1)) refl
 
 same-length-2 : tie.Need-same-length-2

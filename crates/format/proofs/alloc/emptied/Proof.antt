@@ -13,6 +13,9 @@ use Rattle.format.proofs.alloc.emptied.Tie as tie
 long : (c : tie.Start) → length (c .args .v .bytes) ≡ 256
 long c = sym (length-map (c .args .v .bytes) (λ x. x)) ∙ c .good .0 .1 .1 .0 .1 .0 .1
 
+abbrev start : tie.After-with-le → tie.Start
+start c = c .before .before .before .before .before .before .before .before
+
 slice-aggregate-le32 : tie.Need-slice-aggregate-le32
 slice-aggregate-le32 c = search needs
 
@@ -56,18 +59,18 @@ with-le-requires-5 : tie.Need-with-le-requires-5
 with-le-requires-5 c κs = search needs
 
 with-le-requires-6 : tie.Need-with-le-requires-6
-with-le-requires-6 c κs = omega (arith, c .with-le5 .ensures .0, c .before .with-le4 .ensures .0, c .before .before .with-le3 .ensures .0, c .before .before .before .with-le2 .ensures .0, c .before .before .before .before .with-le .ensures .0, c .before .before .before .before .before .before .before .before .before .before .before .before .pre)
+with-le-requires-6 c κs = omega (arith, c .with-le5 .ensures .0, c .before .with-le4 .ensures .0, c .before .before .with-le3 .ensures .0, c .before .before .before .with-le2 .ensures .0, c .before .before .before .before .with-le .ensures .0, start (c .before .before .before .before) .pre)
 
 with-le-requires-7 : tie.Need-with-le-requires-7
-with-le-requires-7 c κs = omega (arith, c .with-le6 .ensures .0, c .before .with-le5 .ensures .0, c .before .before .with-le4 .ensures .0, c .before .before .before .with-le3 .ensures .0, c .before .before .before .before .with-le2 .ensures .0, c .before .before .before .before .before .with-le .ensures .0, c .before .before .before .before .before .before .before .before .before .before .before .before .before .pre)
+with-le-requires-7 c κs = omega (arith, c .with-le6 .ensures .0, c .before .with-le5 .ensures .0, c .before .before .with-le4 .ensures .0, c .before .before .before .with-le3 .ensures .0, c .before .before .before .before .with-le2 .ensures .0, c .before .before .before .before .before .with-le .ensures .0, start (c .before .before .before .before .before) .pre)
 
 returns : tie.Need-returns
 unfolding emptied store
 returns c =
-    let a = c .before .before .before .before .before .before .before .before .before .before .before .before .before .before .args in
     let c1 = c .before .before .before .before .before .before in
-    let f : c1 .before .before .before .before .emptied-flags .result ≡ emptiedFlags (get flags (valueIn (a .v))) = c1 .before .before .before .before .emptied-flags .ensures ∙ ap emptiedFlags (c1 .before .before .before .before .before .le32 .ensures ∙ sym (get-take flags (a .v .len) (a .v .bytes) (omega (arith, c .before .before .before .before .before .before .before .before .before .before .before .before .before .before .pre)))) in
-    let g : c1 .before .next-gen .result ≡ nextGen (get gen (valueIn (a .v))) = c1 .before .next-gen .ensures ∙ ap nextGen (c1 .before .before .le8 .ensures ∙ sym (get-take gen (a .v .len) (a .v .bytes) (omega (arith, c .before .before .before .before .before .before .before .before .before .before .before .before .before .before .pre)))) in (
+    let a = c1 .before .before .before .before .before .before .before .before .args in
+    let f : c1 .before .before .before .before .emptied-flags .result ≡ emptiedFlags (get flags (valueIn (a .v))) = c1 .before .before .before .before .emptied-flags .ensures ∙ ap emptiedFlags (c1 .before .before .before .before .before .le32 .ensures ∙ sym (get-take flags (a .v .len) (a .v .bytes) (omega (arith, start c1 .pre)))) in
+    let g : c1 .before .next-gen .result ≡ nextGen (get gen (valueIn (a .v))) = c1 .before .next-gen .ensures ∙ ap nextGen (c1 .before .before .le8 .ensures ∙ sym (get-take gen (a .v .len) (a .v .bytes) (omega (arith, start c1 .pre)))) in (
       omega (arith, c .with-le7 .ensures .0, c .before .with-le6 .ensures .0, c .before .before .with-le5 .ensures .0, c .before .before .before .with-le4 .ensures .0, c .before .before .before .before .with-le3 .ensures .0, c .before .before .before .before .before .with-le2 .ensures .0, c1 .with-le .ensures .0),
       rw (c .with-le7 .ensures .1, c .before .with-le6 .ensures .1, c .before .before .with-le5 .ensures .1, c .before .before .before .with-le4 .ensures .1, c .before .before .before .before .with-le3 .ensures .1, c .before .before .before .before .before .with-le2 .ensures .1, c1 .with-le .ensures .1, f, g),
     )

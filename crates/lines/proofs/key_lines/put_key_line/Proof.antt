@@ -7,6 +7,16 @@ use Rattle.lines.proofs.LineLaws.{key-line}
 use Rattle.lines.proofs.key_lines.put_key_line.Statement.{statement}
 use Rattle.lines.proofs.key_lines.put_key_line.Tie as tie
 
+-- the inode before the size, the tree before the inode, and the call's start
+abbrev inode : tie.After-put-next-decimal4 → tie.After-put-next-decimal2
+inode c = c .before .before .before .before .before .before .before .before
+
+abbrev tree : tie.After-put-next-decimal2 → tie.After-put-decimal
+tree c = c .before .before .before .before .before .before .before .before
+
+abbrev start : tie.After-put-decimal → tie.Start
+start c = c .before .before .before .before .before .before .before
+
 type-at-requires : tie.Need-type-at-requires
 type-at-requires c κs = search needs
 
@@ -38,7 +48,7 @@ put-next-decimal-requires-4 : tie.Need-put-next-decimal-requires-4
 put-next-decimal-requires-4 c κs = search needs
 
 add-put-words : tie.Need-add-put-words
-add-put-words c = let a = c .before .before .before .before .before .before .before .before .before .before .before .before .before .before .before .before .before .before .before .before .before .before .before .before .before .before in omega (arith, a .pre .0, a .good)
+add-put-words c = let a = start (tree (inode (c .before .before .before))) in omega (arith, a .pre .0, a .good)
 
 sub-put-words : tie.Need-sub-put-words
 sub-put-words c = search needs
@@ -57,11 +67,11 @@ returns c =
     let c6 = c .before .before .before .before .before .before in
     let c5 = c6 .before .before .before .before in
     let c4 = c5 .before .before .before .before in
-    let c3 = c4 .before .before .before .before in
+    let c3 = inode c5 in
     let c2 = c3 .before .before .before .before in
-    let c1 = c2 .before .before .before .before in
+    let c1 = tree c3 in
     let r = c1 .before .before in
-    let a = r .before .before .before .before .before in
+    let a = start c1 in
     emitted
     (key-line _ (a .args .tree) (a .args .start) (a .args .len) _ _ _ (a .pre .0) (a .pre .1) (r .before .before .type-at .ensures) (r .before .size-at .ensures)
     (r .pos-at .ensures))

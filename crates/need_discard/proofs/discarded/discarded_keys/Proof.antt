@@ -17,6 +17,10 @@ Inv-loop discarded₀ s alloc needs table n₀ i₀ discarded n i =
 abbrev μ-loop : tie.MeasureT-loop
 μ-loop discarded₀ s alloc needs table n₀ i₀ discarded n i = length alloc - i
 
+-- the call's start
+abbrev start : tie.At-loop Inv-loop μ-loop → tie.Start Inv-loop μ-loop
+start l = l .before .before .before .before .before .before
+
 loop-holds : tie.Need-loop-holds Inv-loop μ-loop
 loop-holds c = let a = c .before .before .before .before .before .args in (omega arith, omega arith, refl, chosen-none (now (a .s)) (now (a .needs)) (now (a .alloc)) (now (a .discarded)))
 
@@ -27,7 +31,7 @@ shared-slice-read-o : tie.Need-shared-slice-read-o Inv-loop μ-loop
 shared-slice-read-o c = omega arith
 
 is-discarded-requires : tie.Need-is-discarded-requires Inv-loop μ-loop
-is-discarded-requires c κs = (all-nth 0 (c .before .before .before .before .before .before .before .before .before .pre .0) (c .before .before .before .loop .i) (omega arith), c .before .before .before .before .before .before .before .before .before .pre .2)
+is-discarded-requires c κs = let l = c .before .before .before in (all-nth 0 (start l .pre .0) (l .loop .i) (omega arith), start l .pre .2)
 
 add-if-requires : tie.Need-add-if-requires Inv-loop μ-loop
 add-if-requires c κs = omega arith
@@ -40,8 +44,9 @@ loop-less c = omega arith
 
 loop-again : tie.Need-loop-again Inv-loop μ-loop
 loop-again c =
-    let a = c .before .before .before .before .before .before .before .before .before .before .before .before .before .args in
-    let l = c .before .before .before .before .before .before .before .loop in
+    let t = c .before .before .before .before .before .before .before in
+    let a = start t .args in
+    let l = t .loop in
     (omega arith, omega arith, c .before .before .add-if .kept .0 ∙ l .inv .2, chosen-more (now (a .s)) (now (a .needs)) (now (a .alloc)) (l .i) (omega arith) (c .before .before .before .is-discarded .ensures) (l .inv .3) (c .before .before .add-if .ensures .1))
 
 same-length : tie.Need-same-length Inv-loop μ-loop
@@ -49,7 +54,7 @@ same-length c = c .before .loop .inv .2
 
 returns : tie.Need-returns Inv-loop μ-loop
 returns c =
-    let a = c .before .before .before .before .before .before .before .args in
+    let a = start (c .before) .args in
     let l = c .before .loop in
     (omega arith, chosen-all (now (a .s)) (now (a .needs)) (now (a .alloc)) (l .i) (omega arith) (l .inv .3))
 

@@ -13,6 +13,13 @@ use borrow.Author.Needs.{needs}
 use Rattle.need_discard.proofs.discarded.is_discarded.Statement.{statement}
 use Rattle.need_discard.proofs.discarded.is_discarded.Tie as tie
 
+-- the call's start, and the key's position
+abbrev start : tie.After-pos-at → tie.Start
+start c = c .before .before .before .before .before .before
+
+abbrev pos : tie.After-value-at → tie.After-pos-at
+pos v = v .before .before .before .before .before
+
 type-at-requires : tie.Need-type-at-requires
 type-at-requires c κs = search needs
 
@@ -24,7 +31,7 @@ pos-at-requires c κs = search needs
 
 returns-2 : tie.Need-returns-2
 returns-2 c =
-    let a = c .before .before .before .before .before .before .before .before .args in
+    let a = start (c .before .before) .args in
     other-inode (now (a .s)) (now (a .needs)) (a .o) (λ e. c .if2 .taken (ap (λ (p : Bpos). p .inode) (c .before .before .pos-at .ensures) ∙ e))
 
 value-len-requires : tie.Need-value-len-requires
@@ -32,23 +39,19 @@ value-len-requires c κs = search needs
 
 returns-3 : tie.Need-returns-3
 returns-3 c =
-    let a = c .before .before .before .before .before .before .before .before .before .before .args in
+    let a = start (c .before .before .before .before) .args in
     short-value (now (a .s)) (now (a .needs)) (a .o) (omega (arith, c .before .value-len .ensures))
 
 value-at-requires : tie.Need-value-at-requires
 value-at-requires c κs = search needs
 
--- the call's start, where the value is found
-abbrev start : tie.After-value-at → tie.Start
-start c = c .before .before .before .before .before .before .before .before .before .before .before
-
 -- the value is long enough, and so lies in the list
-long : (c : tie.After-value-at) → let a = start c .args in 56 ≤ length (keyHere (now (a .s)) (a .o) .value)
+long : (c : tie.After-value-at) → let a = start (pos c) .args in 56 ≤ length (keyHere (now (a .s)) (a .o) .value)
 long c = omega (arith, c .before .before .value-len .ensures, c .before .if3 .left)
 
-ends : (c : tie.After-value-at) → c .value-at .result + 56 ≤ length (now (start c .args .s))
+ends : (c : tie.After-value-at) → c .value-at .result + 56 ≤ length (now (start (pos c) .args .s))
 ends c =
-    let a = start c in
+    let a = start (pos c) in
     value-ends (now (a .args .s)) (now (a .args .needs)) (a .args .o) (a .pre .0 .kept) (long c) (c .value-at .ensures)
 
 data-type-requires : tie.Need-data-type-requires
@@ -57,7 +60,7 @@ data-type-requires c κs = omega (arith, ends c)
 returns-4 : tie.Need-returns-4
 returns-4 c =
     let v = c .before .before in
-    let a = start v in
+    let a = start (pos v) in
     other-data (now (a .args .s)) (now (a .args .needs)) (a .args .o) (a .pre .0 .kept) (long v) (v .value-at .ensures) (c .before .data-type .ensures) (c .if4 .taken)
 
 gen-taken-requires : tie.Need-gen-taken-requires
@@ -66,7 +69,7 @@ gen-taken-requires c κs = omega (arith, ends (c .before .before))
 returns-5 : tie.Need-returns-5
 returns-5 c =
     let v = c .before .before .before .before in
-    let a = start v in
+    let a = start (pos v) in
     gen-left (now (a .args .s)) (now (a .args .needs)) (a .args .o) (a .pre .0 .kept) (long v) (v .value-at .ensures) (c .before .gen-taken .ensures) (not-true _ (c .if5 .taken))
 
 bucket-in-requires : tie.Need-bucket-in-requires
@@ -74,17 +77,18 @@ bucket-in-requires c κs = search needs
 
 is-waiting-requires : tie.Need-is-waiting-requires
 is-waiting-requires c κs =
-    let p = c .before .before .before .before .before .before .before .before .before .before .pos-at .ensures in
-    let a = c .before .before .before .before .before .before .before .before .before .before .before .before .before .before .before .before .pre in
-    (a .1, rw (c .bucket-in .ensures ∙ ap bucketIn p) (a .0 .below (sym (ap (λ (p : Bpos). p .inode) p) ∙ c .before .before .before .before .before .before .before .before .if2 .left)))
+    let v = c .before .before .before .before .before in
+    let p = pos v .pos-at .ensures in
+    let a = start (pos v) .pre in
+    (a .1, rw (c .bucket-in .ensures ∙ ap bucketIn p) (a .0 .below (sym (ap (λ (p : Bpos). p .inode) p) ∙ v .before .before .before .if2 .left)))
 
 returns-6 : tie.Need-returns-6
 returns-6 c =
     let v = c .before .before .before .before .before .before in
-    let a = start v in
-    let p = v .before .before .before .before .before .pos-at .ensures in
+    let a = start (pos v) in
+    let p = pos v .pos-at .ensures in
     all-passed (now (a .args .s)) (now (a .args .needs)) (a .args .o) (a .pre .0 .kept) (long v) (v .value-at .ensures)
-    (sym (v .before .before .before .before .before .before .before .type-at .ensures) ∙ v .before .before .before .before .before .before .if1 .left)
+    (sym (pos v .before .before .type-at .ensures) ∙ pos v .before .if1 .left)
     (sym (ap (λ (p : Bpos). p .inode) p) ∙ v .before .before .before .if2 .left)
     (c .before .before .before .before .before .data-type .ensures)
     (c .before .before .before .before .if4 .left)

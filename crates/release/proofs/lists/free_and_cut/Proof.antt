@@ -109,7 +109,7 @@ unused-in-requires : tie.Need-unused-in-requires
 unused-in-requires c κs = let a = sized (c .before) in (tables-in (a .pre), tables-few (a .pre), small (c .before))
 
 put-allocs-requires : tie.Need-put-allocs-requires
-put-allocs-requires c κs = tables-at (c .before .before .before .before .before .before .before .before .before .before .before .before .before .pre)
+put-allocs-requires c κs = tables-at (sized (counted (c .before)) .pre)
 
 put-lrus-requires : tie.Need-put-lrus-requires
 put-lrus-requires c κs = let d = sized (counted (summed (c .before .before .before))) .pre in (d .tables .summed .some-sectors, tables-in d)

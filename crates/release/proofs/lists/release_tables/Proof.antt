@@ -13,13 +13,23 @@ use borrow.Author.Needs.{needs}
 use Rattle.release.proofs.lists.release_tables.Statement.{statement}
 use Rattle.release.proofs.lists.release_tables.Tie as tie
 
+-- the call's start, the branch where no bucket is refused, and the emptied buckets
+abbrev start : tie.After-struct-known → tie.Start
+start c = c .before .before .before .before .before .before .before .before
+
+abbrev passed : tie.After-find-emptied → tie.Else1
+passed c = c .before .before .before
+
+abbrev found : tie.After-write-change-arg2 → tie.After-find-emptied
+found c = c .before .before .before .before .before .before
+
 size : (c : tie.Start) → c .pre .0 .volume .head .bucketSectors ≡ c .args .head .«bucket_sectors»
 size c = ap (λ (h : Head). h .bucketSectors) (c .pre .0 .head)
 
 -- as many are emptied as there is room for
 few : (c : tie.After-find-emptied) → (c .find-emptied .result ≤ length (c .find-emptied .last .1 .1 .1 .1 .0)) × (c .find-emptied .result ≤ length (c .find-emptied .last .1 .1 .1 .1 .1 .0))
 few c =
-    let a = c .before .before .before .before .before .before .before .before .before .before .before .before .before in
+    let a = start (passed c .before .before) in
     let d = a .pre .0 in
     let f = c .find-emptied in
     let m = listed-short (isEmptied (d .volume) (freedsIn (a .args .s .now) (a .args .requests .now))) (a .args .buckets .now) (f .ensures (d .volume) (freedsIn (a .args .s .now) (a .args .requests .now)) (d .tabled)) in
@@ -31,14 +41,14 @@ cast-sectors c = search needs
 
 refuse-requires : tie.Need-refuse-requires
 refuse-requires c κs =
-    let a = c .before .before .before .before .before .before .before .before in
+    let a = start c in
     let d = a .pre .0 in
     record { volume = d .volume; requests = freedsIn (a .args .s .now) (a .args .requests .now); tabled = d .tabled; recorded = d .recorded; size = size a }
 
 returns : tie.Need-returns
 returns c =
     λ d.
-    let a = c .before .before .before .before .before .before .before .before .before .before in
+    let a = start (c .before .before) in
     let e = c .before .refuse .ensures (d .volume) _ (d .tabled) (d .recorded) (ap (λ (h : Head). h .bucketSectors) (d .head)) in
     tables-stop d e _ _ _ (c .if1 .taken) (a .pre .1)
 
@@ -50,7 +60,7 @@ slice-aggregate-find-emptied-2 c = search needs
 
 find-emptied-requires : tie.Need-find-emptied-requires
 find-emptied-requires c κs =
-    let a = c .before .before .before .before .before .before .before .before .before .before .before .before in
+    let a = start (c .before .before .before .before) in
     let d = a .pre .0 in
     let e = c .before .before .before .refuse .ensures (d .volume) _ (d .tabled) (d .recorded) (size a) in
     let n = summed-few (d .summed) in
@@ -70,10 +80,11 @@ slice-aggregate-write-change-2 c = sym (length-take-le _ _ (few (c .before .befo
 
 write-change-requires : tie.Need-write-change-requires
 write-change-requires c κs =
-    let a = c .before .before .before .before .before .before .before .before .before .before .before .before .before .before .before .before .before .before .before in
+    let i = passed (found c) in
+    let a = start (i .before .before) in
     let d = a .pre .0 in
-    let e = c .before .before .before .before .before .before .before .before .before .before .refuse .ensures (d .volume) _ (d .tabled) (d .recorded) (size a) in
-    (batch-tables d e (c .before .before .before .before .before .before .before .before .before .if1 .left) (c .before .before .before .before .before .before .find-emptied .ensures (d .volume) _ (d .tabled)), a .pre .1)
+    let e = i .before .refuse .ensures (d .volume) _ (d .tabled) (d .recorded) (size a) in
+    (batch-tables d e (i .if1 .left) (found c .find-emptied .ensures (d .volume) _ (d .tabled)), a .pre .1)
 
 same-length : tie.Need-same-length
 same-length c = search needs
@@ -81,10 +92,10 @@ same-length c = search needs
 returns-2 : tie.Need-returns-2
 returns-2 c =
     λ d.
-    let a = c .before .before .before .before .before .before .before .before .before .before .before .before .before .before .before .before .before .before .before .before .before .before in
-    let e = c .before .before .before .before .before .before .before .before .before .before .before .before .before .refuse .ensures (d .volume) _ (d .tabled) (d .recorded) (ap (λ (h : Head). h .bucketSectors) (d .head)) in
-    let z = c .before .before .before .before .before .before .before .before .before .before .before .before .if1 .left in
-    tables-go d e _ _ _ z (c .before .before .write-change .ensures (batch-tables d e z (c .before .before .before .before .before .before .before .before .before .find-emptied .ensures (d .volume) _ (d .tabled))))
+    let f = found (c .before .before .before) in
+    let e = passed f .before .refuse .ensures (d .volume) _ (d .tabled) (d .recorded) (ap (λ (h : Head). h .bucketSectors) (d .head)) in
+    let z = passed f .if1 .left in
+    tables-go d e _ _ _ z (c .before .before .write-change .ensures (batch-tables d e z (f .find-emptied .ensures (d .volume) _ (d .tabled))))
 
 pub release-tables-spec : {M : Type 1} → statement M
 release-tables-spec =

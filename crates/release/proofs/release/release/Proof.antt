@@ -30,9 +30,10 @@ same-length-2 c = search needs
 
 returns-2 : tie.Need-returns-2
 returns-2 c =
-    let k = c .before .before .before .before .before .before .before .before .before .before in
+    let r = c .before .before .before .before in
+    let k = r .before .before .before .before .before .before in
     let a = k .before .before .before .before .before .before .args in
-    let e = c .before .before .before .before .release-cleared .ensures in
+    let e = r .release-cleared .ensures in
     let l : 65536 ≤ length (a .scratch .now) = omega (arith, k .before .before .if1 .left) in (
       e .0 ∙ ap (λ (n : ℕ). outcome (release (a .list .now) n (length (a .out .now))) (a .out .now)) (cleared-length (a .scratch .now) _ l (k .clear .ensures)),
       e .1 ∙ cleared-after (a .scratch .now) _ l (k .clear .ensures),

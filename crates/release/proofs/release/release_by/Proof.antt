@@ -6,6 +6,9 @@ use borrow.Author.Needs.{needs}
 use Rattle.release.proofs.release.release_by.Statement.{statement}
 use Rattle.release.proofs.release.release_by.Tie as tie
 
+abbrev start : tie.After-read-call → tie.Start
+start c = c .before .before .before .before .before .before
+
 read-call-requires : tie.Need-read-call-requires
 read-call-requires c κs = search needs
 
@@ -17,8 +20,9 @@ enum-known-reading-2 c = search needs
 
 release-parts-requires : tie.Need-release-parts-requires
 release-parts-requires c κs =
-    let a = c .before .before .before .before .before .before .before .before .before .before .before .before .before .before .before in
-    let e = rw (c .before .before .before .before .before .reading2 .given .1) at (c .before .before .before .before .before .before .before .before .before .read-call .ensures) in
+    let r = c .before .before .before .before .before .before .before .before .before in
+    let a = start r in
+    let e = rw (c .before .before .before .before .before .reading2 .given .1) at (r .read-call .ensures) in
     (e .1, e .0, a .pre .1, a .pre .2)
 
 same-length : tie.Need-same-length
@@ -26,8 +30,9 @@ same-length c = search needs
 
 returns : tie.Need-returns
 returns c =
-    let a = c .before .before .before .before .before .before .before .before .before .before .before in
-    let e = rw (c .before .reading .given .1) at (c .before .before .before .before .before .read-call .ensures) in
+    let r = c .before .before .before .before .before in
+    let a = start r in
+    let e = rw (c .before .reading .given .1) at (r .read-call .ensures) in
     (read-outcome _ _ _ (a .pre .1 .long) _ (e .0) (e .1) (a .pre .2), cleared-is _ (a .pre .1) ∙ sym (scratch-long _ (a .pre .1 .long)))
 
 same-length-2 : tie.Need-same-length-2

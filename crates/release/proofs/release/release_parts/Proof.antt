@@ -12,6 +12,9 @@ use Rattle.release.proofs.release.release_parts.Tie as tie
 abbrev start : tie.After-slice-known2 → tie.Start
 start p = p .before .before .before .before
 
+abbrev lent : tie.After-release-lists-arg6 → tie.After-slice-known2
+lent c = c .before .before .before .before .before .before
+
 abbrev ends : tie.After-slice-known2 → Ends
 ends p = start p .args .ends
 
@@ -49,7 +52,7 @@ part-release-lists-end-2 c = omega (arith, parts (c .before .before) .2 .within)
 
 release-lists-requires : tie.Need-release-lists-requires
 release-lists-requires c κs =
-    let a = c .before .before .before .before .before .before .before .before .before .before .pre in
+    let a = start (lent c) .pre in
     (parts-keyed (a .0) (a .1), (parts-requested (a .0) (a .1), parts-few (a .0) (a .1), a .2, a .3))
 
 same-length : tie.Need-same-length
@@ -60,7 +63,7 @@ same-length-2 c = search needs
 
 returns : tie.Need-returns
 returns c =
-    let a = c .before .before .before .before .before .before .before .before .before .before .before .before .before .before .before in
+    let a = start (lent (c .before .before .before .before .before)) in
     let p = a .pre in
     let e = c .before .before .before .before .release-lists .ensures in
     (parts-outcome (p .0) (p .1) _ (p .2 .long) (a .args .out .now) (e .0), e .1 ∙ sym (scratch-long _ (p .2 .long)))

@@ -18,6 +18,13 @@ Inv-loop s alloc buckets places₀ i₀ k₀ places i k = Walking s buckets plac
 abbrev μ-loop : tie.MeasureT-loop
 μ-loop s alloc buckets places₀ i₀ k₀ places i k = length buckets - k
 
+-- the call's start, and the turn of the loop that has found the key's place
+abbrev start : tie.At-loop Inv-loop μ-loop → tie.Start Inv-loop μ-loop
+start l = l .before .before .before .before .before
+
+abbrev turn : tie.After-place-here Inv-loop μ-loop → tie.At-loop Inv-loop μ-loop
+turn c = c .before .before .before .before .before
+
 loop-holds : tie.Need-loop-holds Inv-loop μ-loop
 loop-holds c = walk-starts _ _ _ _
 
@@ -36,19 +43,19 @@ alloc-at-requires c κs = tt
 skip-below-requires : tie.Need-skip-below-requires Inv-loop μ-loop
 skip-below-requires c κs =
     let l = c .before .before .before in
-    let a = l .before .before .before .before .before in
+    let a = start l in
     (a .pre .0 .0, omega (arith, l .loop .inv .low, a .pre .0 .0 .count))
 
 place-here-requires : tie.Need-place-here-requires Inv-loop μ-loop
 place-here-requires c κs =
-    let a = c .before .before .before .before .before .before .before .before .before in
+    let a = start (c .before .before .before .before) in
     ((a .pre .0 .0, a .pre .0 .1), λ h. c .skip-below .ensures .stops (omega (arith, a .pre .0 .0 .count)))
 
 mul-places : tie.Need-mul-places Inv-loop μ-loop
-mul-places c = omega (arith, c .before .before .before .before .before .before .before .before .before .before .pre .1 .1, c .before .before .before .before .before .loop .inv .size)
+mul-places c = omega (arith, start (turn c) .pre .1 .1, turn c .loop .inv .size)
 
 slice-write-places : tie.Need-slice-write-places Inv-loop μ-loop
-slice-write-places c = omega (arith, c .before .before .before .before .before .before .before .before .before .before .pre .1 .1, c .before .before .before .before .before .loop .inv .size)
+slice-write-places c = omega (arith, start (turn c) .pre .1 .1, turn c .loop .inv .size)
 
 add-k : tie.Need-add-k Inv-loop μ-loop
 add-k c = omega arith
@@ -58,8 +65,8 @@ loop-less c = omega arith
 
 loop-again : tie.Need-loop-again Inv-loop μ-loop
 loop-again c =
-    let l = c .before .before .before .before .before in
-    let a = l .before .before .before .before .before in
+    let l = turn c in
+    let a = start l in
     let s = a .args .s .now in
     let ks = keysHere s (a .args .alloc .now) in
     let e = c .before .before .alloc-at .ensures in
@@ -72,7 +79,7 @@ same-length : tie.Need-same-length Inv-loop μ-loop
 same-length c = c .before .loop .inv .size
 
 returns : tie.Need-returns Inv-loop μ-loop
-returns c = let a = c .before .before .before .before .before .before in walk-ends (a .pre .1 .1) (c .before .loop .inv) (omega arith)
+returns c = let a = start (c .before) in walk-ends (a .pre .1 .1) (c .before .loop .inv) (omega arith)
 
 pub find-allocs-spec : {M : Type 1} → statement M
 find-allocs-spec =

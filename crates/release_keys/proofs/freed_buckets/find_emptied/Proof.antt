@@ -26,11 +26,18 @@ Inv-loop s buckets freed places emptied₀ generations₀ n₀ k₀ emptied gene
 abbrev μ-loop : tie.MeasureT-loop
 μ-loop s buckets freed places emptied₀ generations₀ n₀ k₀ emptied generations n k = length buckets - k
 
+-- the call's start, and the turn of the loop at an emptied bucket
+abbrev start : tie.At-loop Inv-loop μ-loop → tie.Start Inv-loop μ-loop
+start l = l .before .before .before .before .before .before .before
+
+abbrev turn : tie.After-shared-slice-known5 Inv-loop μ-loop → tie.At-loop Inv-loop μ-loop
+turn c = c .before .before .before .before .before
+
 loop-holds : tie.Need-loop-holds Inv-loop μ-loop
 loop-holds c = (omega arith, omega arith, refl, refl, λ v rs t. pick-starts _ _ _ _)
 
 freed-bucket-requires : tie.Need-freed-bucket-requires Inv-loop μ-loop
-freed-bucket-requires c κs = (c .before .before .before .before .before .before .before .before .pre .0, omega arith)
+freed-bucket-requires c κs = (start (c .before) .pre .0, omega arith)
 
 mul-emptied : tie.Need-mul-emptied Inv-loop μ-loop
 mul-emptied c = omega arith
@@ -39,16 +46,16 @@ shared-slice-read-emptied : tie.Need-shared-slice-read-emptied Inv-loop μ-loop
 shared-slice-read-emptied c = omega arith
 
 mul-emptied-2 : tie.Need-mul-emptied-2 Inv-loop μ-loop
-mul-emptied-2 c = omega (arith, c .before .before .before .before .before .before .before .before .before .before .before .before .pre .1, c .before .before .before .before .before .loop .inv .2)
+mul-emptied-2 c = omega (arith, start (turn c) .pre .1, turn c .loop .inv .2)
 
 slice-write-emptied : tie.Need-slice-write-emptied Inv-loop μ-loop
-slice-write-emptied c = omega (arith, c .before .before .before .before .before .before .before .before .before .before .before .before .pre .1, c .before .before .before .before .before .loop .inv .2)
+slice-write-emptied c = omega (arith, start (turn c) .pre .1, turn c .loop .inv .2)
 
 emptied-gen-requires : tie.Need-emptied-gen-requires Inv-loop μ-loop
-emptied-gen-requires c κs = (c .before .before .before .before .before .before .before .before .before .before .before .before .pre .0, omega arith)
+emptied-gen-requires c κs = (start (turn c) .pre .0, omega arith)
 
 slice-write-generations : tie.Need-slice-write-generations Inv-loop μ-loop
-slice-write-generations c = omega (arith, c .before .before .before .before .before .before .before .before .before .before .before .before .before .pre .2, c .before .before .before .before .before .before .loop .inv .3)
+slice-write-generations c = let l = turn (c .before) in omega (arith, start l .pre .2, l .loop .inv .3)
 
 add-n : tie.Need-add-n Inv-loop μ-loop
 add-n c = omega arith
@@ -62,7 +69,7 @@ loop-less c = omega arith
 loop-again : tie.Need-loop-again Inv-loop μ-loop
 loop-again c =
     let l = c .before .before .before .before in
-    let a = l .before .before .before .before .before .before .before in
+    let a = start l in
     let k = l .loop .k in
     let x = c .before .before .freed-bucket .result in
     ⊎-elim
@@ -99,7 +106,7 @@ returns : tie.Need-returns Inv-loop μ-loop
 returns c =
     λ v rs t.
     let l = c .before in
-    pick-ends (l .loop .inv .4 v rs t) (those-none (isEmptied v rs) (table-none (l .before .before .before .before .before .before .before .args .buckets .now) (l .loop .k) (omega arith)))
+    pick-ends (l .loop .inv .4 v rs t) (those-none (isEmptied v rs) (table-none (start l .args .buckets .now) (l .loop .k) (omega arith)))
 
 pub find-emptied-spec : {M : Type 1} → statement M
 find-emptied-spec =

@@ -20,6 +20,13 @@ Inv-loop s records emptied generations out₀ at p₀ k₀ last₀ out p k last 
 abbrev μ-loop : tie.MeasureT-loop
 μ-loop s records emptied generations out₀ at p₀ k₀ last₀ out p k last = length emptied - k
 
+-- the call's start, and the turn of the loop that has written its record
+abbrev start : tie.At-loop Inv-loop μ-loop → tie.Start Inv-loop μ-loop
+start l = l .before .before .before .before .before .before .before
+
+abbrev entered : tie.After-slice-known2 Inv-loop μ-loop → tie.In-loop Inv-loop μ-loop
+entered c = c .before .before .before .before .before .before .before .before
+
 new-record-requires : tie.Need-new-record-requires Inv-loop μ-loop
 new-record-requires c κs = tt
 
@@ -36,28 +43,29 @@ cast-t17 : tie.Need-cast-t17 Inv-loop μ-loop
 cast-t17 c = omega (arith, c .shared-slice-known5 .given (c .before .before .loop .k))
 
 shared-slice-read-next-record : tie.Need-shared-slice-read-next-record Inv-loop μ-loop
-shared-slice-read-next-record c = omega (arith, generations-count (c .before .before .before .before .before .before .before .before .before .before .pre .1))
+shared-slice-read-next-record c = omega (arith, generations-count (start (c .before .before .before) .pre .1))
 
 next-record-requires : tie.Need-next-record-requires Inv-loop μ-loop
-next-record-requires c κs = let l = c .before .before .before in let a = l .before .before .before .before .before .before .before in (a .pre .0, range-at (a .args .emptied .now) (a .pre .2) (l .loop .k) (omega arith), l .loop .inv .1)
+next-record-requires c κs = let l = c .before .before .before in let a = start l in (a .pre .0, range-at (a .args .emptied .now) (a .pre .2) (l .loop .k) (omega arith), l .loop .inv .1)
 
 put-key-requires : tie.Need-put-key-requires Inv-loop μ-loop
 put-key-requires c κs = c .before .before .next-record .ensures .0
 
 add-k : tie.Need-add-k Inv-loop μ-loop
-add-k c = omega (arith, c .before .before .before .before .before .before .before .before .loop-test .taken, c .before .before .before .before .before .before .before .before .before .before .before .before .before .before .before .before .good)
+add-k c = let i = entered c in omega (arith, i .loop-test .taken, start (i .before) .good)
 
 loop-less : tie.Need-loop-less Inv-loop μ-loop
 loop-less c = omega arith
 
 loop-again : tie.Need-loop-again Inv-loop μ-loop
 loop-again c =
-    let l = c .before .before .before .before .before .before .before .before .before in
-    let a = l .before .before .before .before .before .before .before in
+    let i = entered c in
+    let l = i .before in
+    let a = start l in
     let k = l .loop .k in
     let n = c .before .before .before .before .before .next-record in
     let w = c .before .before .put-key .ensures in
-    let h = c .before .before .before .before .before .before .before .before .loop-test .taken in (
+    let h = i .loop-test .taken in (
       omega arith,
       n .ensures .0,
       wrote-length w ∙ l .loop .inv .2,

@@ -22,6 +22,10 @@ Inv-loop s sectors buckets freed places records k₀ k = (k ≤ length buckets) 
 abbrev μ-loop : tie.MeasureT-loop
 μ-loop s sectors buckets freed places records k₀ k = length buckets - k
 
+-- the call's start
+abbrev start : tie.At-loop Inv-loop μ-loop → tie.Start Inv-loop μ-loop
+start l = l .before .before .before .before .before .before
+
 loop-holds : tie.Need-loop-holds Inv-loop μ-loop
 loop-holds c = (omega arith, λ v rs t r e. refl)
 
@@ -35,16 +39,16 @@ cast-t14 : tie.Need-cast-t14 Inv-loop μ-loop
 cast-t14 c = omega (arith, c .shared-slice-known6 .given (c .before .before .loop .k))
 
 mul-bucket-refusal : tie.Need-mul-bucket-refusal Inv-loop μ-loop
-mul-bucket-refusal c = omega (arith, c .before .before .before .before .before .before .before .before .pre .tabled .sums)
+mul-bucket-refusal c = omega (arith, start (c .before .before) .pre .tabled .sums)
 
 shared-slice-read-bucket-refusal : tie.Need-shared-slice-read-bucket-refusal Inv-loop μ-loop
-shared-slice-read-bucket-refusal c = omega (arith, c .before .before .before .before .before .before .before .before .before .pre .tabled .sums)
+shared-slice-read-bucket-refusal c = omega (arith, start (c .before .before .before) .pre .tabled .sums)
 
 mul-bucket-refusal-2 : tie.Need-mul-bucket-refusal-2 Inv-loop μ-loop
-mul-bucket-refusal-2 c = omega (arith, c .before .before .before .before .before .before .before .before .before .pre .tabled .keys)
+mul-bucket-refusal-2 c = omega (arith, start (c .before .before .before) .pre .tabled .keys)
 
 shared-slice-read-bucket-refusal-2 : tie.Need-shared-slice-read-bucket-refusal-2 Inv-loop μ-loop
-shared-slice-read-bucket-refusal-2 c = omega (arith, c .before .before .before .before .before .before .before .before .before .before .pre .tabled .keys)
+shared-slice-read-bucket-refusal-2 c = omega (arith, start (c .before .before .before .before) .pre .tabled .keys)
 
 cast-bucket-refusal : tie.Need-cast-bucket-refusal Inv-loop μ-loop
 cast-bucket-refusal c = omega (arith, c .shared-slice-known8 .given (c .before .before .before .before .loop .k))
@@ -52,14 +56,14 @@ cast-bucket-refusal c = omega (arith, c .shared-slice-known8 .given (c .before .
 bucket-refusal-requires : tie.Need-bucket-refusal-requires Inv-loop μ-loop
 bucket-refusal-requires c κs =
     let l = c .before .before .before .before in
-    let a = l .before .before .before .before .before .before in
+    let a = start l in
     record { volume = a .pre .volume; requests = a .pre .requests; entry = entry-at (a .pre .tabled) (l .loop .k) (omega arith); recorded = a .pre .recorded; size = a .pre .size }
 
 returns : tie.Need-returns Inv-loop μ-loop
 returns c =
     λ v rs t r e.
     let l = c .before .before .before .before .before .before in
-    let a = l .before .before .before .before .before .before in
+    let a = start l in
     let f = bucketRefusal v rs in
     let k = l .loop .k in
     let h = c .before .bucket-refusal .ensures v rs (entry-at t k (omega arith)) r e in
@@ -74,7 +78,7 @@ loop-less c = omega arith
 loop-again : tie.Need-loop-again Inv-loop μ-loop
 loop-again c =
     let l = c .before .before .before .before .before .before in
-    let a = l .before .before .before .before .before .before in
+    let a = start l in
     let k = l .loop .k in (
       omega arith,
       λ v rs t r e.
@@ -86,7 +90,7 @@ returns-2 : tie.Need-returns-2 Inv-loop μ-loop
 returns-2 c =
     λ v rs t r e.
     let l = c .before in
-    let a = l .before .before .before .before .before .before in
+    let a = start l in
     sym (verdict-map-none (bucketRefusal v rs) (table-none (a .args .buckets .now) (l .loop .k) (omega arith))) ∙ l .loop .inv .1 v rs t r e ∙ tabled-verdict t e
 
 pub refuse-spec : {M : Type 1} → statement M

@@ -23,8 +23,9 @@ same-length c = search needs
 returns-2 : tie.Need-returns-2
 unfolding rootMissing
 returns-2 c =
-    let a = c .before .before .before .before .before .before .before .before .before .before in
-    emitted (sym (roots-both (a .args .emptied) (a .args .roots) (c .before .before .before .before .before .before .before .before .if1 .left))) (and-then (c .before .before .before .before .before .before .put-root .ensures) (c .before .before .put-root2 .ensures))
+    let p = c .before .before .before .before .before .before in
+    let a = p .before .before .before .before in
+    emitted (sym (roots-both (a .args .emptied) (a .args .roots) (p .before .before .if1 .left))) (and-then (p .put-root .ensures) (c .before .before .put-root2 .ensures))
 
 pub put-roots-spec : {M : Type 1} → statement M
 put-roots-spec =

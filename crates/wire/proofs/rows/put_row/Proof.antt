@@ -17,6 +17,9 @@ Inv-loop out₀ at width n p₀ i₀ out p i = Part out₀ p₀ (each signedByte
 abbrev μ-loop : tie.MeasureT-loop
 μ-loop out₀ at width n p₀ i₀ out p i = width - i
 
+abbrev inode : tie.At-loop Inv-loop μ-loop → tie.After-put-le Inv-loop μ-loop
+inode l = l .before .before .before .before .before .before .before
+
 mul-put-head : tie.Need-mul-put-head Inv-loop μ-loop
 mul-put-head c = omega arith
 
@@ -57,7 +60,7 @@ loop-less c = omega arith
 loop-again : tie.Need-loop-again Inv-loop μ-loop
 loop-again c =
     let l = c .before .before .before .before .before .before in
-    let a = l .before .before .before .before .before .before .before .before .before .before .before .before .before .before .before in
+    let a = inode l .before .before .before .before .before .before .before .before in
     let r = a .args .r in
     let i = l .loop .i in
     let h = long a in
@@ -69,7 +72,7 @@ unfolding rowBody
 returns c =
     let l = c .before in
     let c3 = l .before .before .before in
-    let c2 = c3 .before .before .before .before in
+    let c2 = inode l in
     let c1 = c2 .before .before .before .before in
     let a = c1 .before .before .before .before in
     let r = a .args .r in
