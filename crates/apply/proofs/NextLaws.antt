@@ -63,7 +63,7 @@ module _ (vol list : List ℕ) (l : changeLaidOut list ≡ true) where
       bucket-changes list (readVolume vol) l
       ∙ ap (applyQueue (entries 64 (fields list))) (sym (s .is ∙ bucket-keys (bodies 64 (fields vol))))
 
-pub record Next (vol list : List ℕ) : Type 0 where
+pub record NextSections (vol list : List ℕ) : Type 0 where
   pub alloc : nextVolume vol list .trees .alloc ≡ nextOf vol list 4
   pub lru : nextVolume vol list .trees .lru ≡ nextOf vol list 10
   pub freespace : nextVolume vol list .trees .freespace ≡ nextOf vol list 11
@@ -72,7 +72,7 @@ pub record Next (vol list : List ℕ) : Type 0 where
   pub gens : nextVolume vol list .trees .gens ≡ nextOf vol list 14
   pub reserved : map (bucketKey 1) (nextVolume vol list .reserved) ≡ nextOf vol list 64
 
-next-each : {vol list : List ℕ} → All (SectionOf vol) sections → changeLaidOut list ≡ true → Next vol list
+next-each : {vol list : List ℕ} → All (SectionOf vol) sections → changeLaidOut list ≡ true → NextSections vol list
 unfolding treesOf applyTrees changeShapes
 next-each {vol} {list} (more a (more b (more c (more d (more e (more f (more g none))))))) l =
     record {
@@ -85,7 +85,7 @@ next-each {vol} {list} (more a (more b (more c (more d (more e (more f (more g n
       reserved = next-buckets vol list l g;
     }
 
-pub next-is : {vol list : List ℕ} → Parted vol → changeLaidOut list ≡ true → Next vol list
+pub next-is : {vol list : List ℕ} → Parted vol → changeLaidOut list ≡ true → NextSections vol list
 next-is p l = next-each (p .each) l
 
 -- the bytes of a volume, section by section

@@ -21,20 +21,20 @@ use Rattle.calls.proofs.lists.AllLaws.{first, all-join, all-tail, test-all}
 use Rattle.calls.proofs.lists.BoolLaws.{parts}
 use Rattle.calls.proofs.encoding.Blocks.{shaped-out}
 use Rattle.sorting.proofs.EntryLaws.{StepAt}
-use Rattle.apply.specs.Roots.{withBit, withRoot, isRoot, rootsIn, NamesRoot, afterField, Rooted}
+use Rattle.apply.specs.Roots.{withRootBit, withRoot, isRoot, rootsIn, NamesRoot, afterField, Rooted}
 
 -- one bit
 
-pub bit-set : (roots bit : ℕ) → roots / bit % 2 ≡ 0 → roots + bit ≡ withBit roots bit
-unfolding withBit
+pub bit-set : (roots bit : ℕ) → roots / bit % 2 ≡ 0 → roots + bit ≡ withRootBit roots bit
+unfolding withRootBit
 bit-set roots bit e = rw (eq-eqb (roots / bit % 2) 0 e)
 
-pub bit-stays : (roots bit : ℕ) → (roots / bit % 2 ≡ 0 → ⊥) → roots ≡ withBit roots bit
-unfolding withBit
+pub bit-stays : (roots bit : ℕ) → (roots / bit % 2 ≡ 0 → ⊥) → roots ≡ withRootBit roots bit
+unfolding withRootBit
 bit-stays roots bit e = rw (ne-eqb (roots / bit % 2) 0 e)
 
-bit-low : (roots bit : ℕ) → roots < 8 → (roots / bit % 2 ≡ 0 → roots + bit < 8) → withBit roots bit < 8
-unfolding withBit
+bit-low : (roots bit : ℕ) → roots < 8 → (roots / bit % 2 ≡ 0 → roots + bit < 8) → withRootBit roots bit < 8
+unfolding withRootBit
 bit-low roots bit l h = go (eqb (roots / bit % 2) 0) refl
   where
     go : (b : Bool) → eqb (roots / bit % 2) 0 ≡ b → cond b (roots + bit) roots < 8
@@ -43,18 +43,18 @@ bit-low roots bit l h = go (eqb (roots / bit % 2) 0) refl
 
 -- the three roots
 module _ {r : ℕ} (roots id : ℕ) (l : roots < 8) where
-  rooted : (k bit : ℕ) → id ≡ k → withRoot roots k ≡ withBit roots bit → r ≡ withBit roots bit → withBit roots bit < 8 → Rooted r (withRoot roots id)
+  rooted : (k bit : ℕ) → id ≡ k → withRoot roots k ≡ withRootBit roots bit → r ≡ withRootBit roots bit → withRootBit roots bit < 8 → Rooted r (withRoot roots id)
   rooted k bit e f s h = record { same = s ∙ sym f ∙ ap (withRoot roots) (sym e); low = rw s h }
 
-  pub rooted-10 : id ≡ 10 → r ≡ withBit roots 1 → Rooted r (withRoot roots id)
+  pub rooted-10 : id ≡ 10 → r ≡ withRootBit roots 1 → Rooted r (withRoot roots id)
   unfolding withRoot
   rooted-10 e s = rooted 10 1 e refl s (bit-low roots 1 l (λ z. omega arith))
 
-  pub rooted-12 : id ≡ 12 → r ≡ withBit roots 2 → Rooted r (withRoot roots id)
+  pub rooted-12 : id ≡ 12 → r ≡ withRootBit roots 2 → Rooted r (withRoot roots id)
   unfolding withRoot
   rooted-12 e s = rooted 12 2 e refl s (bit-low roots 2 l (λ z. omega arith))
 
-  pub rooted-14 : (id ≡ 10 → ⊥) → (id ≡ 12 → ⊥) → isRoot id ≡ true → r ≡ withBit roots 4 → Rooted r (withRoot roots id)
+  pub rooted-14 : (id ≡ 10 → ⊥) → (id ≡ 12 → ⊥) → isRoot id ≡ true → r ≡ withRootBit roots 4 → Rooted r (withRoot roots id)
   unfolding withRoot isRoot
   rooted-14 a b h s =
       rooted 14 4 (eqb-true id 14 (rw (ne-eqb id 10 a, ne-eqb id 12 b) at h)) refl s (bit-low roots 4 l (λ z. omega arith))
@@ -121,7 +121,7 @@ module _ {list : List ℕ} {roots at r : ℕ} (p : Rooting list roots at r) {tag
       (omega (arith, h .field .within), rw (byte (omega arith)) at (first all-named e .1))
 
   pub rooting-on : {q : ℕ} → Rooted q (afterField list r tag b) → Rooting list roots (b + n) q
-  unfolding rootsIn bodies those setRoots afterField withRoot withBit rootMissing
+  unfolding rootsIn bodies those setRoots afterField withRoot withRootBit rootMissing
   rooting-on {q} k =
       record {
         within = h .field .within;

@@ -18,7 +18,7 @@ use Rattle.reader.specs.Readings.{ListRead}
 use Rattle.reader.specs.declared.head.Head.{Head}
 use Rattle.reader.specs.declared.table.Ends.{Ends}
 use Rattle.sorting.specs.Entries.{entries, sectionBytes}
-use Rattle.sorting.specs.EntryPlaces.{Kept, Stands, entriesAt}
+use Rattle.sorting.specs.EntryPlaces.{EntryAt, Stands, entriesAt}
 use Rattle.merge.specs.Queues.{gather, ascending}
 use Rattle.merge.specs.Counts.{sectionWithin}
 use Rattle.merge.specs.declared.queue.Parts.{Parts}
@@ -46,7 +46,7 @@ pub record SectionReady (t : ℕ) (vol keys : List ℕ) : Type 0 where
 
 -- these places of a change list are of its queued keys of section t, the last at each position, in order
 pub record QueueReady (t : ℕ) (list queue : List ℕ) : Type 0 where
-  pub kept : All (Kept t list) queue
+  pub kept : All (EntryAt t list) queue
   pub keys : entriesAt t list queue ≡ gather (entries t (fields list))
 
 -- what a change list makes of the keys of a section

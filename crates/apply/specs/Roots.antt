@@ -12,12 +12,12 @@ use Rattle.calls.specs.CallList.{Head, headBody, bodies}
 use Rattle.calls.specs.Apply.{rootBit, setRoots, withRoots}
 
 -- a bit set, unless it is
-unfoldable pub withBit : ℕ → ℕ → ℕ
-withBit roots bit = cond (eqb (roots / bit % 2) 0) (roots + bit) roots
+unfoldable pub withRootBit : ℕ → ℕ → ℕ
+withRootBit roots bit = cond (eqb (roots / bit % 2) 0) (roots + bit) roots
 
 -- the bit of a root set
 unfoldable pub withRoot : ℕ → ℕ → ℕ
-withRoot roots id = withBit roots (2 ^ rootBit id)
+withRoot roots id = withRootBit roots (2 ^ rootBit id)
 
 unfoldable pub isRoot : ℕ → Bool
 isRoot id = eqb id 10 || (eqb id 12 || eqb id 14)

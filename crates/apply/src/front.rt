@@ -5,7 +5,7 @@ ghost use Prim.Native.Nat.{_+_, _<_};
 ghost use Rattle.wire.specs.Output.{Wrote};
 ghost use Rattle.calls.specs.ChangeList.{changeLaidOut};
 ghost use Rattle.reader.specs.Heads.{headIn};
-ghost use Rattle.apply.specs.Roots.{withBit, withRoot, isRoot, rootsAfter, NamesRoot, Rooted, afterField, frontBytes};
+ghost use Rattle.apply.specs.Roots.{withRootBit, withRoot, isRoot, rootsAfter, NamesRoot, Rooted, afterField, frontBytes};
 use reader::head;
 use reader::head::Head;
 use wire::fields;
@@ -14,7 +14,7 @@ use wire::fields::NextField;
 // A bit set, unless it is. `set_root` shows the bounds.
 fn with_bit(roots: u8, bit: u8) -> u8
     requires { ⌜ (0 < bit) × (roots + bit < 256) ⌝ }
-    ensures { λ r. ⌜ r ≡ withBit roots bit ⌝ }
+    ensures { λ r. ⌜ r ≡ withRootBit roots bit ⌝ }
 {
     if roots / bit % 2 == 0 {
         return roots + bit;

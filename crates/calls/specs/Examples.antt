@@ -58,8 +58,8 @@ abbrev pub run : ℕ → ℕ → Key
 run end size = newKey 25 size (runAt (bucket end)) []
 
 -- the alloc key of a bucket with a generation and a dirty count
-abbrev pub held : ℕ → ℕ → ℕ → Key
-held b generation dirty = newKey 27 0 (allocAt (bucket b)) (newAlloc 1 generation dirty 1)
+abbrev pub usedBucket : ℕ → ℕ → ℕ → Key
+usedBucket b generation dirty = newKey 27 0 (allocAt (bucket b)) (newAlloc 1 generation dirty 1)
 
 -- the need-discard key of a bucket, under a journal number
 abbrev pub waitsSince : ℕ → ℕ → Key
@@ -71,7 +71,7 @@ waits b = waitsSince 7 b
 
 -- the alloc key of an emptied bucket with a generation
 abbrev pub emptiedAt : ℕ → ℕ → Key
-emptiedAt b generation = withValue (held b generation 0) (store dataType needDiscardType (newAlloc 1 generation 0 1))
+emptiedAt b generation = withValue (usedBucket b generation 0) (store dataType needDiscardType (newAlloc 1 generation 0 1))
 
 -- the ends and sizes of the runs that a batch makes
 abbrev pub runEnds : Batch → List (ℕ × ℕ)
@@ -106,9 +106,9 @@ spot first stored b = record { first = sector first; stored = stored; bucket = b
 abbrev pub freeing : ℕ → ℕ → Freed
 freeing first sectors = record { first = sector first; sectors = sectors }
 
--- what each batch of an answer says
-abbrev pub each : {A : Type 0} → (Batch → A) → Answer → List A
-each part a = map part (changesOf (a .written))
+-- what ofBatches batch of an answer says
+abbrev pub ofBatches : {A : Type 0} → (Batch → A) → Answer → List A
+ofBatches part a = map part (changesOf (a .written))
 
 -- a volume with one run of so many free buckets
 abbrev pub freeVolume : ℕ → Volume
@@ -116,7 +116,7 @@ freeVolume n = volumeFor (headFor 1 1) [] (run n n ∷ []) [] []
 
 -- bucket 5 holds 96 sectors of 128
 abbrev pub heldVolume : Volume
-heldVolume = volumeFor (headFor 2 1) (held 5 255 96 ∷ []) [] [] []
+heldVolume = volumeFor (headFor 2 1) (usedBucket 5 255 96 ∷ []) [] [] []
 
 -- buckets that wait for discard, of one generation
 abbrev pub waiting : ℕ → ℕ → List ℕ → Volume
@@ -124,8 +124,8 @@ waiting batch generation bs =
     volumeFor (headFor 3 batch) (map (λ b. emptiedAt b generation) bs) [] (map waits bs) []
 
 -- a list whose base passes its limit
-abbrev pub beyond : List ℕ
-beyond = volumeBytes (volumeFor (headAt (2 ^ 40) 1 1) [] [] [] [])
+abbrev pub pastBase : List ℕ
+pastBase = volumeBytes (volumeFor (headAt (2 ^ 40) 1 1) [] [] [] [])
 
 -- an alloc key of inode 1 with a clock
 abbrev pub elsewhere : ℕ → Key

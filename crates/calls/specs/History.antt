@@ -90,14 +90,14 @@ placedPieces written asked =
 abbrev pub names : Freed → Live → Bool
 names r p = sameSector (r .first) (p .first) && eqb (r .sectors) (p .length)
 
-abbrev pub under : Live → Option (List Live) → Option (List Live)
-under p none = none
-under p (some l) = some (p ∷ l)
+abbrev pub withFirst : Live → Option (List Live) → Option (List Live)
+withFirst p none = none
+withFirst p (some l) = some (p ∷ l)
 
 -- the list without the first piece that a request names, or none where there is no such piece
 unfoldable pub takeOut : Freed → List Live → Option (List Live)
 takeOut r [] = none
-takeOut r (p ∷ ps) = cond (names r p) (some ps) (under p (takeOut r ps))
+takeOut r (p ∷ ps) = cond (names r p) (some ps) (withFirst p (takeOut r ps))
 
 abbrev pub andThen : {A B : Type 0} → Option A → (A → Option B) → Option B
 andThen none f = none

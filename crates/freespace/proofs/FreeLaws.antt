@@ -177,7 +177,7 @@ unfolding those
 free-empty bs r e = ap (λ (l : List Bucket). length (those (λ x. not (isIn bs x)) l)) (up-to-none (r .start) (r .end) (ltb-false (r .start .0) (r .end .0) e))
 
 -- the count so far: with the free buckets of the keys from an index on, it is all; and those keys start no run below `last`
-pub record Counting (ks : List Key) (bs : List Bucket) (free j i : ℕ) : Type 0 where
+pub record FreeCounting (ks : List Key) (bs : List Bucket) (free j i : ℕ) : Type 0 where
   pub last : Bucket
   pub small : last .0 ≤ 65536
   pub most : free ≤ last .0
@@ -197,13 +197,13 @@ pub record RunCounted (ks : List Key) (bs : List Bucket) (free j i : ℕ) (r : R
   pub on :
       (free' j' : ℕ) → free' ≡ free + ((r .end .0 - r .start .0) - (countBelow (r .end) bs - countBelow (r .start) bs))
       → j' ≡ countBelow (r .end) bs
-      → Counting ks bs free' j' (i + 1)
+      → FreeCounting ks bs free' j' (i + 1)
 
-pub counting-start : (ks : List Key) (bs : List Bucket) → meets noBucket ks ≡ false → Counting ks bs 0 0 0
+pub counting-start : (ks : List Key) (bs : List Bucket) → meets noBucket ks ≡ false → FreeCounting ks bs 0 0 0
 counting-start ks bs e =
     record { last = noBucket; small = omega arith; most = omega arith; below = sym (count-zero bs); apart = e; sum = omega arith }
 
-module _ {ks : List Key} {bs : List Bucket} {free j i : ℕ} (c : Counting ks bs free j i) (r : Rising 0 bs) where
+module _ {ks : List Key} {bs : List Bucket} {free j i : ℕ} (c : FreeCounting ks bs free j i) (r : Rising 0 bs) where
   pub counting-end : length ks ≤ i → free ≡ freeCount (isIn bs) (runsOf ks)
   unfolding freeCount runsOf those total
   counting-end h = omega (arith, ap (λ (l : List Key). freeCount (isIn bs) (runsOf l)) (drop-of-length-le ks h), c .sum)
@@ -216,7 +216,7 @@ module _ {ks : List Key} {bs : List Bucket} {free j i : ℕ} (c : Counting ks bs
     met = ap (meets (c .last)) (sym f) ∙ c .apart
 
     -- a key that covers nothing
-    counting-skip : isSome (runIn k) ≡ false → Counting ks bs free j (i + 1)
+    counting-skip : isSome (runIn k) ≡ false → FreeCounting ks bs free j (i + 1)
     unfolding meets
     counting-skip e =
         record {
@@ -275,9 +275,9 @@ module _ {ks : List Key} {bs : List Bucket} {free j i : ℕ} (c : Counting ks bs
     pub counting-on : (x : Run) → x ≡ runIn k → isSome x ≡ true → endInRange k ≡ true → RunCounted ks bs free j i x
     counting-on x q e l = subst⁻¹ (RunCounted ks bs free j i) q (more (ap isSome (sym q) ∙ e) l)
 
-    pub counting-past : (x : Run) → x ≡ runIn k → isSome x ≡ false → Counting ks bs free j (i + 1)
+    pub counting-past : (x : Run) → x ≡ runIn k → isSome x ≡ false → FreeCounting ks bs free j (i + 1)
     counting-past x q e = counting-skip (ap isSome (sym q) ∙ e)
 
 -- the same of equal values, as the loop has them
-pub counting-at : {ks : List Key} {bs : List Bucket} {free j i free' j' : ℕ} → free' ≡ free → j' ≡ j → Counting ks bs free j i → Counting ks bs free' j' i
+pub counting-at : {ks : List Key} {bs : List Bucket} {free j i free' j' : ℕ} → free' ≡ free → j' ≡ j → FreeCounting ks bs free j i → FreeCounting ks bs free' j' i
 counting-at e f c = rw (e, f) c

@@ -21,7 +21,7 @@ use Rattle.freespace.specs.Walks.{stopped, unwalked, keyWalk, leftOf, ke
 use Rattle.freespace.specs.declared.runs.Run.{Run}
 use Rattle.freespace.specs.declared.take.Walked.{Walked}
 use Rattle.freespace.proofs.RunLaws.{runIf, run-end}
-use Rattle.freespace.proofs.WalkLaws.{pass-none, pass-left, pass-sum, pass-agree, thirteen, Ended}
+use Rattle.freespace.proofs.WalkLaws.{pass-none, pass-left, pass-sum, pass-agree, thirteen, WalkEnded}
 
 -- ---- what the walk makes of one key
 module _ (R U : Bucket → Bool) (k : Key) where
@@ -145,11 +145,11 @@ module _ (R U : Bucket → Bool) (k : Key) (n : ℕ) (from : Walked) (before aft
         ∙ pass-agree (marked M) (marked N) R U (m .told) (u .told) (n - from .count) (runIn k .start) (runIn k .end) (run-end k end)
 
     pub key-walked : (r : Walked)
-        → Ended (pass (marked M) (marked N) (n - from .count) (bucketsUpTo (x .start) (x .end))) (from .count) before after (r .refusal) (r .count) (r .left)
+        → WalkEnded (pass (marked M) (marked N) (n - from .count) (bucketsUpTo (x .start) (x .end))) (from .count) before after (r .refusal) (r .count) (r .left)
         → r .passed ≡ from .passed + 1 → WalkIs n (k ∷ []) (keyWalk R U (n - from .count) k) from before after r
     unfolding queueOf
     key-walked r g h =
-        let e : Ended p (from .count) before after (r .refusal) (r .count) (r .left) = rw same-pass at g in
+        let e : WalkEnded p (from .count) before after (r .refusal) (r .count) (r .left) = rw same-pass at g in
         let w = sym (key-is R U k (n - from .count) inside) in
         record {
           refusal = e .used ∙ ap (λ (y : calls.Walked). y .refusal) w;
@@ -197,7 +197,7 @@ queue-take (suc i) left [] = refl
 queue-take (suc i) left (k ∷ ks) = rw (queue-take i left ks)
 
 -- ---- the walk so far: with what the keys from an index on make, it is all that the walk makes
-pub record Walking (R U : Bucket → Bool) (ks : List Key) (w : calls.Walked) (n : ℕ) (before table : List ℕ) (r : Walked) : Type 0 where
+pub record RunWalking (R U : Bucket → Bool) (ks : List Key) (w : calls.Walked) (n : ℕ) (before table : List ℕ) (r : Walked) : Type 0 where
   pub none : r .refusal ≡ 0
   pub most : r .count ≤ n
   pub few : r .passed ≤ length ks
@@ -219,11 +219,11 @@ module _ (R U : Bucket → Bool) where
   walk-none zero = refl
   walk-none (suc n) = refl
 
-  pub walking-start : (ks : List Key) (n : ℕ) (table : List ℕ) (r : Walked) → r ≡ unwalked → Walking R U ks (walk R U n (runsOf ks)) n table table r
+  pub walking-start : (ks : List Key) (n : ℕ) (table : List ℕ) (r : Walked) → r ≡ unwalked → RunWalking R U ks (walk R U n (runsOf ks)) n table table r
   unfolding queueOf bucketsIn
   walking-start ks n table r e = rw e begun
     where
-      begun : Walking R U ks (walk R U n (runsOf ks)) n table table unwalked
+      begun : RunWalking R U ks (walk R U n (runsOf ks)) n table table unwalked
       begun =
           let e : n - 0 ≡ n = omega arith in
           let q : walk R U (n - 0) (runsOf ks) ≡ walk R U n (runsOf ks) = ap (λ (m : ℕ). walk R U m (runsOf ks)) e in
@@ -239,7 +239,7 @@ module _ (R U : Bucket → Bool) where
             short = λ h. refl;
           }
 
-module _ {R U : Bucket → Bool} {ks : List Key} {w : calls.Walked} {n : ℕ} {before table : List ℕ} {r : Walked} (g : Walking R U ks w n before table r) where
+module _ {R U : Bucket → Bool} {ks : List Key} {w : calls.Walked} {n : ℕ} {before table : List ℕ} {r : Walked} (g : RunWalking R U ks w n before table r) where
   abbrev here : calls.Walked
   here = walk R U (n - r .count) (runsOf (drop (r .passed) ks))
 
@@ -310,7 +310,7 @@ module _ {R U : Bucket → Bool} {ks : List Key} {w : calls.Walked} {n : ℕ} {b
       pub passed-next : t .passed ≡ r .passed + 1
       passed-next = o .took z .passed
 
-      pub walking-on : length next ≡ length table → Walking R U ks w n before next t
+      pub walking-on : length next ≡ length table → RunWalking R U ks w n before next t
       walking-on l =
           let p = o .took z in
           let v : calls.Walked = walk R U (n - r .count - length (x .taken)) (runsOf (drop (r .passed + 1) ks)) in

@@ -115,7 +115,7 @@ pub record Ahead (R U : Bucket → Bool) (p : Passed) (n from : ℕ) (before : L
   pub used : thirteen (pass R U (n - count) (bucketsUpTo b end) .used) refusal ≡ thirteen (p .used) 0
 
 -- what the walk of a run gives
-pub record Ended (p : Passed) (from : ℕ) (before after : List ℕ) (refusal count left : ℕ) : Type 0 where
+pub record WalkEnded (p : Passed) (from : ℕ) (before after : List ℕ) (refusal count left : ℕ) : Type 0 where
   pub taken : bucketsIn (take count after) ≡ bucketsIn (take from before) ++ p .taken
   pub many : count ≡ from + length (p .taken)
   pub rest : left ≡ p .left
@@ -166,7 +166,7 @@ module _ (R U : Bucket → Bool) {p : Passed} {n from : ℕ} {before : List ℕ}
       }
 
   -- what the walk answers, where the rest makes nothing more
-  ended : (left : ℕ) → rest ≡ record { taken = []; left = left; need = n - count; used = false } → Ended p from before table refusal count left
+  ended : (left : ℕ) → rest ≡ record { taken = []; left = left; need = n - count; used = false } → WalkEnded p from before table refusal count left
   ended left e =
       record {
         taken = sym (append-nil (bucketsIn (take count table))) ∙ ap (λ (x : Passed). bucketsIn (take count table) ++ x .taken) (sym e) ∙ a .taken;
@@ -175,12 +175,12 @@ module _ (R U : Bucket → Bool) {p : Passed} {n from : ℕ} {before : List ℕ}
         used = ap (λ (x : Passed). thirteen (x .used) refusal) (sym e) ∙ a .used;
       }
 
-  pub ahead-full : (left : ℕ) → count ≡ n → left ≡ length (bucketsUpTo b end) → Ended p from before table refusal count left
+  pub ahead-full : (left : ℕ) → count ≡ n → left ≡ length (bucketsUpTo b end) → WalkEnded p from before table refusal count left
   ahead-full left e f =
       let z : n - count ≡ 0 = omega arith in
       ended left (ap (λ (k : ℕ). pass R U k (bucketsUpTo b end)) z ∙ pass-full R U (bucketsUpTo b end) ∙ (λ i. record { taken = []; left = (sym f) i; need = (sym z) i; used = false }))
 
-  pub ahead-done : end .0 ≤ b .0 → Ended p from before table refusal count 0
+  pub ahead-done : end .0 ≤ b .0 → WalkEnded p from before table refusal count 0
   ahead-done h = ended 0 (ap (pass R U (n - count)) (up-to-none b end h) ∙ pass-none R U (n - count))
 
 -- the first bucket of a run

@@ -14,13 +14,13 @@ use Rattle.format.specs.Gens.{genIn}
 use Rattle.calls.specs.Lists.{fromOption}
 use Rattle.calls.specs.Generations.{found, noRecord, tooShort, genRecord, genLookup, orZero, isShort, genOf, genShort, GenFound}
 use Rattle.reader.specs.KeyHere.{keyHere, Whole}
-use Rattle.gens.specs.Records.{recordAt, entryOf, Recorded, RecordsFound}
+use Rattle.gens.specs.Records.{recordAt, recordEntry, Recorded, RecordsFound}
 
 -- where the entry of a bucket's record stands
-pub stands : {s table : List ℕ} → Recorded s table → (b : Bucket) → bucketInRange b ≡ true → {at : ℕ} → at ≡ entryOf table b → (at ≡ 0 → ⊥) → Whole s at
+pub stands : {s table : List ℕ} → Recorded s table → (b : Bucket) → bucketInRange b ≡ true → {at : ℕ} → at ≡ recordEntry table b → (at ≡ 0 → ⊥) → Whole s at
 stands {s} r b h e n = rw e (r .are .stand .whole (b .0 / 256) (omega (arith, ltb-true (b .0) 65536 h)) (λ z. n (e ∙ z)))
 
-pub record-is : {s table : List ℕ} {gens : List Key} → RecordsFound s gens table → (b : Bucket) → bucketInRange b ≡ true → {at : ℕ} → at ≡ entryOf table b → recordAt s at ≡ genRecord gens b
+pub record-is : {s table : List ℕ} {gens : List Key} → RecordsFound s gens table → (b : Bucket) → bucketInRange b ≡ true → {at : ℕ} → at ≡ recordEntry table b → recordAt s at ≡ genRecord gens b
 record-is {s} f b h e = ap (recordAt s) e ∙ f .is b h
 
 -- what it tells

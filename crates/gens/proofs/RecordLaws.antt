@@ -19,31 +19,31 @@ use Rattle.calls.specs.Trees.{onEq, lookup}
 use Rattle.calls.specs.Generations.{ofType30, genRecord}
 use Rattle.reader.specs.KeyHere.{keyHere, Whole}
 use Rattle.wire.specs.Kinds.{bucketInRange}
-use Rattle.gens.specs.Records.{noted, recordAt, RecordsFound}
+use Rattle.gens.specs.Records.{recordNoted, recordAt, RecordsFound}
 
 -- what the code stores, by its tests
 module _ (at : ℕ) (k : Key) (table : List ℕ) where
-  pub noted-inode : (k .pos .inode ≡ 0 → ⊥) → table ≡ noted at k table
-  unfolding noted
+  pub noted-inode : (k .pos .inode ≡ 0 → ⊥) → table ≡ recordNoted at k table
+  unfolding recordNoted
   noted-inode n = rw (ne-eqb (k .pos .inode) 0 n)
 
-  pub noted-snapshot : (k .pos .snapshot ≡ 0 → ⊥) → table ≡ noted at k table
-  unfolding noted
+  pub noted-snapshot : (k .pos .snapshot ≡ 0 → ⊥) → table ≡ recordNoted at k table
+  unfolding recordNoted
   noted-snapshot n = simp (ne-eqb (k .pos .snapshot) 0 n, and-false)
 
-  pub noted-past : 256 ≤ k .pos .offset → table ≡ noted at k table
-  unfolding noted
+  pub noted-past : 256 ≤ k .pos .offset → table ≡ recordNoted at k table
+  unfolding recordNoted
   noted-past h = simp (le-ltb (k .pos .offset) 256 h, and-false)
 
   module _ (i : k .pos .inode ≡ 0) (z : k .pos .snapshot ≡ 0) (o : k .pos .offset < 256) where
-    pub noted-here : set table (k .pos .offset) (cond (eqb (k .type) 30) at 0) ≡ noted at k table
-    unfolding noted
+    pub noted-here : set table (k .pos .offset) (cond (eqb (k .type) 30) at 0) ≡ recordNoted at k table
+    unfolding recordNoted
     noted-here = simp (eq-eqb (k .pos .inode) 0 i, eq-eqb (k .pos .snapshot) 0 z, lt-ltb (k .pos .offset) 256 o)
 
-    pub noted-record : k .type ≡ 30 → set table (k .pos .offset) at ≡ noted at k table
+    pub noted-record : k .type ≡ 30 → set table (k .pos .offset) at ≡ recordNoted at k table
     noted-record e = ap (λ (t : Bool). set table (k .pos .offset) (cond t at 0)) (sym (eq-eqb (k .type) 30 e)) ∙ noted-here
 
-    pub noted-other : (k .type ≡ 30 → ⊥) → set table (k .pos .offset) 0 ≡ noted at k table
+    pub noted-other : (k .type ≡ 30 → ⊥) → set table (k .pos .offset) 0 ≡ recordNoted at k table
     noted-other n = ap (λ (t : Bool). set table (k .pos .offset) (cond t at 0)) (sym (ne-eqb (k .type) 30 n)) ∙ noted-here
 
 -- no key yet
@@ -139,8 +139,8 @@ module _ (s : List ℕ) (at : ℕ) (w : Whole s at) (ks : List Key) (table : Lis
           ap (recordAt s) (getD-set-other table (k .pos .offset) (b .0 / 256) entry 0 d) ∙ n .is b h
           ∙ record-same k ks b (λ c. d (ap (λ (p : Bpos). p .offset) (pos-cmp .eq-path (gensAt b) (k .pos) c)))
 
-  pub noting-on : (next : List ℕ) → next ≡ noted at k table → RecordsFound s (k ∷ ks) next
-  unfolding noted
+  pub noting-on : (next : List ℕ) → next ≡ recordNoted at k table → RecordsFound s (k ∷ ks) next
+  unfolding recordNoted
   noting-on next e = rw e (go (eqb (k .pos .inode) 0) refl (eqb (k .pos .snapshot) 0) refl (ltb (k .pos .offset) 256) refl)
     where
       go : (t : Bool) → eqb (k .pos .inode) 0 ≡ t → (u : Bool) → eqb (k .pos .snapshot) 0 ≡ u → (v : Bool) → ltb (k .pos .offset) 256 ≡ v

@@ -12,9 +12,9 @@ use Rattle.wire.specs.declared.kinds.Bucket.{Bucket}
 use Rattle.calls.specs.Generations.{genRecord}
 use Rattle.reader.specs.KeyHere.{keyHere, Whole}
 
--- the table after the key at an offset: a record is noted, another key at a record's place takes it out
-unfoldable pub noted : ℕ → Key → List ℕ → List ℕ
-noted at k table =
+-- the table after the key at an offset: a record is recordNoted, another key at a record's place takes it out
+unfoldable pub recordNoted : ℕ → Key → List ℕ → List ℕ
+recordNoted at k table =
     cond (eqb (k .pos .inode) 0 && (eqb (k .pos .snapshot) 0 && ltb (k .pos .offset) 256))
     (set table (k .pos .offset) (cond (eqb (k .type) 30) at 0)) table
 
@@ -28,13 +28,13 @@ pub record RecordsStand (s table : List ℕ) : Type 0 where
   pub whole : (o : ℕ) → o < 256 → (getD table o 0 ≡ 0 → ⊥) → Whole s (getD table o 0)
 
 -- the entry of a bucket's record
-abbrev pub entryOf : List ℕ → Bucket → ℕ
-entryOf table b = getD table (b .0 / 256) 0
+abbrev pub recordEntry : List ℕ → Bucket → ℕ
+recordEntry table b = getD table (b .0 / 256) 0
 
 -- the table finds the record that holds a bucket's generation
 pub record RecordsFound (s : List ℕ) (gens : List Key) (table : List ℕ) : Type 0 where
   pub stand : RecordsStand s table
-  pub is : (b : Bucket) → bucketInRange b ≡ true → recordAt s (entryOf table b) ≡ genRecord gens b
+  pub is : (b : Bucket) → bucketInRange b ≡ true → recordAt s (recordEntry table b) ≡ genRecord gens b
 
 -- it finds those of some tree
 pub record Recorded (s table : List ℕ) : Type 0 where

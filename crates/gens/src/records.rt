@@ -6,14 +6,14 @@ ghost use lib.ListN.{length, replicate};
 ghost use Rattle.wire.specs.Kinds.{bucketInRange};
 ghost use Rattle.reader.specs.KeyHere.{Whole, keyHere, keysHere};
 ghost use Rattle.reader.specs.Located.{KeysAt};
-ghost use Rattle.gens.specs.Records.{noted, entryOf, RecordsFound};
+ghost use Rattle.gens.specs.Records.{recordNoted, recordEntry, RecordsFound};
 use reader::key;
 use wire::kinds::Bucket;
 
-// Notes the offset of a key, if it is a record; another key at a record's place takes out what was noted. The reader shows that a key stands there.
+// Notes the offset of a key, if it is a record; another key at a record's place takes out what was recordNoted. The reader shows that a key stands there.
 fn note_record(s: &[u8], at: u32, table: &mut [u32; 256])
     requires { ⌜ Whole (now s) at ⌝ }
-    ensures { λ _. ⌜ now (table .exit) ≡ noted at (keyHere (now (s .entry)) at) (now (table .entry)) ⌝ }
+    ensures { λ _. ⌜ now (table .exit) ≡ recordNoted at (keyHere (now (s .entry)) at) (now (table .entry)) ⌝ }
 {
     let p = key::pos_at(s, at as usize);
     if p.inode != 0 {
@@ -48,7 +48,7 @@ pub fn find_records(s: &[u8], gens: &[u32], table: &mut [u32; 256])
 // The entry of a bucket's record. `find_records` makes the table, and the limits show the bound.
 pub fn record_of(table: &[u32], b: Bucket) -> usize
     requires { ⌜ (length (now table) ≡ 256) × (bucketInRange b ≡ true) ⌝ }
-    ensures { λ r. ⌜ r ≡ entryOf (now (table .entry)) b ⌝ }
+    ensures { λ r. ⌜ r ≡ recordEntry (now (table .entry)) b ⌝ }
 {
     let o = (b.0 / 256) as usize;
     table[o] as usize

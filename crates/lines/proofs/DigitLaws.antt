@@ -21,13 +21,13 @@ pub digit-high : (d : ℕ) → 10 ≤ d → 87 + d ≡ digit d
 digit-high d h = rw (le-ltb d 10 h)
 
 -- digits that are stored from the last on: from index `from` on they stand, and `rest` has those before
-pub record Filled (base n : ℕ) (text : List ℕ) (from rest : ℕ) : Type 0 where
+pub record DigitsFilled (base n : ℕ) (text : List ℕ) (from rest : ℕ) : Type 0 where
   pub size : length text ≡ 20
   pub within : from ≤ 20
   pub left : rest ≡ n / base ^ (20 - from)
   pub digits : drop from text ≡ lastDigits base (20 - from) n
 
-pub fill-none : (base n : ℕ) (text : List ℕ) → length text ≡ 20 → Filled base n text 20 n
+pub fill-none : (base n : ℕ) (text : List ℕ) → length text ≡ 20 → DigitsFilled base n text 20 n
 unfolding lastDigits
 fill-none base n text h =
     record {
@@ -37,8 +37,8 @@ fill-none base n text h =
       digits = drop-of-length-le text {i = 20} (omega arith);
     }
 
-pub fill-more : {base n : ℕ} {text : List ℕ} {from rest : ℕ} → Filled base n text from rest → 0 < from
-    → Filled base n (set text (from - 1) (digit (rest % base))) (from - 1) (rest / base)
+pub fill-more : {base n : ℕ} {text : List ℕ} {from rest : ℕ} → DigitsFilled base n text from rest → 0 < from
+    → DigitsFilled base n (set text (from - 1) (digit (rest % base))) (from - 1) (rest / base)
 unfolding lastDigits
 fill-more {base} {n} {text} {from} {rest} f h =
     let i : from - 1 < length text = omega (arith, f .size, f .within) in
@@ -57,7 +57,7 @@ fill-more {base} {n} {text} {from} {rest} f h =
           ∙ ap (λ (m : ℕ). lastDigits base m n) (sym e);
     }
 
-pub filled : {base n : ℕ} {text : List ℕ} {from rest : ℕ} → Filled base n text from rest → (count : ℕ) → from + count ≡ 20
+pub filled : {base n : ℕ} {text : List ℕ} {from rest : ℕ} → DigitsFilled base n text from rest → (count : ℕ) → from + count ≡ 20
     → take count (drop from text) ≡ lastDigits base count n
 filled {base} {n} {text} {from} f count h =
     let e : 20 - from ≡ count = omega arith in

@@ -6,9 +6,9 @@ use Rattle.calls.specs.Answers.{discard}
 use Rattle.reader.specs.Heads.{callByte}
 use Rattle.lines.specs.Digits.{lastDigits, width, decimal, signed, hexadecimal}
 use Rattle.lines.specs.Lines.{line, words, numbers, keyWords, rowWords, unreservedWords, endWords, fieldWords, changeLines, refusedLine}
-use Rattle.lines.specs.Program.{answerTo, answerLines, bucketLines}
+use Rattle.lines.specs.Program.{answerByByte, answerLines, bucketLines}
 use Rattle.lines.specs.Printed.{printedList, printedText}
 
 pub printed : bucketLines printedList ≡ printedText
-unfolding computing discard lastDigits width decimal signed hexadecimal line words numbers keyWords rowWords unreservedWords endWords fieldWords changeLines refusedLine answerTo answerLines bucketLines each callByte
+unfolding computing discard lastDigits width decimal signed hexadecimal line words numbers keyWords rowWords unreservedWords endWords fieldWords changeLines refusedLine answerByByte answerLines bucketLines each callByte
 printed = refl

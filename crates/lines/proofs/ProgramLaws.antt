@@ -12,7 +12,7 @@ use Rattle.wire.proofs.DryRun.{wet}
 use Rattle.reader.specs.Heads.{callByte}
 use Rattle.calls.specs.Answers.{Answer, Outcome, made, outcome, outputAfter, place, release, discard}
 use Rattle.lines.specs.Lines.{changeLines, refusedLine}
-use Rattle.lines.specs.Program.{answerTo, AnswerIn, answerLines, bucketLines, Shown}
+use Rattle.lines.specs.Program.{answerByByte, AnswerIn, answerLines, bucketLines, Shown}
 
 -- a call's outcome leaves its answer at the start of the output
 pub answer-in : {a b : Answer} {number written : ℕ} {after : List ℕ} (before : List ℕ) → a ≡ b → made number written after ≡ outcome a before → AnswerIn b number after written
@@ -30,17 +30,17 @@ answer-in {a = a} {written = written} {after = after} before e h =
 
 -- the call that a list's call byte names
 module _ (s : List ℕ) where
-  pub calls-place : callByte s ≡ 1 → {room : ℕ} → room ≡ 65536 → place s room ≡ answerTo s
-  unfolding answerTo
+  pub calls-place : callByte s ≡ 1 → {room : ℕ} → room ≡ 65536 → place s room ≡ answerByByte s
+  unfolding answerByByte
   calls-place h e = ap (place s) e ∙ sym (rw (eq-eqb (callByte s) 1 h) refl)
 
-  pub calls-release : (callByte s ≡ 1 → ⊥) → callByte s ≡ 2 → {scratch room : ℕ} → scratch ≡ 65536 → room ≡ 65536 → release s scratch room ≡ answerTo s
-  unfolding answerTo
+  pub calls-release : (callByte s ≡ 1 → ⊥) → callByte s ≡ 2 → {scratch room : ℕ} → scratch ≡ 65536 → room ≡ 65536 → release s scratch room ≡ answerByByte s
+  unfolding answerByByte
   calls-release n h {room = room} e f =
       ap (λ (k : ℕ). release s k room) e ∙ ap (release s 65536) f ∙ sym (rw (ne-eqb (callByte s) 1 n, eq-eqb (callByte s) 2 h) refl)
 
-  pub calls-discard : (callByte s ≡ 1 → ⊥) → (callByte s ≡ 2 → ⊥) → {room : ℕ} → room ≡ 65536 → discard s room ≡ answerTo s
-  unfolding answerTo
+  pub calls-discard : (callByte s ≡ 1 → ⊥) → (callByte s ≡ 2 → ⊥) → {room : ℕ} → room ≡ 65536 → discard s room ≡ answerByByte s
+  unfolding answerByByte
   calls-discard n m e = ap (discard s) e ∙ sym (rw (ne-eqb (callByte s) 1 n, ne-eqb (callByte s) 2 m) refl)
 
 -- the lines of an answer
@@ -58,7 +58,7 @@ pub prints-refused : (s : List ℕ) → 32768 < length s → refusedLine 3 ≡ b
 unfolding bucketLines
 prints-refused s h = sym (rw (lt-leb (length s) 32768 h) refl)
 
-pub prints-answer : (s : List ℕ) → length s ≤ 32768 → answerLines (answerTo s) ≡ bucketLines s
+pub prints-answer : (s : List ℕ) → length s ≤ 32768 → answerLines (answerByByte s) ≡ bucketLines s
 unfolding bucketLines
 prints-answer s h = sym (rw (le-leb (length s) 32768 h) refl)
 

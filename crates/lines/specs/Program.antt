@@ -11,8 +11,8 @@ use Rattle.calls.specs.Answers.{Answer, place, release, discard}
 use Rattle.lines.specs.Lines.{changeLines, refusedLine}
 
 -- the call that a list's call byte names; a list that names none is refused by each
-unfoldable pub answerTo : List ℕ → Answer
-answerTo s =
+unfoldable pub answerByByte : List ℕ → Answer
+answerByByte s =
     cond (eqb (callByte s) 1) (place s 65536) (cond (eqb (callByte s) 2) (release s 65536 65536) (discard s 65536))
 
 -- an answer in a buffer: its number, its length and its bytes at the start
@@ -26,7 +26,7 @@ answerLines a = cond (eqb (a .number) 0) (changeLines (a .written)) (refusedLine
 
 -- what is printed for what is read
 unfoldable pub bucketLines : List ℕ → List ℕ
-bucketLines s = cond (leb (length s) 32768) (answerLines (answerTo s)) (refusedLine 3)
+bucketLines s = cond (leb (length s) 32768) (answerLines (answerByByte s)) (refusedLine 3)
 
 -- the first n bytes of a text are these, and the rest is as it was
 pub record Shown (bytes before after : List ℕ) (n : ℕ) : Type 0 where

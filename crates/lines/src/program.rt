@@ -1,5 +1,5 @@
 // The work of the program: what is printed for what is read.
-ghost use Rattle.lines.specs.Program.{answerTo, AnswerIn, answerLines, bucketLines, Shown};
+ghost use Rattle.lines.specs.Program.{answerByByte, AnswerIn, answerLines, bucketLines, Shown};
 use crate::change_lines;
 use crate::other_lines;
 use discard::discard as discard_call;
@@ -9,7 +9,7 @@ use release::release as release_call;
 
 // The answer of the call that a list names, in 65,536 bytes.
 fn answer_to(list: &[u8], change: &mut [u8; 65536], written: &mut usize) -> u32
-    ensures { λ r. ⌜ AnswerIn (answerTo (now (list .entry))) r (now (change .exit)) (now (written .exit)) ⌝ }
+    ensures { λ r. ⌜ AnswerIn (answerByByte (now (list .entry))) r (now (change .exit)) (now (written .exit)) ⌝ }
 {
     let call = head::call_byte(list);
     if call == 1 {
@@ -30,8 +30,8 @@ fn put_answer(
     change: &[u8; 65536],
     written: usize,
 ) -> usize
-    requires { ⌜ AnswerIn (answerTo (now list)) number (now change) written ⌝ }
-    ensures { λ r. ⌜ Shown (answerLines (answerTo (now (list .entry)))) (now (text .entry)) (now (text .exit)) r ⌝ }
+    requires { ⌜ AnswerIn (answerByByte (now list)) number (now change) written ⌝ }
+    ensures { λ r. ⌜ Shown (answerLines (answerByByte (now (list .entry)))) (now (text .entry)) (now (text .exit)) r ⌝ }
 {
     if number != 0 {
         return other_lines::put_refused(text, 0, number);

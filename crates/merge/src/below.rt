@@ -5,7 +5,7 @@ ghost use lib.ListN.{length, getD};
 ghost use Rattle.wire.specs.Bytes.{All};
 ghost use Rattle.merge.specs.Queues.{below, beyond};
 ghost use Rattle.sorting.specs.EntryPlaces.{Stands};
-ghost use Rattle.merge.specs.Merging.{keysFrom, Stretched, Skipped, Put};
+ghost use Rattle.merge.specs.Merging.{keysFrom, Stretched, PositionSkipped, Put};
 use crate::limits;
 use sorting::bound;
 use sorting::bound::Bound;
@@ -94,7 +94,7 @@ pub fn put_below(
 // Past the volume's next key, if it is at pos.
 pub fn skip_at(vol: &[u8], keys: &[u32], at: usize, section: u8, pos: Bpos) -> usize
     requires { ⌜ All (Stands section (now vol)) (now keys) × (at ≤ length (now keys)) ⌝ }
-    ensures { λ r. ⌜ Skipped section (now (vol .entry)) (now (keys .entry)) at pos r ⌝ }
+    ensures { λ r. ⌜ PositionSkipped section (now (vol .entry)) (now (keys .entry)) at pos r ⌝ }
 {
     if keys.len() <= at {
         return at;

@@ -7,7 +7,7 @@ ghost use Rattle.wire.specs.Bytes.{All};
 ghost use Rattle.wire.specs.Output.{Wrote};
 ghost use Rattle.sorting.specs.Entries.{sectionBytes};
 ghost use Rattle.merge.specs.Queues.{shown, front, back};
-ghost use Rattle.sorting.specs.EntryPlaces.{Kept, Stands, entryFrom};
+ghost use Rattle.sorting.specs.EntryPlaces.{EntryAt, Stands, entryFrom};
 ghost use Rattle.merge.specs.Counts.{countAll};
 ghost use Rattle.merge.specs.Merging.{keysFrom, Put};
 use crate::below;
@@ -20,7 +20,7 @@ use wire::fields;
 
 // A queued key, unless it is a deletion. `refill` shows that one starts at o.
 fn put_shown(out: &mut [u8], p: usize, list: &[u8], o: usize, section: u8) -> usize
-    requires { ⌜ Kept section (now list) o ⌝ }
+    requires { ⌜ EntryAt section (now list) o ⌝ }
     ensures { λ r. ⌜ Wrote (now (out .entry)) p (length (sectionBytes section (shown (entryFrom section (now (list .entry)) o)))) (sectionBytes section (shown (entryFrom section (now (list .entry)) o))) (now (out .exit)) r ⌝ }
 {
     if entries::type_at(list, o, section) == 0 {
@@ -33,7 +33,7 @@ fn put_shown(out: &mut [u8], p: usize, list: &[u8], o: usize, section: u8) -> us
 
 // A queued key more, unless it is a deletion.
 fn add_shown(count: usize, list: &[u8], o: usize, section: u8) -> usize
-    requires { ⌜ Kept section (now list) o ⌝ }
+    requires { ⌜ EntryAt section (now list) o ⌝ }
     ensures { λ r. ⌜ min r 4097 ≡ min (count + countAll section (shown (entryFrom section (now (list .entry)) o))) 4097 ⌝ }
 {
     let ty = entries::type_at(list, o, section);
@@ -53,7 +53,7 @@ pub fn put_queued(
     o: usize,
     section: u8,
 ) -> Cursor
-    requires { ⌜ All (Stands section (now vol)) (now keys) × (from .at ≤ length (now keys)) × Kept section (now list) o ⌝ }
+    requires { ⌜ All (Stands section (now vol)) (now keys) × (from .at ≤ length (now keys)) × EntryAt section (now list) o ⌝ }
     ensures { λ r. ⌜ Put section (now (out .entry)) (now (vol .entry)) (now (keys .entry)) from (front (entryFrom section (now (list .entry)) o ∷ []) (keysFrom section (now (vol .entry)) (now (keys .entry)) (from .at))) (back (entryFrom section (now (list .entry)) o ∷ []) (keysFrom section (now (vol .entry)) (now (keys .entry)) (from .at))) (now (out .exit)) r ⌝ }
 {
     let pos = entries::pos_at(list, o, section);

@@ -10,7 +10,7 @@ ghost use Rattle.wire.specs.Kinds.{bucketInRange};
 ghost use Rattle.calls.specs.Discard.{waitingKey};
 ghost use Rattle.reader.specs.KeyHere.{keyHere, keysHere};
 ghost use Rattle.need_discard.specs.Kept.{NeedKept};
-ghost use Rattle.need_discard.specs.Table.{waitsOf, names, Entry, WaitingTable, noted};
+ghost use Rattle.need_discard.specs.Table.{waitsOf, isOfBucket, Entry, WaitingTable, waitNoted};
 use reader::key;
 use wire::bpos::Bpos;
 use wire::kinds;
@@ -25,7 +25,7 @@ pub enum Waits {
 // The key at place i takes the entry of its bucket, so that the last stands. The limits show the bounds, here and below.
 fn note(table: &mut [u16; 65536], s: &[u8], o: u32, i: usize)
     requires { ⌜ NeedKept (now s) o × (i < 4096) ⌝ }
-    ensures { λ r. ⌜ now (table .exit) ≡ noted (now (s .entry)) (now (table .entry)) o i ⌝ }
+    ensures { λ r. ⌜ now (table .exit) ≡ waitNoted (now (s .entry)) (now (table .entry)) o i ⌝ }
 {
     if key::type_at(s, o as usize) != 25 {
         return;
@@ -46,10 +46,10 @@ pub fn note_waiting(table: &mut [u16; 65536], s: &[u8], needs: &[u32])
     }
 }
 
-// Whether the need-discard key at an offset names a bucket, which a key of another type than 25 does not.
+// Whether the need-discard key at an offset isOfBucket a bucket, which a key of another type than 25 does not.
 fn names_bucket(s: &[u8], o: u32, b: Bucket) -> bool
     requires { ⌜ NeedKept (now s) o ⌝ }
-    ensures { λ r. ⌜ r ≡ names (keyHere (now (s .entry)) o) b ⌝ }
+    ensures { λ r. ⌜ r ≡ isOfBucket (keyHere (now (s .entry)) o) b ⌝ }
 {
     if kinds::same_bucket(key::bucket_at(s, o as usize), b) {
         return key::type_at(s, o as usize) == 25;
@@ -57,7 +57,7 @@ fn names_bucket(s: &[u8], o: u32, b: Bucket) -> bool
     false
 }
 
-// The entry of a bucket, by a search through the keys: the last that names it stands.
+// The entry of a bucket, by a search through the keys: the last that isOfBucket it stands.
 fn search_entry(s: &[u8], needs: &[u32], b: Bucket) -> usize
     requires { ⌜ All (NeedKept (now s)) (now needs) ⌝ }
     ensures { λ r. ⌜ Entry (now (s .entry)) (now (needs .entry)) (keysHere (now (s .entry)) (now (needs .entry))) b r ⌝ }

@@ -19,18 +19,18 @@ abbrev pub stored : List Piece → List ℕ
 stored ps = map (λ (p : Piece). p .stored) ps
 
 -- the first `at` of the pieces are laid out: c is open after them, and ts has their slots
-pub record Laid (B : ℕ) (ps : List Piece) (at : ℕ) (c : Open) (ts : List ℕ) : Type 0 where
+pub record LaidUpTo (B : ℕ) (ps : List Piece) (at : ℕ) (c : Open) (ts : List ℕ) : Type 0 where
   pub upto : at ≤ length ps
   pub laid : lay B c (drop at ps) ≡ lay B unused ps
   pub slots : slotsIn (take at ts) ++ nextFit B (c .index) (c .used) (stored (drop at ps)) ≡ nextFit B 0 0 (stored ps)
   pub below : c .index ≤ at
   pub short : c .used < 65536
 
-pub laid-first : (B : ℕ) (ps : List Piece) (ts : List ℕ) → Laid B ps 0 unused ts
+pub laid-first : (B : ℕ) (ps : List Piece) (ts : List ℕ) → LaidUpTo B ps 0 unused ts
 unfolding slotsIn
 laid-first B ps ts = record { upto = omega arith; laid = refl; slots = refl; below = omega arith; short = omega arith }
 
-module _ {B at : ℕ} {ps : List Piece} {c : Open} {ts : List ℕ} (d : Laid B ps at c ts) where
+module _ {B at : ℕ} {ps : List Piece} {c : Open} {ts : List ℕ} (d : LaidUpTo B ps at c ts) where
   abbrev piece : Piece
   piece = getD ps at noPiece
 
@@ -38,7 +38,7 @@ module _ {B at : ℕ} {ps : List Piece} {c : Open} {ts : List ℕ} (d : Laid B p
       ≡ fitSlot B c piece ∷ nextFit B (fitPiece B c piece .index) (fitPiece B c piece .used) (stored (drop (at + 1) ps))
   rest-is l = rw (add-one, drop-cons ps at noPiece l) (slots-next B c piece (stored (drop (suc at) ps)))
 
-  pub laid-next : at < length ps → length ps ≤ length ts → B < 65536 → piece .stored < 65536 → Laid B ps (at + 1) (fitPiece B c piece) (set ts at (slotNumber (fitSlot B c piece)))
+  pub laid-next : at < length ps → length ps ≤ length ts → B < 65536 → piece .stored < 65536 → LaidUpTo B ps (at + 1) (fitPiece B c piece) (set ts at (slotNumber (fitSlot B c piece)))
   laid-next l k b z =
       let n = slotNumber (fitSlot B c piece) in
       record {

@@ -12,13 +12,13 @@ use Rattle.reader.specs.Pieces.{pieceIn}
 use Rattle.reader.specs.declared.piece.Piece.{Piece}
 
 -- the first i of an array are the first i of some pieces
-pub record Filled (all : List calls.Piece) (ps : List Piece) (i : ℕ) : Type 0 where
+pub record PiecesFilled (all : List calls.Piece) (ps : List Piece) (i : ℕ) : Type 0 where
   pub long : length ps ≡ 1024
   pub upto : i ≤ length all
   pub same : map pieceIn (take i ps) ≡ take i all
 
-pub filled-next : {all : List calls.Piece} {ps : List Piece} {i : ℕ} {p : Piece} → Filled all ps i → i < length all → i < 1024
-    → pieceIn p ≡ getD all i noPiece → Filled all (set ps i p) (i + 1)
+pub filled-next : {all : List calls.Piece} {ps : List Piece} {i : ℕ} {p : Piece} → PiecesFilled all ps i → i < length all → i < 1024
+    → pieceIn p ≡ getD all i noPiece → PiecesFilled all (set ps i p) (i + 1)
 filled-next {all} {ps} {i} {p} f h k e =
     record {
       long = length-set ps i p ∙ f .long;
@@ -29,7 +29,7 @@ filled-next {all} {ps} {i} {p} f h k e =
           ∙ ap (λ (q : calls.Piece). take i all ++ (q ∷ [])) e);
     }
 
-pub filled-end : {all : List calls.Piece} {ps : List Piece} {i n : ℕ} → Filled all ps i → n ≡ length all → n ≤ i → map pieceIn (take n ps) ≡ all
+pub filled-end : {all : List calls.Piece} {ps : List Piece} {i n : ℕ} → PiecesFilled all ps i → n ≡ length all → n ≤ i → map pieceIn (take n ps) ≡ all
 filled-end {all} {ps} {i} {n} f e h =
     let w : i ≡ n = omega (arith, f .upto, e, h) in
     (rw w at (f .same)) ∙ take-all n all (omega (arith, e))

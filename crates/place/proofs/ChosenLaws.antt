@@ -29,7 +29,7 @@ use Rattle.place_tests.specs.Choice.{ChosenIs}
 use Rattle.freespace.specs.Walks.{unwalked, queueOf, WalkTook}
 use Rattle.freespace.specs.declared.take.Walked.{Walked}
 use Rattle.reader.proofs.CheckedLaws.{trees-in-order}
-use Rattle.place_tests.proofs.RefusalLaws.{Accepted, accepted}
+use Rattle.place_tests.proofs.RefusalLaws.{TestsPassed, accepted}
 use Rattle.place_tests.proofs.SizedLaws.{needed-short}
 use Rattle.freespace.proofs.TakeLaws.{queue-take}
 use Rattle.freespace.proofs.TakenLaws.{walk-in-range}
@@ -90,7 +90,7 @@ module _
   abbrev ks : List Key
   ks = readVolume s .trees .freespace
 
-  passed : Accepted c h
+  passed : TestsPassed c h
   passed = accepted c h (q .head) (sym (o .refusal) ∙ none)
 
   taken-many : length (walkOf c .taken) ≡ bucketsNeeded (slotsOf c)

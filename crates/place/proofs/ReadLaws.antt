@@ -14,21 +14,21 @@ use Rattle.reader.specs.Located.{KeysAt}
 use Rattle.reader.specs.Readings.{callRefusal, ListRead}
 use Rattle.reader.specs.declared.head.Head.{Head}
 use Rattle.reader.specs.declared.table.Ends.{Ends}
-use Rattle.reader.proofs.PartsLaws.{passed, read-on, read-refused, between, Part, alloc-part, freespace-part, gens-part, reserved-part, pieces-part}
+use Rattle.reader.proofs.PartsLaws.{passed, read-on, read-refused, between, TablePart, alloc-part, freespace-part, gens-part, reserved-part, pieces-part}
 use Rattle.place_tests.specs.Called.{Called}
 use Rattle.reader.proofs.CheckedLaws.{checked, base-range}
 use Rattle.place.specs.Change.{placement}
 
 module _ (s index : List ℕ) (h : Head) (e : Ends) (z : 0 ≡ callRefusal 1 s) (q : ListRead 1 s index h e) where
   -- the parts of the table that are lent
-  pub record Lent : Type 0 where
-    pub alloc : Part 0 (e .alloc) 4096 index
-    pub runs : Part (e .lru) (e .freespace) 4096 index
-    pub gens : Part (e .backpointers) (e .gens) 4096 index
-    pub reserved : Part (e .gens) (e .reserved) 4096 index
-    pub pieces : Part (e .reserved) (e .requests) 1024 index
+  pub record PartsLent : Type 0 where
+    pub alloc : TablePart 0 (e .alloc) 4096 index
+    pub runs : TablePart (e .lru) (e .freespace) 4096 index
+    pub gens : TablePart (e .backpointers) (e .gens) 4096 index
+    pub reserved : TablePart (e .gens) (e .reserved) 4096 index
+    pub pieces : TablePart (e .reserved) (e .requests) 1024 index
 
-  pub lent : Lent
+  pub lent : PartsLent
   lent =
       record {
         alloc = alloc-part 1 s index h e z q .0;

@@ -64,18 +64,18 @@ abbrev from : List ℕ → ℕ → List calls.Placed
 from s i = placedFrom (readCall s) i (readVolume s .head .base)
 
 -- at piece i: each count and what is left for its bucket are all of it
-pub record Counting (s : List ℕ) (buckets : List Bucket) (counts : List ℕ) (i : ℕ) : Type 0 where
+pub record DirtyCounting (s : List ℕ) (buckets : List Bucket) (counts : List ℕ) (i : ℕ) : Type 0 where
   pub long : length buckets ≤ length counts
   pub most : (k : ℕ) → getD counts k 0 ≤ 128 * i
   pub left : (j : ℕ) → j < length buckets
       → getD counts j 0 + dirtyIn (from s i) (bucketAt noBucket buckets j) ≡ dirtyIn (placedOf (readCall s)) (bucketAt noBucket buckets j)
 
-pub counting-first : {s : List ℕ} {buckets : List Bucket} {counts : List ℕ} → length buckets ≤ length counts → ((k : ℕ) → getD counts k 0 ≡ 0) → Counting s buckets counts 0
+pub counting-first : {s : List ℕ} {buckets : List Bucket} {counts : List ℕ} → length buckets ≤ length counts → ((k : ℕ) → getD counts k 0 ≡ 0) → DirtyCounting s buckets counts 0
 unfolding placedFrom placedOf
 counting-first l z = record { long = l; most = λ k. omega (arith, z k); left = λ j m. omega (arith, z j) }
 
 module _ {s offsets numbers : List ℕ} {buckets : List Bucket} {generations : List ℕ} {h : Head} (plan : Plan s offsets numbers buckets generations h) where
-  module _ {counts : List ℕ} {i : ℕ} (q : Counting s buckets counts i) (l : i < length offsets) (p : Piece) (e : pieceIn p ≡ pieceOf (take 13 (drop (getD offsets i 0) s)))
+  module _ {counts : List ℕ} {i : ℕ} (q : DirtyCounting s buckets counts i) (l : i < length offsets) (p : Piece) (e : pieceIn p ≡ pieceOf (take 13 (drop (getD offsets i 0) s)))
       (t : Slot) (f : slotIn t ≡ slotOf (getD numbers i 0)) where
     abbrev v : ℕ
     v = getD counts (t .index) 0 + p .stored
@@ -99,7 +99,7 @@ module _ {s offsets numbers : List ℕ} {buckets : List Bucket} {generations : L
         ≡ dirtyIn (placedOf (readCall s)) (bucketAt noBucket buckets j)
     left-here j m = ap (λ (n : ℕ). getD counts j 0 + n) (sym (from-here (bucketAt noBucket buckets j))) ∙ q .left j m
 
-    pub counting-next : Counting s buckets (set counts (t .index) v) (i + 1)
+    pub counting-next : DirtyCounting s buckets (set counts (t .index) v) (i + 1)
     counting-next =
         record {
           long = omega (arith, q .long, length-set counts (t .index) v);
@@ -128,7 +128,7 @@ module _ {s offsets numbers : List ℕ} {buckets : List Bucket} {generations : L
             (λ z. let y : _≡_ {A = Bool} true false = sym (eq-eqb (bucketAt noBucket buckets (t .index) .0) (bucketAt noBucket buckets j .0) (ap (λ (x : ℕ). bucketAt noBucket buckets x .0) (sym z))) ∙ b in let x : _≡_ {A = ℕ} 0 1 = cc in omega arith) in
             omega (arith, d, w)
 
-  pub counting-end : {counts : List ℕ} {i : ℕ} → Counting s buckets counts i → length offsets ≤ i
+  pub counting-end : {counts : List ℕ} {i : ℕ} → DirtyCounting s buckets counts i → length offsets ≤ i
       → Dirty (placedOf (readCall s)) buckets counts
   counting-end {counts} {i} q l =
       record { at = λ j m. omega (arith, rw (no-more plan i (readVolume s .head .base) l, dirty-none) at (q .left j m)) }

@@ -12,10 +12,10 @@ use Rattle.change_fields.proofs.BucketTables.{table-next, table-none}
 
 module _ (g : Bucket → ℕ) (ns : List ℕ) where
   -- those of the first i are filled in
-  abbrev pub Filled : List ℕ → ℕ → Type 0
-  Filled out i = take i out ++ map g (drop i (bucketsIn ns)) ≡ map g (bucketsIn ns)
+  abbrev pub GensFilled : List ℕ → ℕ → Type 0
+  GensFilled out i = take i out ++ map g (drop i (bucketsIn ns)) ≡ map g (bucketsIn ns)
 
-  pub filled-next : (out : List ℕ) (i : ℕ) → Filled out i → i < length ns → i < length out → Filled (set out i (g (bucketIs (getD ns i 0)))) (i + 1)
+  pub filled-next : (out : List ℕ) (i : ℕ) → GensFilled out i → i < length ns → i < length out → GensFilled (set out i (g (bucketIs (getD ns i 0)))) (i + 1)
   filled-next out i f h l =
       let x = g (bucketIs (getD ns i 0)) in
       let rest = map g (drop (i + 1) (bucketsIn ns)) in
@@ -24,7 +24,7 @@ module _ (g : Bucket → ℕ) (ns : List ℕ) where
       ∙ ap (λ (bs : List Bucket). take i out ++ map g bs) (sym (table-next ns i h))
       ∙ f
 
-  pub filled-end : (out : List ℕ) (i : ℕ) → Filled out i → i ≤ length ns → length ns ≤ i → take (length ns) out ≡ map g (bucketsIn ns)
+  pub filled-end : (out : List ℕ) (i : ℕ) → GensFilled out i → i ≤ length ns → length ns ≤ i → take (length ns) out ≡ map g (bucketsIn ns)
   filled-end out i f l h =
       let e : length ns ≡ i = omega arith in
       ap (λ (n : ℕ). take n out) e ∙ sym (append-nil (take i out))

@@ -25,7 +25,7 @@ use Rattle.calls.proofs.lists.AllOfLaws.{all-of-drop, all-of-first}
 use Rattle.reader.specs.declared.head.Head.{Head}
 use Rattle.reader.specs.Pieces.{pieceIn}
 use Rattle.next_fit.specs.Fit.{slotIn, slotOf}
-use Rattle.place_keys.specs.Plan.{Plan, Reached, Stepped, placedFrom}
+use Rattle.place_keys.specs.Plan.{Plan, Reached, PieceStepped, placedFrom}
 use Rattle.reader.specs.declared.piece.Piece.{Piece}
 use Rattle.next_fit.specs.declared.slot.Slot.{Slot}
 use Rattle.reader.proofs.NextLaws.{pieces-next}
@@ -115,7 +115,7 @@ module _ {s offsets numbers : List ℕ} {buckets : List Bucket} {generations : L
           let m : b .0 < 65536 = ltb-true (b .0) 65536 (ap bucketInRange eb ∙ low-at buckets (plan .low) (t .index)) in
           omega (arith, below 16 {a = b .0} {b = h .«bucket_sectors»} m k, offset-low t f)
 
-      pub stepped : Stepped s i from (record { piece = p; first = first; bucket = b; generation = getD generations (t .index) 0; end = end })
+      pub stepped : PieceStepped s i from (record { piece = p; first = first; bucket = b; generation = getD generations (t .index) 0; end = end })
       stepped =
           record {
             here =

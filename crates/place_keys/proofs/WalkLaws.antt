@@ -18,7 +18,7 @@ use Rattle.calls.specs.Place.{placedOf}
 use Rattle.calls.specs.Answers.{readCall, readVolume}
 use Rattle.reader.specs.declared.head.Head.{Head}
 use Rattle.wire.specs.Output.{Emitted}
-use Rattle.place_keys.specs.Plan.{Plan, Reached, Stepped, placedIn, placedFrom}
+use Rattle.place_keys.specs.Plan.{Plan, Reached, PieceStepped, placedIn, placedFrom}
 use Rattle.place_keys.specs.declared.placed.Placed.{Placed}
 use Rattle.wire.proofs.EmitLaws.{done}
 use Rattle.change_fields.proofs.FieldLists.{fields-next, fields-none}
@@ -44,7 +44,7 @@ module _ {s offsets numbers : List ℕ} {buckets : List Bucket} {generations : L
     placing-first xs at k = record { reached = omega (arith, ltb-true (h .base .0) (2 ^ 40) (plan .base)); part = rw from-first (begin xs at _ k) }
 
     pub placing-next : {xs : List ℕ} {at : ℕ} {out : List ℕ} {p : ℕ} {end : FileSector} {i : ℕ} {t : Placed} {ys : List ℕ} {r : ℕ}
-        → Placing xs at out p end i → Stepped s i end t → Emitted out p (encodeField (f (g (placedIn t)))) ys r
+        → Placing xs at out p end i → PieceStepped s i end t → Emitted out p (encodeField (f (g (placedIn t)))) ys r
         → Placing xs at ys r (t .end) (i + 1)
     placing-next q e w = record { reached = e .reached; part = turn _ (q .part) (fields-next f (ap (map g) (e .here))) w }
 

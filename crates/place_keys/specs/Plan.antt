@@ -78,7 +78,7 @@ pub record Bounded (p : Placed) : Type 0 where
   pub first : sectorNumber (p .first) < 2 ^ 44
 
 -- one step: piece i at its place, and the pieces after it
-pub record Stepped (s : List ℕ) (i : ℕ) (end : FileSector) (r : Placed) : Type 0 where
+pub record PieceStepped (s : List ℕ) (i : ℕ) (end : FileSector) (r : Placed) : Type 0 where
   pub here : placedFrom (readCall s) i end ≡ placedIn r ∷ placedFrom (readCall s) (i + 1) (r .end)
   pub reached : Reached (i + 1) (r .end)
   pub bounded : Bounded r

@@ -2,7 +2,7 @@
 ghost use Prim.Native.Nat.{_<_};
 ghost use lib.ListN.{length};
 ghost use Rattle.wire.specs.Kinds.{bucketsIn};
-ghost use Rattle.place_keys.specs.Plan.{Plan, Reached, Stepped};
+ghost use Rattle.place_keys.specs.Plan.{Plan, Reached, PieceStepped};
 use next_fit::slot;
 use reader::head::Head;
 use reader::piece;
@@ -34,7 +34,7 @@ pub fn place_piece(
 ) -> Placed
     requires { ⌜ Plan (now s) (now pieces) (now slots) (bucketsIn (now taken)) (now gens) h ⌝ }
     requires { ⌜ (i < length (now pieces)) × Reached i end ⌝ }
-    ensures { λ r. ⌜ Stepped (now (s .entry)) i end r ⌝ }
+    ensures { λ r. ⌜ PieceStepped (now (s .entry)) i end r ⌝ }
 {
     let piece = piece::read_piece(s, pieces[i] as usize);
     let slot = slot::slot_at(slots, i);

@@ -108,12 +108,12 @@ module _ (c : CallList) where
       walk-decides e = sym (past-10 ∙ verdict-next 11 enough _ e ∙ verdict-one (walkOf c .refusal))
 
   -- what all of them tell where none is met
-  pub record Accepted (h : Head) : Type 0 where
+  pub record TestsPassed (h : Head) : Type 0 where
     pub requests : Asked c h
     pub runs : overlaps (runsOf (c .volume .trees .freespace)) ≡ false
     pub free : bucketsNeeded (slotsOf c) ≤ freeCount (isIn (c .volume .reserved)) (runsOf (c .volume .trees .freespace))
 
-  pub accepted : (h : Head) → headIn h ≡ c .volume .head → verdict (placeTests c) ≡ 0 → Accepted h
+  pub accepted : (h : Head) → headIn h ≡ c .volume .head → verdict (placeTests c) ≡ 0 → TestsPassed h
   unfolding placeTests wanted
   accepted h e z =
       let first = verdict-front (take 6 (placeTests c)) rest z in

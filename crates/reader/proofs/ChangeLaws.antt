@@ -9,7 +9,7 @@ use borrow.Author.Tests.{eqb-true, le-leb}
 use native.Mathlib.Omega.{arith}
 use Rattle.wire.specs.Fields.{Field, fieldsAfter, fields, fieldAt, stepOf, whole}
 use Rattle.wire.specs.declared.fields.NextField.the-variants.{Stop}
-use Rattle.wire.proofs.FieldLaws.{FieldAt, Walked, walked-none, walked-more, whole-end, whole-left}
+use Rattle.wire.proofs.FieldLaws.{FieldAt, FieldsWalked, walked-none, walked-more, whole-end, whole-left}
 use Rattle.calls.specs.Lists.{allOf, inOrder}
 use Rattle.calls.specs.CallList.{shaped, tagsAscend}
 use Rattle.calls.specs.ChangeList.{endField, intoFirst, splitBatches, changeShapes, fieldOk, closed, changeLaidOut}
@@ -92,7 +92,7 @@ laid-is s = rw (from-is endField (fields s) (omega arith), closed-first (fields 
 
 -- the loop's invariant: what is left decides
 pub record Changing (s : List ℕ) (at last : ℕ) : Type 0 where
-  pub walked : Walked s at
+  pub walked : FieldsWalked s at
   pub left : changeFrom last (fields (drop at s)) ≡ changeFrom 76 (fields s)
 
 pub start : (s : List ℕ) → Changing s 0 76

@@ -24,7 +24,7 @@ use Rattle.calls.proofs.lists.AllOfLaws.{all-of-map}
 use Rattle.reader.proofs.BoolLaws.{apart, and-left, and-right, same}
 use Rattle.reader.proofs.ShapeLaws.{KeyTag, same-or}
 use Rattle.reader.proofs.ListLaws.{bodies-here, bodies-other, bodies-none, bodies-all, all-bodies, none-after}
-use Rattle.reader.proofs.ListedLaws.{Fits, shaped-cases, Listed, key, reserved, piece, freed, listed, key-tag-bounds, listed-above, Tagged, listed-tagged}
+use Rattle.reader.proofs.ListedLaws.{Fits, shaped-cases, FieldListed, key, reserved, piece, freed, listed, key-tag-bounds, listed-above, Tagged, listed-tagged}
 use Rattle.reader.proofs.FollowsLaws.{follows-up-all, order-from, follows-more, less, order-to}
 
 -- a tree's keys
@@ -99,7 +99,7 @@ unfolding fieldOk
 other-field f l n = simp (ne-eqb (f .tag) 70 n, lt-leb (f .tag) 14 l, and-false)
 
 listed-field :
-    {call n : ℕ} (f : Field) → Listed call (f .tag) n → (KeyTag (f .tag) → snapshot0 (f .body) ≡ true) → fieldOk f ≡ true
+    {call n : ℕ} (f : Field) → FieldListed call (f .tag) n → (KeyTag (f .tag) → snapshot0 (f .body) ≡ true) → fieldOk f ≡ true
 listed-field f (key k l m) h = key-field f k ∙ h k
 listed-field f (reserved e l) h = other-field f (omega arith) (λ z. omega arith)
 listed-field f (piece c e l) h = other-field f (omega arith) (λ z. omega arith)
@@ -174,7 +174,7 @@ first-order f [] e r h = refl
 first-order f (g ∷ fs) e (more l r) h = both (follows-more f g (omega arith)) h
 
 -- the tests of the layout, one by one
-record Laid (a b c d e r g : Bool) : Type 0 where
+record LaidParts (a b c d e r g : Bool) : Type 0 where
   shapes : a ≡ true
   tags : b ≡ true
   once : c ≡ true
@@ -183,7 +183,7 @@ record Laid (a b c d e r g : Bool) : Type 0 where
   buckets : r ≡ true
   named : g ≡ true
 
-apart-laid : (a b c d e r g : Bool) → ((a && (b && (c && (d && (e && r))))) && g) ≡ true → Laid a b c d e r g
+apart-laid : (a b c d e r g : Bool) → ((a && (b && (c && (d && (e && r))))) && g) ≡ true → LaidParts a b c d e r g
 apart-laid a b c d e r g h =
     let x = and-left (a && (b && (c && (d && (e && r))))) g h in
     let x1 = and-right a _ x in
@@ -202,7 +202,7 @@ apart-laid a b c d e r g h =
 
 laid-parts :
     (call : ℕ) (any : Bool) (fs : List Field) → laidFields call any fs ≡ true
-    → Laid (allOf (shaped (volumeShapes ++ requestShapes call)) fs) (tagsAscend fs) (eqb (length (bodies 1 fs)) 1)
+    → LaidParts (allOf (shaped (volumeShapes ++ requestShapes call)) fs) (tagsAscend fs) (eqb (length (bodies 1 fs)) 1)
     (headOk (callListOf fs .volume .head))
     (treesOk (callListOf fs .volume .trees))
     (inOrder bucketBelow (callListOf fs .volume .reserved))

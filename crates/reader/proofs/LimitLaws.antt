@@ -23,10 +23,10 @@ use Rattle.calls.proofs.lists.AllOfLaws.{all-of-map}
 use Rattle.reader.proofs.BoolLaws.{and-left, and-right}
 use Rattle.reader.proofs.ShapeLaws.{same-or}
 use Rattle.reader.proofs.ListLaws.{bodies-all, all-bodies}
-use Rattle.reader.proofs.ListedLaws.{Listed, key, reserved, piece, freed}
+use Rattle.reader.proofs.ListedLaws.{FieldListed, key, reserved, piece, freed}
 
 -- the limits, one by one
-pub record Within (fs : List Field) : Type 0 where
+pub record FieldsWithin (fs : List Field) : Type 0 where
   pub alloc : length (bodies 4 fs) ≤ 4096
   pub lru : length (bodies 10 fs) ≤ 4096
   pub freespace : length (bodies 11 fs) ≤ 4096
@@ -48,7 +48,7 @@ few-of f n bs h = leb-true (length bs) n (rw length-map at h)
 of-few : {A : Type 0} (f : List ℕ → A) (n : ℕ) (bs : List (List ℕ)) → length bs ≤ n → leb (length (map f bs)) n ≡ true
 of-few f n bs h = rw length-map (le-leb (length bs) n h)
 
-pub within-parts : (fs : List Field) → listWithin (callListOf fs) ≡ true → Within fs
+pub within-parts : (fs : List Field) → listWithin (callListOf fs) ≡ true → FieldsWithin fs
 unfolding listWithin volumeWithin countsOk fewKeys bucketsOk callListOf treesOf
 within-parts fs h =
     let v = and-left (volumeWithin (callListOf fs .volume)) _ h in
@@ -83,7 +83,7 @@ within-parts fs h =
       releases = few-of freedOf 1024 (bodies 66 fs) (and-right (leb (length (map pieceOf (bodies 65 fs))) 1024) _ r);
     }
 
-pub parts-within : (fs : List Field) → Within fs → listWithin (callListOf fs) ≡ true
+pub parts-within : (fs : List Field) → FieldsWithin fs → listWithin (callListOf fs) ≡ true
 unfolding listWithin volumeWithin countsOk fewKeys bucketsOk callListOf treesOf
 parts-within fs w =
     both
@@ -142,7 +142,7 @@ module _ (f : Field) where
         rw (ne-eqb (f .tag) 4 (λ z. omega arith), ne-eqb (f .tag) 11 (λ z. omega arith), ne-eqb (f .tag) 12 (λ z. omega arith), eq-eqb (f .tag) 64 e) at h
 
 -- a list's fields keep the limits
-pub fields-within : (fs : List Field) → Within fs → allOf fieldWithin fs ≡ true
+pub fields-within : (fs : List Field) → FieldsWithin fs → allOf fieldWithin fs ≡ true
 fields-within fs w =
     all-test fieldWithin
     (all-imp (λ f h. field-made f (h .0) (h .1 .0) (h .1 .1 .0) (h .1 .1 .1))
@@ -168,7 +168,7 @@ module _ (fs : List Field) (h : allOf fieldWithin fs ≡ true) where
   within-reserved = all-bodies 64 (λ b. bucketInRange (bucketRead b)) (all-imp field-reserved each)
 
 -- a tag's fields are no more than may be
-pub few-at : {call t n : ℕ} (fs : List Field) → Within fs → Listed call t n → length (bodies t fs) ≤ mostOf (rankOf t)
+pub few-at : {call t n : ℕ} (fs : List Field) → FieldsWithin fs → FieldListed call t n → length (bodies t fs) ≤ mostOf (rankOf t)
 unfolding rankOf
 few-at fs w (key (inl e) l m) = rw e (w .alloc)
 few-at fs w (key (inr (inl e)) l m) = rw e (w .lru)

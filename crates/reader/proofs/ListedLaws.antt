@@ -41,19 +41,19 @@ shaped-cases s ss f h =
     (or-cases (eqb (f .tag) (s .tag) && (leb (s .least) (length (f .body)) && leb (length (f .body)) (s .most))) _ h)
 
 -- a field after field 1: its tag and its length
-pub data Listed (call t n : ℕ) : Type 0 where
-  key : KeyTag t → 37 ≤ n → n ≤ 293 → Listed call t n
-  reserved : t ≡ 64 → n ≡ 4 → Listed call t n
-  piece : call ≡ 1 → t ≡ 65 → n ≡ 13 → Listed call t n
-  freed : call ≡ 2 → t ≡ 66 → n ≡ 10 → Listed call t n
+pub data FieldListed (call t n : ℕ) : Type 0 where
+  key : KeyTag t → 37 ≤ n → n ≤ 293 → FieldListed call t n
+  reserved : t ≡ 64 → n ≡ 4 → FieldListed call t n
+  piece : call ≡ 1 → t ≡ 65 → n ≡ 13 → FieldListed call t n
+  freed : call ≡ 2 → t ≡ 66 → n ≡ 10 → FieldListed call t n
 
-listed-request : (call : ℕ) (f : Field) → shaped (requestShapes call) f ≡ true → Listed call (f .tag) (length (f .body))
+listed-request : (call : ℕ) (f : Field) → shaped (requestShapes call) f ≡ true → FieldListed call (f .tag) (length (f .body))
 unfolding requestShapes shaped
 listed-request call f h = go (eqb call 1) (eqb call 2) refl refl h
   where
     go :
         (p q : Bool) → eqb call 1 ≡ p → eqb call 2 ≡ q
-        → shaped (cond p (exactly 65 13 ∷ []) (cond q (exactly 66 10 ∷ []) [])) f ≡ true → Listed call (f .tag) (length (f .body))
+        → shaped (cond p (exactly 65 13 ∷ []) (cond q (exactly 66 10 ∷ []) [])) f ≡ true → FieldListed call (f .tag) (length (f .body))
     go true q x y h =
         ⊎-elim (λ w. piece (eqb-true call 1 x) (w .tag) (omega (arith, w .least, w .most))) (λ z. apart (sym z))
         (shaped-cases (exactly 65 13) [] f h)
@@ -62,7 +62,7 @@ listed-request call f h = go (eqb call 1) (eqb call 2) refl refl h
         (shaped-cases (exactly 66 10) [] f h)
     go false false x y h = apart (sym h)
 
-pub listed : (call : ℕ) (f : Field) → shaped (restShapes call) f ≡ true → Listed call (f .tag) (length (f .body))
+pub listed : (call : ℕ) (f : Field) → shaped (restShapes call) f ≡ true → FieldListed call (f .tag) (length (f .body))
 unfolding restShapes volumeShapes
 listed call f h =
     ⊎-elim (λ w. key (inl (w .tag)) (w .least) (w .most))
@@ -94,7 +94,7 @@ key-tag-bounds t (inr (inr (inr (inl e)))) = (omega arith, omega arith)
 key-tag-bounds t (inr (inr (inr (inr (inl e))))) = (omega arith, omega arith)
 key-tag-bounds t (inr (inr (inr (inr (inr e))))) = (omega arith, omega arith)
 
-pub listed-above : {call t n : ℕ} → Listed call t n → 1 < t
+pub listed-above : {call t n : ℕ} → FieldListed call t n → 1 < t
 listed-above {t} (key k l m) = let b = key-tag-bounds t k in omega (arith, b .0)
 listed-above (reserved e l) = omega arith
 listed-above (piece c e l) = omega arith
@@ -104,7 +104,7 @@ listed-above (freed c e l) = omega arith
 abbrev pub Tagged : ℕ → Type 0
 Tagged t = KeyTag t ⊎ (14 < t)
 
-pub listed-tagged : {call t n : ℕ} → Listed call t n → Tagged t
+pub listed-tagged : {call t n : ℕ} → FieldListed call t n → Tagged t
 listed-tagged (key k l m) = inl k
 listed-tagged (reserved e l) = inr (omega arith)
 listed-tagged (piece c e l) = inr (omega arith)

@@ -20,7 +20,7 @@ use Rattle.reader.specs.Readings.{callRefusal, listRefusal}
 use Rattle.reader.proofs.BoolLaws.{and-left, and-right, apart}
 use Rattle.reader.proofs.ShapeLaws.{same-or}
 use Rattle.reader.proofs.ListLaws.{bodies-here, bodies-other}
-use Rattle.reader.proofs.ListedLaws.{Listed, key, reserved, piece, freed, key-tag-bounds}
+use Rattle.reader.proofs.ListedLaws.{FieldListed, key, reserved, piece, freed, key-tag-bounds}
 use Rattle.reader.proofs.LayoutLaws.{laidFields, laid-is, laid-none}
 use Rattle.reader.proofs.FieldRankLaws.{AllListed}
 use Rattle.reader.proofs.FirstFieldLaws.{opened, after-first}
@@ -29,17 +29,17 @@ use Rattle.reader.proofs.ReadingLaws.{all-listed}
 use Rattle.reader.proofs.VolumeLaws.{call-refusal}
 
 -- a list that is not refused
-record Kept (s : List ℕ) (call : ℕ) (any : Bool) : Type 0 where
+record ListKept (s : List ℕ) (call : ℕ) (any : Bool) : Type 0 where
   laid : laidFields call any (fields s) ≡ true
   within : listWithin (callListOf (fields s)) ≡ true
 
-kept : (s : List ℕ) (call : ℕ) (any : Bool) → 0 ≡ listRefusal call any s → Kept s call any
+kept : (s : List ℕ) (call : ℕ) (any : Bool) → 0 ≡ listRefusal call any s → ListKept s call any
 kept s call any h =
     go (whole s) (laidFields call any (fields s)) (listWithin (callListOf (fields s))) refl refl (h ∙ refusal-is s call any)
   where
     go :
         (a b c : Bool) → laidFields call any (fields s) ≡ b → listWithin (callListOf (fields s)) ≡ c
-        → _≡_ {A = ℕ} 0 (cond (a && b) (cond c 0 3) 2) → Kept s call any
+        → _≡_ {A = ℕ} 0 (cond (a && b) (cond c 0 3) 2) → ListKept s call any
     go true true true x y z = record { laid = x; within = y }
     go true true false x y z = absurd (omega arith)
     go true false c x y z = absurd (omega arith)
@@ -58,11 +58,11 @@ rest-listed s call any h =
     let k = sym (laid-is call any (fieldAt s 1 3 39) (fields (drop 42 s))) ∙ ap (laidFields call any) (sym (o .first .here)) ∙ h in
     all-listed call (fields (drop 42 s)) (and-left _ _ (and-right (startsOk call any (fieldAt s 1 3 39 ∷ fields (drop 42 s))) _ k))
 
-bodies-listed : (call t : ℕ) {fs : List Field} → AllListed call fs → All (λ b. Listed call t (length b)) (bodies t fs)
+bodies-listed : (call t : ℕ) {fs : List Field} → AllListed call fs → All (λ b. FieldListed call t (length b)) (bodies t fs)
 unfolding bodies those
 bodies-listed call t none = none
 bodies-listed call t (more {a = f} {s = fs} l r) =
-    ⊎-elim (λ e. rw (bodies-here t f fs e) (more (subst (λ (u : ℕ). Listed call u (length (f .body))) e l) (bodies-listed call t r)))
+    ⊎-elim (λ e. rw (bodies-here t f fs e) (more (subst (λ (u : ℕ). FieldListed call u (length (f .body))) e l) (bodies-listed call t r)))
     (λ n. rw (bodies-other t f fs n) (bodies-listed call t r)) (same-or (f .tag) t)
 
 -- a list that `read_call` or `read_volume` read: its refusal is 0
@@ -75,11 +75,11 @@ module _ (call : ℕ) (any : Bool) (s : List ℕ) (h : 0 ≡ listRefusal call an
 
   -- each body is as long as its tag asks
   pub body-listed :
-      (t i : ℕ) → 1 < t → i < length (bodies t (fields s)) → Listed call t (length (getD (bodies t (fields s)) i []))
+      (t i : ℕ) → 1 < t → i < length (bodies t (fields s)) → FieldListed call t (length (getD (bodies t (fields s)) i []))
   body-listed t i l k =
       let q = kept s call any h .laid in
       let z = after-first s call any (opened s call any (started s call any q)) t l in
-      let r : All (λ b. Listed call t (length b)) (bodies t (fields s)) = rw z (bodies-listed call t (rest-listed s call any q)) in
+      let r : All (λ b. FieldListed call t (length b)) (bodies t (fields s)) = rw z (bodies-listed call t (rest-listed s call any q)) in
       all-nth [] r i k
 
 -- the length before a body is the body's
@@ -93,31 +93,31 @@ pub record KeyReady (s : List ℕ) (at : ℕ) : Type 0 where
   pub long : 37 ≤ le 2 (drop (at - 2) s)
   pub short : le 2 (drop (at - 2) s) ≤ 293
 
-key-sizes : {call t n : ℕ} → Listed call t n → t ≤ 14 → (37 ≤ n) × (n ≤ 293)
+key-sizes : {call t n : ℕ} → FieldListed call t n → t ≤ 14 → (37 ≤ n) × (n ≤ 293)
 key-sizes (key k l m) h = (l, m)
 key-sizes (reserved e l) h = absurd (omega arith)
 key-sizes (piece c e l) h = absurd (omega arith)
 key-sizes (freed c e l) h = absurd (omega arith)
 
-pub key-ready : {call t at : ℕ} {s body : List ℕ} → t ≤ 14 → FieldHere s at t body → Listed call t (length body) → KeyReady s at
+pub key-ready : {call t at : ℕ} {s body : List ℕ} → t ≤ 14 → FieldHere s at t body → FieldListed call t (length body) → KeyReady s at
 key-ready h f l =
     let b = key-sizes l h in
     record { after = f .after; within = f .within; long = omega (arith, b .0, here-length f); short = omega (arith, b .1, here-length f) }
 
 -- the lengths of the other bodies
-pub reserved-size : {call n : ℕ} → Listed call 64 n → n ≡ 4
+pub reserved-size : {call n : ℕ} → FieldListed call 64 n → n ≡ 4
 reserved-size (key k l m) = let b = key-tag-bounds 64 k in absurd (omega (arith, b .1))
 reserved-size (reserved e l) = l
 reserved-size (piece c e l) = absurd (omega arith)
 reserved-size (freed c e l) = absurd (omega arith)
 
-pub piece-size : {call n : ℕ} → Listed call 65 n → n ≡ 13
+pub piece-size : {call n : ℕ} → FieldListed call 65 n → n ≡ 13
 piece-size (key k l m) = let b = key-tag-bounds 65 k in absurd (omega (arith, b .1))
 piece-size (reserved e l) = absurd (omega arith)
 piece-size (piece c e l) = l
 piece-size (freed c e l) = absurd (omega arith)
 
-pub freed-size : {call n : ℕ} → Listed call 66 n → n ≡ 10
+pub freed-size : {call n : ℕ} → FieldListed call 66 n → n ≡ 10
 freed-size (key k l m) = let b = key-tag-bounds 66 k in absurd (omega (arith, b .1))
 freed-size (reserved e l) = absurd (omega arith)
 freed-size (piece c e l) = absurd (omega arith)

@@ -27,16 +27,16 @@ use Rattle.reader.proofs.OfferedLaws.{call-kept, limits-kept}
 use Rattle.reader.proofs.LocatedLaws.{keys-located, buckets-located, pieces-located, freeds-located}
 
 -- a list that `read_call` read meets neither 2 nor 3
-pub record FieldNoted (call : ℕ) (s : List ℕ) : Type 0 where
+pub record CallPassed (call : ℕ) (s : List ℕ) : Type 0 where
   pub laid : callLaidOut call s ≡ true
   pub within : listWithin (readCall s) ≡ true
 
-pub passed : (call : ℕ) (s : List ℕ) → 0 ≡ callRefusal call s → FieldNoted call s
+pub passed : (call : ℕ) (s : List ℕ) → 0 ≡ callRefusal call s → CallPassed call s
 unfolding callRefusal verdict
 passed call s h = go (callLaidOut call s) (listWithin (readCall s)) refl refl h
   where
     go :
-        (a b : Bool) → callLaidOut call s ≡ a → listWithin (readCall s) ≡ b → 0 ≡ verdict (test 2 a ∷ test 3 b ∷ []) → FieldNoted call s
+        (a b : Bool) → callLaidOut call s ≡ a → listWithin (readCall s) ≡ b → 0 ≡ verdict (test 2 a ∷ test 3 b ∷ []) → CallPassed call s
     go true true x y z = record { laid = x; within = y }
     go true false x y z = absurd (omega arith)
     go false b x y z = absurd (omega arith)
@@ -102,7 +102,7 @@ few-in c h =
     }
 
 -- a part of the table within it
-pub record Part (from to most : ℕ) (index : List ℕ) : Type 0 where
+pub record TablePart (from to most : ℕ) (index : List ℕ) : Type 0 where
   pub forth : from ≤ to
   pub within : to ≤ length index
   pub few : to - from ≤ most
@@ -116,7 +116,7 @@ module _ (call : ℕ) (s index : List ℕ) (h : Head) (c : Ends) (z : 0 ≡ call
 
   -- a part of the table, of as many offsets as bodies
   counted : (from to t : ℕ) → 1 < t → t ≤ 14 → to ≡ from + length (bodies t (fields s)) → to ≤ length index → length (map keyOf (bodies t (fields s))) ≤ 4096
-      → Tabled s index from t (bodies t (fields s)) → Part from to 4096 index × KeysAt s (between from to index) (map keyOf (bodies t (fields s)))
+      → Tabled s index from t (bodies t (fields s)) → TablePart from to 4096 index × KeysAt s (between from to index) (map keyOf (bodies t (fields s)))
   counted from to t l m e low short tab =
       let w : to - from ≡ length (bodies t (fields s)) = omega arith in (
         record { forth = omega arith; within = low; few = omega (arith, w, short, length-map (bodies t (fields s)) keyOf) },
@@ -124,7 +124,7 @@ module _ (call : ℕ) (s index : List ℕ) (h : Head) (c : Ends) (z : 0 ≡ call
       )
 
   -- trees 4, 11, 12 and 14
-  pub alloc-part : Part 0 (c .alloc) 4096 index × KeysAt s (take (c .alloc) index) (readVolume s .trees .alloc)
+  pub alloc-part : TablePart 0 (c .alloc) 4096 index × KeysAt s (take (c .alloc) index) (readVolume s .trees .alloc)
   unfolding callListOf treesOf
   alloc-part =
       let e = q .ends in
@@ -135,7 +135,7 @@ module _ (call : ℕ) (s index : List ℕ) (h : Head) (c : Ends) (z : 0 ≡ call
       let n : c .alloc - 0 ≡ c .alloc = omega arith in
       (r .0, rw n at (r .1))
 
-  pub freespace-part : Part (c .lru) (c .freespace) 4096 index × KeysAt s (between (c .lru) (c .freespace) index) (readVolume s .trees .freespace)
+  pub freespace-part : TablePart (c .lru) (c .freespace) 4096 index × KeysAt s (between (c .lru) (c .freespace) index) (readVolume s .trees .freespace)
   unfolding callListOf treesOf
   freespace-part =
       let e = q .ends in
@@ -143,7 +143,7 @@ module _ (call : ℕ) (s index : List ℕ) (h : Head) (c : Ends) (z : 0 ≡ call
       (omega (arith, e .needDiscard, e .backpointers, e .gens, e .reserved, e .requests, e .within))
       (few .freespace) (q .table .freespace)
 
-  pub need-discard-part : Part (c .freespace) (c .«need_discard») 4096 index × KeysAt s (between (c .freespace) (c .«need_discard») index) (readVolume s .trees .needDiscard)
+  pub need-discard-part : TablePart (c .freespace) (c .«need_discard») 4096 index × KeysAt s (between (c .freespace) (c .«need_discard») index) (readVolume s .trees .needDiscard)
   unfolding callListOf treesOf
   need-discard-part =
       let e = q .ends in
@@ -151,7 +151,7 @@ module _ (call : ℕ) (s index : List ℕ) (h : Head) (c : Ends) (z : 0 ≡ call
       (omega (arith, e .backpointers, e .gens, e .reserved, e .requests, e .within))
       (few .needDiscard) (q .table .needDiscard)
 
-  pub gens-part : Part (c .backpointers) (c .gens) 4096 index × KeysAt s (between (c .backpointers) (c .gens) index) (readVolume s .trees .gens)
+  pub gens-part : TablePart (c .backpointers) (c .gens) 4096 index × KeysAt s (between (c .backpointers) (c .gens) index) (readVolume s .trees .gens)
   unfolding callListOf treesOf
   gens-part =
       let e = q .ends in
@@ -160,7 +160,7 @@ module _ (call : ℕ) (s index : List ℕ) (h : Head) (c : Ends) (z : 0 ≡ call
       (few .gens) (q .table .gens)
 
   -- the reserved buckets
-  pub reserved-part : Part (c .gens) (c .reserved) 4096 index × BucketsAt s (between (c .gens) (c .reserved) index) (readVolume s .reserved)
+  pub reserved-part : TablePart (c .gens) (c .reserved) 4096 index × BucketsAt s (between (c .gens) (c .reserved) index) (readVolume s .reserved)
   unfolding callListOf
   reserved-part =
       let bs = bodies 64 (fields s) in
@@ -173,7 +173,7 @@ module _ (call : ℕ) (s index : List ℕ) (h : Head) (c : Ends) (z : 0 ≡ call
 
 -- the requests of a placement
 module _ (s index : List ℕ) (h : Head) (c : Ends) (z : 0 ≡ callRefusal 1 s) (q : ListRead 1 s index h c) where
-  pub pieces-part : Part (c .reserved) (c .requests) 1024 index × PiecesAt s (between (c .reserved) (c .requests) index) (readCall s .pieces)
+  pub pieces-part : TablePart (c .reserved) (c .requests) 1024 index × PiecesAt s (between (c .reserved) (c .requests) index) (readCall s .pieces)
   unfolding callListOf
   pieces-part =
       let bs = bodies 65 (fields s) in
@@ -186,7 +186,7 @@ module _ (s index : List ℕ) (h : Head) (c : Ends) (z : 0 ≡ callRefusal 1 s) 
 
 -- the requests of a release
 module _ (s index : List ℕ) (h : Head) (c : Ends) (z : 0 ≡ callRefusal 2 s) (q : ListRead 2 s index h c) where
-  pub freeds-part : Part (c .reserved) (c .requests) 1024 index × FreedsAt s (between (c .reserved) (c .requests) index) (readCall s .releases)
+  pub freeds-part : TablePart (c .reserved) (c .requests) 1024 index × FreedsAt s (between (c .reserved) (c .requests) index) (readCall s .releases)
   unfolding callListOf
   freeds-part =
       let bs = bodies 66 (fields s) in

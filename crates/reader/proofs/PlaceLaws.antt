@@ -23,7 +23,7 @@ use Rattle.reader.specs.CallFields.{fieldFrom, leastOf, ascends, follows
 use Rattle.reader.specs.Table.{FieldHere}
 use Rattle.reader.proofs.ShapeLaws.{same-or}
 use Rattle.reader.proofs.OrderingLaws.{least-key, least-reserved}
-use Rattle.reader.proofs.ListedLaws.{Listed, key, reserved, piece, freed, key-tag-bounds}
+use Rattle.reader.proofs.ListedLaws.{FieldListed, key, reserved, piece, freed, key-tag-bounds}
 
 module _ (s : List ℕ) (b n : ℕ) where
   pos-cut : 37 ≤ n → keyOf (take n (drop b s)) .pos ≡ keyOf (drop b s) .pos
@@ -103,13 +103,13 @@ follows-cut s u a n t b m l k =
     (same-or u t)
 
 -- the lengths of a listed field
-pub listed-least : {call t n : ℕ} → Listed call t n → leastOf t ≤ n
+pub listed-least : {call t n : ℕ} → FieldListed call t n → leastOf t ≤ n
 listed-least {t} (key k l m) = let b = key-tag-bounds t k in omega (arith, least-key t (b .1))
 listed-least (reserved e l) = rw (e, l) (omega arith)
 listed-least (piece c e l) = rw (e, l) (omega arith)
 listed-least (freed c e l) = rw (e, l) (omega arith)
 
-pub listed-most : {call t n : ℕ} → Listed call t n → n ≤ 293
+pub listed-most : {call t n : ℕ} → FieldListed call t n → n ≤ 293
 listed-most (key k l m) = m
 listed-most (reserved e l) = omega arith
 listed-most (piece c e l) = omega arith

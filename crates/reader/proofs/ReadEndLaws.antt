@@ -15,14 +15,14 @@ use Rattle.calls.specs.Limits.{listWithin}
 use Rattle.calls.proofs.encoding.Blocks.{field}
 use Rattle.calls.proofs.lists.OrderLaws.{order-tail}
 use Rattle.reader.specs.CallFields.{callFieldOk, follows, headWithin, fieldWithin}
-use Rattle.reader.specs.Table.{mostOf, endOf, Indexed, Ended, endsIn, requestBodies, requestTag, Tabled}
+use Rattle.reader.specs.Table.{mostOf, rankEnd, Indexed, Ended, endsIn, requestBodies, requestTag, Tabled}
 use Rattle.reader.specs.Readings.{listRefusal}
 use Rattle.reader.proofs.BoolLaws.{apart}
 use Rattle.reader.proofs.LayoutLaws.{laidFields}
 use Rattle.reader.proofs.FieldRankLaws.{inRank, AllListed, rank-alloc, rank-lru, rank-freespace, rank-need-discard, rank-backpointers, rank-gens, rank-reserved, rank-asked, no-pieces, no-releases}
-use Rattle.reader.proofs.LimitLaws.{Within, parts-within, within-alloc, within-run, within-waiting, within-reserved}
+use Rattle.reader.proofs.LimitLaws.{FieldsWithin, parts-within, within-alloc, within-run, within-waiting, within-reserved}
 use Rattle.reader.proofs.NotingLaws.{noField, Standing, Noting, end-most, ends-fit, rank-counted, all-here, all-within}
-use Rattle.reader.proofs.RankLaws.{Ranked, ranked, fewer, rank-at, rank-inside, counted-fewer}
+use Rattle.reader.proofs.RankLaws.{InRanks, ranked, fewer, rank-at, rank-inside, counted-fewer}
 use Rattle.reader.proofs.ListRefusalLaws.{RefusedBy, passed-by, accepted}
 use Rattle.reader.proofs.ReadingLaws.{Limits, Going, laid-here, all-listed}
 use Rattle.reader.proofs.FirstFieldLaws.{head-of, after-first}
@@ -79,7 +79,7 @@ module _
         none-passed true z w = apart z
         none-passed false z w = w
 
-    pub ends-table : endOf counts 8 ≤ 29696
+    pub ends-table : rankEnd counts 8 ≤ 29696
     ends-table = ends-fit s (fields (drop 42 s)) at m counts index (g .width) (noted .0)
 
     -- a rank's bodies, in the whole list
@@ -110,24 +110,24 @@ module _
     -- the places of a rank stand after those of the ranks below
     in-rank :
         (k : ℕ) → k < 8 → (i : ℕ) → i < length (inRank k (fields (drop 42 s)))
-        → Standing s (getD index (endOf counts k + i) 0) (getD (inRank k (fields (drop 42 s))) i noField)
+        → Standing s (getD index (rankEnd counts k + i) 0) (getD (inRank k (fields (drop 42 s))) i noField)
     in-rank k l i h =
         let fs = fields (drop 42 s) in
-        let base : endOf counts k ≡ fewer k fs = counted-fewer counts fs (rank-counted s fs at m counts index (noted .0) e) k (omega arith) in
+        let base : rankEnd counts k ≡ fewer k fs = counted-fewer counts fs (rank-counted s fs at m counts index (noted .0) e) k (omega arith) in
         let r = rest-ranked in
         rw (base, ← rank-at r k i h) (all-here s fs at m counts index (noted .0) e (fewer k fs + i) (rank-inside fs k i h))
       where
-        rest-ranked : Ranked (fields (drop 42 s))
+        rest-ranked : InRanks (fields (drop 42 s))
         rest-ranked = ranked call (fields (drop 42 s)) rest-ordered rest
 
-    table-is : (k t : ℕ) (bs : List (List ℕ)) → k < 8 → RankIs k t bs → Tabled s index (endOf counts k) t bs
+    table-is : (k t : ℕ) (bs : List (List ℕ)) → k < 8 → RankIs k t bs → Tabled s index (rankEnd counts k) t bs
     table-is k t bs l z i h =
         rw (z, field-of t bs i h) at (in-rank k l i (omega (arith, ap length z, length-map bs (field t))))
 
     -- where a rank ends
-    end-is : (k t : ℕ) (bs : List (List ℕ)) → k < 8 → RankIs k t bs → endOf counts (suc k) ≡ endOf counts k + length bs
-    unfolding endOf
-    end-is k t bs l z = ap (λ (x : ℕ). endOf counts k + x) (count-is k t bs l z)
+    end-is : (k t : ℕ) (bs : List (List ℕ)) → k < 8 → RankIs k t bs → rankEnd counts (suc k) ≡ rankEnd counts k + length bs
+    unfolding rankEnd
+    end-is k t bs l z = ap (λ (x : ℕ). rankEnd counts k + x) (count-is k t bs l z)
 
     alloc : RankIs 0 4 (bodies 4 (fields s))
     alloc = rank-bodies 0 4 (omega arith) (rank-alloc call (fields (drop 42 s)) rest)
@@ -150,8 +150,8 @@ module _
     reserved : RankIs 6 64 (bodies 64 (fields s))
     reserved = rank-bodies 6 64 (omega arith) (rank-reserved call (fields (drop 42 s)) rest)
 
-    first-end : endOf counts 1 ≡ length (bodies 4 (fields s))
-    unfolding endOf
+    first-end : rankEnd counts 1 ≡ length (bodies 4 (fields s))
+    unfolding rankEnd
     first-end = omega (arith, count-is 0 4 (bodies 4 (fields s)) (omega arith) alloc)
 
     pub ends-ended : Ended call s index (endsIn counts)
@@ -169,7 +169,7 @@ module _
         }
 
     pub ends-indexed : Indexed call s index (endsIn counts)
-    unfolding endOf
+    unfolding rankEnd
     ends-indexed =
         record {
           alloc = table-is 0 4 (bodies 4 (fields s)) (omega arith) alloc;
@@ -213,7 +213,7 @@ module _
     unfolding callListOf
     ends-headed = ap headOf head-is
 
-    within-all : Within (fields s)
+    within-all : FieldsWithin (fields s)
     within-all =
         record {
           alloc = few-is 0 4 (bodies 4 (fields s)) (omega arith) alloc;

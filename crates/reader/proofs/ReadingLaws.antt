@@ -9,7 +9,7 @@ use native.Mathlib.Omega.{arith}
 use Rattle.wire.specs.Fields.{Field, fields, fieldAt, stepOf}
 use Rattle.wire.specs.declared.fields.NextField.the-variants.{Found, Stop}
 use Rattle.wire.proofs.NumberLaws.{body-length}
-use Rattle.wire.proofs.FieldLaws.{FieldAt, field-at, Walked, walked-none, walked-more, whole-left}
+use Rattle.wire.proofs.FieldLaws.{FieldAt, field-at, FieldsWalked, walked-none, walked-more, whole-left}
 use Rattle.calls.specs.Lists.{allOf, inOrder}
 use Rattle.calls.specs.CallList.{headOf, bodies, callListOf, shaped}
 use Rattle.calls.specs.Limits.{listWithin}
@@ -18,7 +18,7 @@ use Rattle.calls.proofs.lists.AllLaws.{test-all, all-imp}
 use Rattle.reader.specs.CallFields.{restShapes, callFieldOk, startsOk, fieldFrom, leastOf, follows, headWithin, fieldWithin}
 use Rattle.reader.specs.Table.{rankOf, mostOf, Fits, Free, room, FieldNoted}
 use Rattle.reader.proofs.BoolLaws.{apart, and-left, and-right, fails}
-use Rattle.reader.proofs.ListedLaws.{Listed, listed, listed-above}
+use Rattle.reader.proofs.ListedLaws.{FieldListed, listed, listed-above}
 use Rattle.reader.proofs.LayoutLaws.{laidFields, laid-is}
 use Rattle.reader.proofs.FieldRankLaws.{inRank, AllListed, rank-listed, rank-below}
 use Rattle.reader.proofs.LimitLaws.{within-parts, fields-within, few-at}
@@ -39,7 +39,7 @@ Limits s call at m counts index false =
 -- m fields were passed
 pub record Going (s : List ℕ) (call : ℕ) (any : Bool) (at m last before : ℕ) (over : Bool) (counts index : List ℕ) : Type 0 where
   pub open1 : Opened s call any
-  pub walked : Walked s at
+  pub walked : FieldsWalked s at
   pub len : ℕ
   pub inside : before + len ≤ length s
   pub least : leastOf last ≤ len
@@ -101,7 +101,7 @@ unfolding callFieldOk
 all-listed call fs h = all-imp (λ f k. listed call f (and-left (shaped (restShapes call) f) _ k)) (test-all (callFieldOk call) fs h)
 
 ok-listed :
-    (s : List ℕ) (call t b n : ℕ) → b + n ≤ length s → callFieldOk call (fieldAt s t b n) ≡ true → Listed call t n
+    (s : List ℕ) (call t b n : ℕ) → b + n ≤ length s → callFieldOk call (fieldAt s t b n) ≡ true → FieldListed call t n
 unfolding callFieldOk
 ok-listed s call t b n w h =
     let l = listed call (fieldAt s t b n) (and-left (shaped (restShapes call) (fieldAt s t b n)) _ h) in
@@ -124,7 +124,7 @@ module _
         broken s call any (laid-here s call any (g .open1) ∙ simp z)
 
     module _ (ok : callFieldOk call (fieldAt s t b n) ≡ true) where
-      pub next-listed : Listed call t n
+      pub next-listed : FieldListed call t n
       next-listed = ok-listed s call t b n (f .within) ok
 
       pub next-within : b + leastOf t ≤ length s
@@ -162,7 +162,7 @@ module _ (s : List ℕ) (call : ℕ) (any : Bool) (o : Opened s call any) where
   over-field h = fails _ _ (λ k. rest-within (fields-within (fields s) (within-parts (fields s) k))) h
 
   over-rank :
-      (t n : ℕ) → Listed call t n → AllListed call (fields (drop 42 s))
+      (t n : ℕ) → FieldListed call t n → AllListed call (fields (drop 42 s))
       → mostOf (rankOf t) < length (inRank (rankOf t) (fields (drop 42 s))) → listWithin (callListOf (fields s)) ≡ false
   over-rank t n l r h =
       refute (listWithin (callListOf (fields s)))
@@ -187,7 +187,7 @@ module _
   f : FieldAt s at t b n
   f = field-at s at t b n e
 
-  l : Listed call t n
+  l : FieldListed call t n
   l = ok-listed s call t b n (f .within) ok
 
   here-within : (q : Bool) → q ≡ fieldWithin (fieldFrom s t b) → fieldWithin (fieldAt s t b n) ≡ q

@@ -26,7 +26,7 @@ use Rattle.reader.specs.declared.head.Head.{Head}
 use Rattle.reader.specs.declared.table.Ends.{Ends}
 use Rattle.reader.proofs.CheckedLaws.{checked}
 use Rattle.reader.proofs.KeyHereLaws.{keyed, keys-here}
-use Rattle.reader.proofs.PartsLaws.{passed, read-on, read-refused, Part, alloc-part, gens-part, freeds-part}
+use Rattle.reader.proofs.PartsLaws.{passed, read-on, read-refused, TablePart, alloc-part, gens-part, freeds-part}
 use Rattle.reader.specs.Table.{between}
 use Rattle.release_sums.specs.Freeds.{freedsIn, Requested}
 use Rattle.release_sums.specs.Summing.{Cleared}
@@ -150,7 +150,7 @@ module _ {s index : List ℕ} {h : Head} {e : Ends} (q : ListRead 2 s index h e)
   abbrev requests : List ℕ
   requests = between (e .reserved) (e .requests) index
 
-  pub parts-within : Part 0 (e .alloc) 4096 index × Part (e .backpointers) (e .gens) 4096 index × Part (e .reserved) (e .requests) 1024 index
+  pub parts-within : TablePart 0 (e .alloc) 4096 index × TablePart (e .backpointers) (e .gens) 4096 index × TablePart (e .reserved) (e .requests) 1024 index
   parts-within = (alloc-part 2 s index h e z q .0, gens-part 2 s index h e z q .0, freeds-part s index h e z q .0)
 
   allocs-at : KeysAt s allocs (readVolume s .trees .alloc)

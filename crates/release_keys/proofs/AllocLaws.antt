@@ -26,7 +26,7 @@ use Rattle.reader.specs.KeyHere.{keysHere}
 use Rattle.reader.specs.Located.{noKey}
 use Rattle.change_fields.proofs.BucketTables.{table-at}
 use Rattle.release_keys.specs.Places.{Keyed, PlaceOf, missing, found}
-use Rattle.release_keys.specs.Skipping.{Skipped}
+use Rattle.release_keys.specs.Skipping.{KeysSkipped}
 use Rattle.release_keys.specs.Tables.{PlacesOf}
 use Rattle.release_keys.proofs.PlaceLaws.{keyed-next}
 
@@ -52,10 +52,10 @@ module _ {s offsets : List ℕ} (keyed : Keyed s offsets) (from : ℕ) (p : Bpos
         same = λ q n. sym (look-past q p (getD (keysHere s offsets) i noKey) (drop (i + 1) (keysHere s offsets)) l n) ∙ ap (lookup q) (sym (keyed-next keyed i h)) ∙ v .same q n;
       }
 
-  pub pass-stops : (i : ℕ) → Passing s offsets from p i → posLess (getD (keysHere s offsets) i noKey .pos) p ≡ false → Skipped (keysHere s offsets) from p i
+  pub pass-stops : (i : ℕ) → Passing s offsets from p i → posLess (getD (keysHere s offsets) i noKey .pos) p ≡ false → KeysSkipped (keysHere s offsets) from p i
   pass-stops i v l = record { on = omega (arith, v .on, keyed .count); same = v .same; stops = λ h. l }
 
-  pub pass-ends : (i : ℕ) → Passing s offsets from p i → length offsets ≤ i → Skipped (keysHere s offsets) from p i
+  pub pass-ends : (i : ℕ) → Passing s offsets from p i → length offsets ≤ i → KeysSkipped (keysHere s offsets) from p i
   pass-ends i v h =
       record { on = omega (arith, v .on, keyed .count); same = v .same; stops = λ l. absurd (omega (arith, keyed .count)) }
 
@@ -130,22 +130,22 @@ alloc-above n m h =
 
 -- ---- the walk over the buckets
 -- On its way: the places of the first k buckets are found, and the others are at index i or after it.
-pub record Walking (s buckets places₀ places : List ℕ) (ks : List Key) (i k : ℕ) : Type 0 where
+pub record AllocWalking (s buckets places₀ places : List ℕ) (ks : List Key) (i k : ℕ) : Type 0 where
   pub low : i ≤ length ks
   pub on : k ≤ length buckets
   pub size : length places ≡ length places₀
   pub done : (j : ℕ) → j < k → PlaceOf s (getD places j 0) (lookup (allocAt (bucket (getD buckets j 0))) ks)
   pub ahead : (j : ℕ) → k ≤ j → j < length buckets → lookup (allocAt (bucket (getD buckets j 0))) (drop i ks) ≡ lookup (allocAt (bucket (getD buckets j 0))) ks
 
-pub walk-starts : (s buckets places : List ℕ) (ks : List Key) → Walking s buckets places places ks 0 0
+pub walk-starts : (s buckets places : List ℕ) (ks : List Key) → AllocWalking s buckets places places ks 0 0
 walk-starts s buckets places ks =
     record { low = omega arith; on = omega arith; size = refl; done = λ j h. absurd (omega arith); ahead = λ j h l. refl }
 
 pub walk-turn :
     {s buckets places₀ places : List ℕ} {ks : List Key} {i k : ℕ} → length buckets ≤ length places₀ → inOrder bucketBelow (bucketsIn buckets) ≡ true
-    → Walking s buckets places₀ places ks i k → k < length buckets
-    → (r at : ℕ) → Skipped ks i (allocAt (bucket (getD buckets k 0))) r → PlaceOf s at (lookup (allocAt (bucket (getD buckets k 0))) (drop r ks))
-    → Walking s buckets places₀ (set places k at) ks r (k + 1)
+    → AllocWalking s buckets places₀ places ks i k → k < length buckets
+    → (r at : ℕ) → KeysSkipped ks i (allocAt (bucket (getD buckets k 0))) r → PlaceOf s at (lookup (allocAt (bucket (getD buckets k 0))) (drop r ks))
+    → AllocWalking s buckets places₀ (set places k at) ks r (k + 1)
 walk-turn {s} {buckets} {places₀} {places} {ks} {i} {k} c o w h r at z f =
     record {
       low = z .on;
@@ -167,7 +167,7 @@ walk-turn {s} {buckets} {places₀} {places} {ks} {i} {k} c o w h r at z f =
     there : (j : ℕ) → k ≤ j → j < length buckets → lookup (allocAt (bucket (getD buckets j 0))) (drop r ks) ≡ lookup (allocAt (bucket (getD buckets j 0))) ks
     there j l m = z .same (allocAt (bucket (getD buckets j 0))) (alloc-above (getD buckets k 0) (getD buckets j 0) (order-at buckets o k j l m)) ∙ w .ahead j l m
 
-pub walk-ends : {s buckets places₀ places : List ℕ} {ks : List Key} {i k : ℕ} → length buckets ≤ length places₀ → Walking s buckets places₀ places ks i k
+pub walk-ends : {s buckets places₀ places : List ℕ} {ks : List Key} {i k : ℕ} → length buckets ≤ length places₀ → AllocWalking s buckets places₀ places ks i k
     → length buckets ≤ k → PlacesOf s buckets (take (length buckets) places) ks
 walk-ends {buckets = buckets} {places = places} c w h =
     record {

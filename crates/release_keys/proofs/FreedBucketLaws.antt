@@ -15,7 +15,7 @@ use Rattle.calls.specs.Lists.{allOf}
 use Rattle.calls.specs.Refusals.{verdict}
 use Rattle.calls.specs.Release.{freedBuckets, bucketRefusal}
 use Rattle.calls.proofs.answers.RefusalLaws.{verdict-map-first, verdict-map-drop}
-use Rattle.calls.proofs.release.ReleaseLaws.{Held, held-of}
+use Rattle.calls.proofs.release.ReleaseLaws.{BucketHeld, held-of}
 use Rattle.calls.proofs.history.View.{bucket}
 use Rattle.calls.proofs.lists.AllOfLaws.{all-of-drop, all-of-first}
 use Rattle.reader.specs.KeyHere.{keyHere, Whole}
@@ -51,7 +51,7 @@ pub record AllocHeld (s : List ℕ) (sectors sum place : ℕ) : Type 0 where
   pub held : sum ≤ get dirtySectors (keyHere s place .value)
 
 module _ {s buckets freed places : List ℕ} (p : Unrefused s buckets freed places) (k : ℕ) (h : k < length buckets) where
-  pub held-at : Held (p .volume) (p .requests) (bucket (getD buckets k 0))
+  pub held-at : BucketHeld (p .volume) (p .requests) (bucket (getD buckets k 0))
   held-at =
       let e = ap (drop k) (sym (p .tabled .named)) ∙ table-next buckets k h in
       held-of (p .volume) (p .requests) (bucket (getD buckets k 0))

@@ -33,7 +33,7 @@ use Rattle.reader.specs.KeyHere.{keyHere}
 use Rattle.gens.specs.Records.{recordAt}
 use Rattle.change_fields.specs.FieldBytes.{keysBytes}
 use Rattle.change_fields.proofs.BucketTables.{table-length, table-next, table-none}
-use Rattle.release_keys.specs.GenRecords.{GenerationsKnown, continued, Next}
+use Rattle.release_keys.specs.GenRecords.{GenerationsKnown, continued, NextRecord}
 use Rattle.release_keys.specs.declared.gen_records.Queued.{Queued}
 use Rattle.change_fields.proofs.FieldLists.{fields-next, fields-none}
 use Rattle.release_keys.proofs.AllocLaws.{order-at}
@@ -100,13 +100,13 @@ queue-next generationOf records e =
 module _ {gens : List Key} {generationOf : Bucket → ℕ} {emptied out₀ out : List ℕ} {at p k : ℕ} {last : Queued} (q : Queue gens generationOf emptied out₀ out at p k last)
     (o : inOrder bucketBelow (bucketsIn emptied) ≡ true) (h : k < length emptied) where
   -- the key that is queued for the next bucket
-  pub queued-is : (generation : ℕ) (next : Queued) → generation ≡ generationOf (bucket (getD emptied k 0)) → Next gens last (bucket (getD emptied k 0)) generation next
+  pub queued-is : (generation : ℕ) (next : Queued) → generation ≡ generationOf (bucket (getD emptied k 0)) → NextRecord gens last (bucket (getD emptied k 0)) generation next
       → keyIn (next .key) ≡ genQueued (q .records) (bucket (getD emptied k 0)) (generationOf (bucket (getD emptied k 0)))
   unfolding genQueued
   queued-is generation next e n = n .key ∙ rw (q .continues k (omega arith) h, e)
 
   pub queue-turn : (generation : ℕ) (next : Queued) {m : ℕ} {zs : List ℕ} {r : ℕ} → generation ≡ generationOf (bucket (getD emptied k 0))
-      → Next gens last (bucket (getD emptied k 0)) generation next → Wrote out p m (encodeField (keyField 14 (keyIn (next .key)))) zs r
+      → NextRecord gens last (bucket (getD emptied k 0)) generation next → Wrote out p m (encodeField (keyField 14 (keyIn (next .key)))) zs r
       → Queue gens generationOf emptied out₀ zs at r (k + 1) next
   queue-turn generation next {m} {zs} {r} e n w =
       let b = bucket (getD emptied k 0) in

@@ -22,7 +22,7 @@ use Rattle.calls.specs.Release.{isEmptied, releasedKey, releasedLru, emptiedGen
 use Rattle.calls.specs.Trees.{lookup, newKey, withValue}
 use Rattle.calls.proofs.history.View.{bucket}
 use Rattle.reader.specs.KeyHere.{valueAt, keyHere}
-use Rattle.release_sums.proofs.FreedLaws.{Within}
+use Rattle.release_sums.proofs.FreedLaws.{FreedWithin}
 use Rattle.change_fields.specs.FieldBytes.{keysBytes}
 use Rattle.release_keys.specs.FreedBuckets.{freedBucketOf}
 use Rattle.release_keys.specs.declared.freed_buckets.FreedBucket.{FreedBucket}
@@ -70,7 +70,7 @@ unfolding releasedLru freedBucketOf isEmptied
 lru-is v rs b x e sectors d = rw (e, ← d)
 
 -- a sector of a piece that refusal 14 passed
-pub sector-low : {sectors : ℕ} {r : Freed} → Within sectors r → 0 < sectors → sectors < 65536 → r .first .0 < 2 ^ 48
+pub sector-low : {sectors : ℕ} {r : Freed} → FreedWithin sectors r → 0 < sectors → sectors < 65536 → r .first .0 < 2 ^ 48
 sector-low {sectors} {r} w h l = omega (arith, div-lt-iff-lt-mul h .0 (w .low))
 
 -- ---- keys without a value

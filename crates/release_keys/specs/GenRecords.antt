@@ -19,7 +19,7 @@ abbrev pub continued : List Key → Queued → Bucket → Key
 continued gens last b = cond (eqb (last .after) (gensAt b .offset + 1)) (keyIn (last .key)) (genKey gens b)
 
 -- the next one queued: that record with the bucket's generation
-pub record Next (gens : List Key) (last : Queued) (b : Bucket) (generation : ℕ) (r : Queued) : Type 0 where
+pub record NextRecord (gens : List Key) (last : Queued) (b : Bucket) (generation : ℕ) (r : Queued) : Type 0 where
   pub after : r .after ≡ gensAt b .offset + 1
   pub key : keyIn (r .key) ≡ withValue (continued gens last b) (withGen b generation (continued gens last b .value))
 

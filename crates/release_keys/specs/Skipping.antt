@@ -11,7 +11,7 @@ use Rattle.calls.specs.Trees.{lookup}
 use Rattle.reader.specs.Located.{noKey}
 
 -- from index `from` to index r: no key at p or after it was passed, and the next does not stand before p
-pub record Skipped (ks : List Key) (from : ℕ) (p : Bpos) (r : ℕ) : Type 0 where
+pub record KeysSkipped (ks : List Key) (from : ℕ) (p : Bpos) (r : ℕ) : Type 0 where
   pub on : r ≤ length ks
   pub same : (q : Bpos) → posLess q p ≡ false → lookup q (drop r ks) ≡ lookup q (drop from ks)
   pub stops : r < length ks → posLess (getD ks r noKey .pos) p ≡ false

@@ -11,7 +11,7 @@ ghost use Rattle.calls.specs.Trees.{lookup};
 ghost use Rattle.reader.specs.KeyHere.{keysHere};
 ghost use Rattle.reader.specs.Located.{noKey};
 ghost use Rattle.release_keys.specs.Places.{Keyed, PlaceOf};
-ghost use Rattle.release_keys.specs.Skipping.{Skipped};
+ghost use Rattle.release_keys.specs.Skipping.{KeysSkipped};
 ghost use Rattle.release_keys.specs.Tables.{PlacesOf};
 use crate::places;
 use wire::bpos;
@@ -22,7 +22,7 @@ use wire::positions;
 // The first key from an index on that does not stand before a position. The walk shows the bound.
 fn skip_below(s: &[u8], offsets: &[u32], from: usize, p: Bpos) -> usize
     requires { ⌜ Keyed (now s) (now offsets) × (from ≤ length (now offsets)) ⌝ }
-    ensures { λ r. ⌜ Skipped (keysHere (now (s .entry)) (now (offsets .entry))) from p r ⌝ }
+    ensures { λ r. ⌜ KeysSkipped (keysHere (now (s .entry)) (now (offsets .entry))) from p r ⌝ }
 {
     let mut i = from;
     while i < offsets.len() {

@@ -16,7 +16,7 @@ ghost use Rattle.calls.specs.Release.{gensQueued};
 ghost use Rattle.calls.specs.Trees.{newKey, withValue};
 ghost use Rattle.gens.specs.Records.{Recorded, RecordsFound};
 ghost use Rattle.change_fields.specs.FieldBytes.{keysBytes};
-ghost use Rattle.release_keys.specs.GenRecords.{GenerationsKnown, Next};
+ghost use Rattle.release_keys.specs.GenRecords.{GenerationsKnown, NextRecord};
 use gens::records;
 use reader::key;
 use wire::emit_key;
@@ -73,7 +73,7 @@ fn with_generation(k: Bkey, b: Bucket, generation: u8) -> Bkey
 // The record of the next emptied bucket: the last one continued, or the one before this release.
 fn next_record(s: &[u8], records: &[u32], last: Queued, b: Bucket, generation: u8) -> Queued
     requires { ⌜ Recorded (now s) (now records) × (bucketInRange b ≡ true) × (last .key .value .len ≤ 256) ⌝ }
-    ensures { λ r. ⌜ (r .key .value .len ≤ 256) × ((gens : List Key) → RecordsFound (now (s .entry)) gens (now (records .entry)) → Next gens last b generation r) ⌝ }
+    ensures { λ r. ⌜ (r .key .value .len ≤ 256) × ((gens : List Key) → RecordsFound (now (s .entry)) gens (now (records .entry)) → NextRecord gens last b generation r) ⌝ }
 {
     let p = positions::gens_at(b);
     let after = p.offset + 1;

@@ -36,13 +36,13 @@ pub freeds-none : (s offsets : List ℕ) (i : ℕ) → Requested s offsets → l
 freeds-none s offsets i q h = let l : length (freedsIn s offsets) ≤ i = omega (arith, q .count) in drop-of-length-le (freedsIn s offsets) l
 
 -- what refusal 14 shows of a piece
-pub record Within (sectors : ℕ) (r : Freed) : Type 0 where
+pub record FreedWithin (sectors : ℕ) (r : Freed) : Type 0 where
   pub some-sectors : 1 ≤ r .sectors
   pub few : r .sectors ≤ 128
   pub inside : offsetIn (r .first) sectors + r .sectors ≤ sectors
   pub low : bucketOf (r .first) sectors .0 < 65536
 
-pub within : (sectors : ℕ) (r : Freed) → freedOk sectors r ≡ true → Within sectors r
+pub within : (sectors : ℕ) (r : Freed) → freedOk sectors r ≡ true → FreedWithin sectors r
 unfolding freedOk
 within sectors r e =
     let a = parts (leb 1 (r .sectors) && leb (r .sectors) 128) (leb (offsetIn (r .first) sectors + r .sectors) sectors && bucketInRange (bucketOf (r .first) sectors)) e in

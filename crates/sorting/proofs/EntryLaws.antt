@@ -26,7 +26,7 @@ use Rattle.wire.proofs.RoundTrip.{body-again}
 use Rattle.calls.specs.CallList.{reservedField}
 use Rattle.calls.proofs.lists.BoolLaws.{parts}
 use Rattle.sorting.specs.Entries.{isBucket, isEntry, entryOf, entries, fieldFor}
-use Rattle.sorting.specs.EntryPlaces.{sizeAt, tagAt, entryFrom, Kept, Stands, EntryHere}
+use Rattle.sorting.specs.EntryPlaces.{sizeAt, tagAt, entryFrom, EntryAt, Stands, EntryHere}
 
 -- a field that a step found, by the place of its body
 pub record StepAt (s : List ℕ) (at t b n : ℕ) : Type 0 where
@@ -105,7 +105,7 @@ pub entry-at : (t : ℕ) {s : List ℕ} {at tag b n : ℕ} → StepAt s at tag b
 unfolding entryFrom
 entry-at t {s} {at} {tag} {b} {n} h = ap (λ (f : Field). entryOf t f) (λ i. fieldAt s (h .tag i) b (h .size i))
 
-pub kept-at : {s : List ℕ} {at t tag b n : ℕ} → StepAt s at tag b n → isEntry t tag n ≡ true → Kept t s b
+pub kept-at : {s : List ℕ} {at t tag b n : ℕ} → StepAt s at tag b n → isEntry t tag n ≡ true → EntryAt t s b
 kept-at {t = t} h e =
     record {
       after = omega (arith, h .field .on);
@@ -143,7 +143,7 @@ entries-none t e = ap (entries t) e
 
 -- what is read at the place of a key
 
-module _ {t : ℕ} {s : List ℕ} {o : ℕ} (k : Kept t s o) where
+module _ {t : ℕ} {s : List ℕ} {o : ℕ} (k : EntryAt t s o) where
   pub bucket-size : t ≡ 64 → o + 4 ≤ length s
   bucket-size z = omega (arith, k .within, entry-bucket t (tagAt s o) (sizeAt s o) (k .entry) z)
 

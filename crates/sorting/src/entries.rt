@@ -3,7 +3,7 @@ ghost use mathlib.Core.Path.{_≡_};
 ghost use Prim.Native.Nat.{_+_, _≤_};
 ghost use lib.ListN.{length};
 ghost use Rattle.sorting.specs.Entries.{isBucket, isEntry};
-ghost use Rattle.sorting.specs.EntryPlaces.{Kept, entryFrom, EntryStepped};
+ghost use Rattle.sorting.specs.EntryPlaces.{EntryAt, entryFrom, EntryStepped};
 use wire::bpos::Bpos;
 use wire::fields;
 use wire::fields::NextField;
@@ -53,7 +53,7 @@ fn is_entry(section: u8, tag: u8, len: usize) -> bool
 
 // The position of the key whose body starts at o. `next_entry` and the table of a volume show that one does, here and below.
 pub fn pos_at(s: &[u8], o: usize, section: u8) -> Bpos
-    requires { ⌜ Kept section (now s) o ⌝ }
+    requires { ⌜ EntryAt section (now s) o ⌝ }
     ensures { λ r. ⌜ r ≡ entryFrom section (now (s .entry)) o .pos ⌝ }
 {
     if section == BUCKETS {
@@ -64,7 +64,7 @@ pub fn pos_at(s: &[u8], o: usize, section: u8) -> Bpos
 
 // Its type; a bucket that is unreserved has type 0.
 pub fn type_at(s: &[u8], o: usize, section: u8) -> u8
-    requires { ⌜ Kept section (now s) o ⌝ }
+    requires { ⌜ EntryAt section (now s) o ⌝ }
     ensures { λ r. ⌜ r ≡ entryFrom section (now (s .entry)) o .type ⌝ }
 {
     if section == BUCKETS {

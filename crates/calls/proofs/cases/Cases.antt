@@ -17,7 +17,7 @@ use Rattle.calls.specs.ChangeList.{changesOf}
 use Rattle.calls.specs.Discard.{discardBatches}
 use Rattle.calls.specs.Computing.{computing}
 use Rattle.calls.specs.Answers.{place, release, discard}
-use Rattle.calls.specs.Examples.{bucket, headFor, volumeFor, run, held, runEnds, plain, placing, releasing, slot, freeing, freeVolume, heldVolume, waiting}
+use Rattle.calls.specs.Examples.{bucket, headFor, volumeFor, run, usedBucket, runEnds, plain, placing, releasing, slot, freeing, freeVolume, heldVolume, waiting}
 
 pub record Cases : Type 0 where
   -- 1. bucket 128, stored 96, 96, 64: three buckets, offset 0 each, no LRU root
@@ -40,7 +40,7 @@ pub record Cases : Type 0 where
   pub case6-oldest : get oldestGen (emptied 7 (newAlloc 1 255 96 1)) ≡ 0
   pub case6-before : get flags (newAlloc 1 255 96 1) ≡ 0x23
   pub case6-flags : get flags (emptied 7 (newAlloc 1 255 96 1)) ≡ 0x21
-  -- 7. held 96: freeing 96 empties, 97 gives 18
+  -- 7. usedBucket 96: freeing 96 empties, 97 gives 18
   pub case7 :
       map (λ b. map (λ k. get dataType (k .value)) (b .trees .alloc)) (changesOf (release (releasing heldVolume (freeing 640 96 ∷ [])) 65536 1000 .written))
       ≡ (9 ∷ []) ∷ []
@@ -55,9 +55,9 @@ pub record Cases : Type 0 where
   pub case10-each : map runEnds (discardBatches (waiting 1 0 (3 ∷ 4 ∷ 6 ∷ []))) ≡ ((4, 1) ∷ []) ∷ ((5, 1) ∷ []) ∷ ((7, 1) ∷ []) ∷ []
   -- beside them: run 10 to 80, bucket 15 used, three taken: accepted, since only the walk meets 13
   pub used :
-      place (placing (volumeFor (headFor 1 1) (held 15 0 128 ∷ []) (run 80 70 ∷ []) [] []) (plain 128 ∷ plain 128 ∷ plain 128 ∷ [])) 2000 .number ≡ 0
+      place (placing (volumeFor (headFor 1 1) (usedBucket 15 0 128 ∷ []) (run 80 70 ∷ []) [] []) (plain 128 ∷ plain 128 ∷ plain 128 ∷ [])) 2000 .number ≡ 0
   pub used-met :
-      place (placing (volumeFor (headFor 1 1) (held 12 0 128 ∷ []) (run 80 70 ∷ []) [] []) (plain 128 ∷ plain 128 ∷ plain 128 ∷ [])) 2000 .number ≡ 13
+      place (placing (volumeFor (headFor 1 1) (usedBucket 12 0 128 ∷ []) (run 80 70 ∷ []) [] []) (plain 128 ∷ plain 128 ∷ plain 128 ∷ [])) 2000 .number ≡ 13
 
 pub cases : Cases
 unfolding computing place release discard

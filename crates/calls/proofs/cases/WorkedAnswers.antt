@@ -1,4 +1,4 @@
--- Worked cases beside the P cases, computed of whole answers: each has a list on which an answer that is wrong in one place, as the edits in must-fail
+-- Worked cases beside the P cases, computed of whole answers: ofBatches has a list on which an answer that is wrong in one place, as the edits in must-fail
 -- make it, differs.
 use mathlib.Core.Path.{_≡_, refl}
 use mathlib.Core.List.{[], _∷_, _++_, map}
@@ -7,38 +7,38 @@ use Rattle.format.specs.AllocV4.{ioTimeWrite}
 use Rattle.calls.specs.CallList.{volumeBytes}
 use Rattle.calls.specs.Computing.{computing}
 use Rattle.calls.specs.Answers.{place, release, discard}
-use Rattle.calls.specs.Examples.{bucket, headFor, volumeFor, run, held, waitsSince, emptiedAt, runEnds, plain, placing, releasing, spot, freeing, each, beyond, elsewhere, threePieces}
+use Rattle.calls.specs.Examples.{bucket, headFor, volumeFor, run, usedBucket, waitsSince, emptiedAt, runEnds, plain, placing, releasing, spot, freeing, ofBatches, pastBase, elsewhere, threePieces}
 
 pub record WorkedAnswers : Type 0 where
   -- P case 1 of the whole answer: fields 71, 72 and 70
   pub three-accepted : threePieces .number ≡ 0
-  pub three-taken : each (λ b. b .taken) threePieces ≡ (bucket 0 ∷ bucket 1 ∷ bucket 2 ∷ []) ∷ []
-  pub three-placed : each (λ b. b .spots) threePieces ≡ (spot 0 96 0 ∷ spot 128 96 1 ∷ spot 256 64 2 ∷ []) ∷ []
-  pub three-roots : each (λ b. b .roots) threePieces ≡ [] ∷ []
+  pub three-taken : ofBatches (λ b. b .taken) threePieces ≡ (bucket 0 ∷ bucket 1 ∷ bucket 2 ∷ []) ∷ []
+  pub three-placed : ofBatches (λ b. b .spots) threePieces ≡ (spot 0 96 0 ∷ spot 128 96 1 ∷ spot 256 64 2 ∷ []) ∷ []
+  pub three-roots : ofBatches (λ b. b .roots) threePieces ≡ [] ∷ []
   -- a list that passes a limit is 3, and 2 where its layout is broken too
-  pub limit-passed : place beyond 14 .number ≡ 3
-  pub broken-and-passed : place (beyond ++ (0 ∷ [])) 14 .number ≡ 2
+  pub limit-passed : place pastBase 14 .number ≡ 3
+  pub broken-and-passed : place (pastBase ++ (0 ∷ [])) 14 .number ≡ 2
   -- runs 0 to 20 and 20 to 40 only touch; 0 to 20 and 19 to 40 overlap
   pub touching : place (placing (volumeFor (headFor 1 1) [] (run 20 20 ∷ run 40 20 ∷ []) [] []) []) 14 .number ≡ 0
   pub overlapping : place (placing (volumeFor (headFor 1 1) [] (run 20 20 ∷ run 40 21 ∷ []) [] []) []) 14 .number ≡ 10
   -- the clock is that of a key of inode 1
   pub any-inode :
-      each (λ b. map (λ k. get ioTimeWrite (k .value)) (b .trees .alloc))
+      ofBatches (λ b. map (λ k. get ioTimeWrite (k .value)) (b .trees .alloc))
       (place (placing (volumeFor (headFor 1 1) (elsewhere 9 ∷ []) (run 40 40 ∷ []) [] []) (plain 128 ∷ [])) 2000)
       ≡ (9 ∷ []) ∷ []
   -- buckets 6 and 5 are named in this order; 6 would be refused by 18, and 5, which is lower and has no alloc key, decides
   pub lowest-decides :
       release
-      (releasing (volumeFor (headFor 2 1) (held 6 0 96 ∷ []) [] [] []) (freeing 768 97 ∷ freeing 640 1 ∷ [])) 65536 1000 .number
+      (releasing (volumeFor (headFor 2 1) (usedBucket 6 0 96 ∷ []) [] [] []) (freeing 768 97 ∷ freeing 640 1 ∷ [])) 65536 1000 .number
       ≡ 15
   -- bucket 3 is freed behind a run that ends before it: a run of its own
   pub not-joined :
-      each runEnds
+      ofBatches runEnds
       (discard (volumeBytes (volumeFor (headFor 3 1) (emptiedAt 3 0 ∷ []) (run 3 3 ∷ []) (waitsSince 7 3 ∷ []) [])) 1000)
       ≡ ((4, 1) ∷ []) ∷ []
   -- of two need-discard keys of bucket 3 the last is deleted
   pub last-deleted :
-      each (λ b. map (λ k. k .pos .inode) (b .trees .needDiscard))
+      ofBatches (λ b. map (λ k. k .pos .inode) (b .trees .needDiscard))
       (discard (volumeBytes (volumeFor (headFor 3 1) (emptiedAt 3 0 ∷ []) [] (waitsSince 7 3 ∷ waitsSince 8 3 ∷ []) [])) 1000)
       ≡ (8 ∷ []) ∷ []
 

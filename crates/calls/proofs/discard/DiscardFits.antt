@@ -27,7 +27,7 @@ use Rattle.calls.proofs.lists.ThoseLaws.{those-length}
 use Rattle.calls.proofs.lists.BoolLaws.{parts}
 use Rattle.calls.proofs.encoding.ChangeTrip.{BatchFits, BatchOk}
 use Rattle.calls.proofs.freespace.JoinLaws.{Whole, joined}
-use Rattle.calls.proofs.encoding.KeyFitsLaws.{ValueFits, no-value, store-fits, Queued, queued-pos, queued-value, new-queued, deletion-queued, with-queued, bucket-pos, trees-fit, trees-zero, volume-queued, plus-fits, less-fits, buckets-row, Within, within, list-within}
+use Rattle.calls.proofs.encoding.KeyFitsLaws.{ValueFits, no-value, store-fits, Queued, queued-pos, queued-value, new-queued, deletion-queued, with-queued, bucket-pos, trees-fit, trees-zero, volume-queued, plus-fits, less-fits, buckets-row, VolumeLimits, within, list-within}
 use Rattle.calls.proofs.trees.SixTrees.{EachTree}
 use Rattle.calls.proofs.encoding.VolumeTrip.{VolumeFits, VolumeOk, call-fits}
 
@@ -37,7 +37,7 @@ record Taken (k : Key) : Type 0 where
   queued : Queued k
   below : k .pos .offset < 65536
 
-taken-all : (v : Volume) → VolumeFits v → VolumeOk v → Within v → All Taken (discardedKeys (v .trees))
+taken-all : (v : Volume) → VolumeFits v → VolumeOk v → VolumeLimits v → All Taken (discardedKeys (v .trees))
 unfolding discardedKeys isDiscarded
 taken-all v f ok w =
     all-imp

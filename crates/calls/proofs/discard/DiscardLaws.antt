@@ -134,7 +134,7 @@ count-once alloc (k ∷ ks) (more d a) s b = go (sameBucket (bucketIn (k .pos)) 
 
 -- ---- one batch
 -- what a history keeps of a volume and its live pieces
-pub record Sound (B : ℕ) (offered : ℕ → Bool) (live : List Live) (v : Volume) : Type 0 where
+pub record VolumeSound (B : ℕ) (offered : ℕ → Bool) (live : List Live) (v : Volume) : Type 0 where
   pub good : Good B offered (view v live)
   pub alloc : Sorted (v .trees .alloc)
   pub freespace : Sorted (v .trees .freespace)
@@ -183,7 +183,7 @@ module _ (t : Trees) (ks : List Key) (v : Volume) (due : All (Due (v .trees .all
           h b (i .key) (was (b .0) _ i) ∙ sym (discarded-gen (i .key .value) (key-due (b .0) _ i .long)) ∙ ap (λ (x : Key). get gen (x .value)) q
       go false d = h b k (sym (alloc-out (b .0) d) ∙ e)
 
-  module _ (B : ℕ) (offered : ℕ → Bool) (live : List Live) (s : Sound B offered live v) (sorted : Sorted ks) where
+  module _ (B : ℕ) (offered : ℕ → Bool) (live : List Live) (s : VolumeSound B offered live v) (sorted : Sorted ks) where
     pub discarding : Discarding (view v live) (view v′ live) gone
     unfolding applyBatch applyTrees discardBatch insertBuckets
     discarding =
@@ -203,7 +203,7 @@ module _ (t : Trees) (ks : List Key) (v : Volume) (due : All (Due (v .trees .all
           );
         }
 
-    pub batch-sound : Sound B offered live v′
+    pub batch-sound : VolumeSound B offered live v′
     unfolding applyBatch applyTrees discardBatch
     batch-sound =
         record {
@@ -305,9 +305,9 @@ module _ (v : Volume) (s : Sorted (v .trees .alloc)) (z : NoSnapshots (v .trees 
   pub discard-gens : GensHeld v → (n : ℕ) → GensHeld (applyBatches (take n (discardBatches v)) v)
   discard-gens = discard-keeps GensHeld (λ w ks a c h. gens-kept (v .trees) ks w a h)
 
-module _ (B : ℕ) (offered : ℕ → Bool) (live : List Live) (v : Volume) (s : Sound B offered live v) (z : NoSnapshots (v .trees .alloc)) where
-  pub discard-sound : (n : ℕ) → Sound B offered live (applyBatches (take n (discardBatches v)) v)
-  discard-sound = discard-keeps v (s .alloc) z (Sound B offered live) (λ w ks a c h. batch-sound (v .trees) ks w a B offered live h c) s
+module _ (B : ℕ) (offered : ℕ → Bool) (live : List Live) (v : Volume) (s : VolumeSound B offered live v) (z : NoSnapshots (v .trees .alloc)) where
+  pub discard-sound : (n : ℕ) → VolumeSound B offered live (applyBatches (take n (discardBatches v)) v)
+  discard-sound = discard-keeps v (s .alloc) z (VolumeSound B offered live) (λ w ks a c h. batch-sound (v .trees) ks w a B offered live h c) s
 
-  pub discard-all : Sound B offered live (applyBatches (discardBatches v) v)
-  discard-all = after-all v (Sound B offered live) discard-sound
+  pub discard-all : VolumeSound B offered live (applyBatches (discardBatches v) v)
+  discard-all = after-all v (VolumeSound B offered live) discard-sound

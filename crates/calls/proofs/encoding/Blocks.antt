@@ -241,7 +241,7 @@ abbrev ofShape : Shape → Field → Bool
 ofShape s f = eqb (f .tag) (s .tag) && (leb (s .least) (length (f .body)) && leb (length (f .body)) (s .most))
 
 -- a field of one of the shapes, with a body of bytes
-pub record Sound (ss : List Shape) (f : Field) : Type 0 where
+pub record FieldSound (ss : List Shape) (f : Field) : Type 0 where
   pub shape : shaped ss f ≡ true
   pub bytes : Bytes (f .body)
 

@@ -21,7 +21,7 @@ use Rattle.calls.specs.Lists.{allOf}
 use Rattle.calls.specs.CallList.{treesOf, treeFields, bodies, shaped, tagsAscend}
 use Rattle.calls.specs.ChangeList.{Spot, Batch, spotBody, spotOf, endField, batchFields, changeFields, changeBytes, intoFirst, splitBatches, changeShapes, rootListed, fieldOk, closed, changeLaidOut, batchOf, changesOf}
 use Rattle.calls.proofs.lists.AllLaws.{all-imp, all-join, all-each, all-map, all-test, test-all, map-back}
-use Rattle.calls.proofs.encoding.Blocks.{Block, field, flat, InBlock, flat-all, flat-tags, hasOf, bodies-all, flat-order, Sound, takes, shaped-in, shaped-fits}
+use Rattle.calls.proofs.encoding.Blocks.{Block, field, flat, InBlock, flat-all, flat-tags, hasOf, bodies-all, flat-order, FieldSound, takes, shaped-in, shaped-fits}
 use Rattle.calls.proofs.lists.BoolLaws.{both, parts}
 use Rattle.calls.proofs.encoding.FieldBytes.{number-back, Storable, encode-bytes, fields-bytes}
 use Rattle.calls.proofs.trees.SixTrees.{EachTree}
@@ -73,7 +73,7 @@ batch-flat b fs = simp (append-assoc, append-nil, map-block)
 
 -- written
 
-numbers-sound : (t n : ℕ) (xs : List ℕ) → takes t n n changeShapes ≡ true → InBlock (Sound changeShapes) (numbersBlock t n xs)
+numbers-sound : (t n : ℕ) (xs : List ℕ) → takes t n n changeShapes ≡ true → InBlock (FieldSound changeShapes) (numbersBlock t n xs)
 numbers-sound t n xs e =
     all-map (leBytes n)
     (all-each
@@ -87,7 +87,7 @@ spot-bytes : (s : Spot) → Bytes (spotBody s)
 unfolding spotBody
 spot-bytes s = search (all-append, bytes-le)
 
-spot-sound : (s : Spot) → Sound changeShapes (field 72 (spotBody s))
+spot-sound : (s : Spot) → FieldSound changeShapes (field 72 (spotBody s))
 unfolding changeShapes spotBody leBytes
 spot-sound s =
     record {
@@ -95,7 +95,7 @@ spot-sound s =
       bytes = spot-bytes s;
     }
 
-row-sound : (r : Counters) → RowFits r → Sound changeShapes (field 73 (rowBody r))
+row-sound : (r : Counters) → RowFits r → FieldSound changeShapes (field 73 (rowBody r))
 unfolding changeShapes
 row-sound r h = record { shape = go (row-length (r .inode) (r .offset) (h .numbers)) refl; bytes = row-bytes r }
   where
@@ -103,7 +103,7 @@ row-sound r h = record { shape = go (row-length (r .inode) (r .offset) (h .numbe
     go short e = shaped-in 73 24 24 changeShapes (rowBody r) refl (omega arith) (omega arith)
     go long e = shaped-in 73 40 40 changeShapes (rowBody r) refl (omega arith) (omega arith)
 
-batch-sound : {b : Batch} → BatchFits b → All (InBlock (Sound changeShapes)) (batchBlocks b)
+batch-sound : {b : Batch} → BatchFits b → All (InBlock (FieldSound changeShapes)) (batchBlocks b)
 unfolding changeShapes allOf
 batch-sound {b} h =
     more (keys-sound 0 refl (h .extents))
@@ -114,7 +114,7 @@ batch-sound {b} h =
     (more (all-map rowBody (all-imp row-sound (h .rows)))
     (more (numbers-sound 74 8 (b .sectors) refl) (more (buckets-sound 75 (b .discarded) refl) none)))))))
 
-changes-sound : {bs : List Batch} → All BatchFits bs → All (Sound changeShapes) (changeFields bs)
+changes-sound : {bs : List Batch} → All BatchFits bs → All (FieldSound changeShapes) (changeFields bs)
 unfolding changeFields changeShapes
 changes-sound none = none
 changes-sound (more {a = b} {s = bs} h r) =
@@ -268,7 +268,7 @@ spot-fits r =
       generation = le-bound 1 (all-drop 14 r);
     }
 
-module _ {fs : List Field} (h : All (Sound changeShapes) fs) where
+module _ {fs : List Field} (h : All (FieldSound changeShapes) fs) where
   -- the bodies with a tag, read
   parts-read : {A : Type 0} {P : A → Type 0} (t : ℕ) (r : List ℕ → A) → ((b : List ℕ) → Bytes b → P (r b)) → All P (map r (bodies t fs))
   parts-read t r f = all-map r (all-imp (λ b s. f b (s .bytes)) (bodies-all t h))
@@ -313,7 +313,7 @@ change-fits {s} r h =
     let a = parts (whole s) _ h in
     let b = parts (allOf (shaped changeShapes) fs) _ (a .1) in
     let c = parts (allOf fieldOk fs) _ (b .1) in
-    let sound : All (Sound changeShapes) fs =
+    let sound : All (FieldSound changeShapes) fs =
     all-join (λ f k u. record { shape = k; bytes = u }) (test-all (shaped changeShapes) fs (b .0)) (fields-bytes 0 r)
     in (
       all-map batchOf (all-imp (λ gs q. batch-read q) (split-all sound)),

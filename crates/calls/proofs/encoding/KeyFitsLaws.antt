@@ -232,13 +232,13 @@ buckets-row type h a b c = record { inode = omega arith; offset = omega arith; n
 
 -- limits
 
-pub record Within (v : Volume) : Type 0 where
+pub record VolumeLimits (v : Volume) : Type 0 where
   pub few : length (v .trees .alloc) ≤ 4096
   pub alloc : All (λ k. atInode0 k ≡ true → k .pos .offset < 65536) (v .trees .alloc)
   pub ends : endsWithin (v .trees .freespace) ≡ true
   pub base : v .head .base .0 < 2 ^ 40
 
-pub within : {v : Volume} → volumeWithin v ≡ true → Within v
+pub within : {v : Volume} → volumeWithin v ≡ true → VolumeLimits v
 unfolding volumeWithin countsOk fewKeys bucketsOk
 within {v} h =
     let t = v .trees in

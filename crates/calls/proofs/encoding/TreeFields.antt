@@ -11,7 +11,7 @@ use Rattle.wire.specs.Bytes.{All, none, more}
 use Rattle.wire.proofs.RoundTrip.{key-back, body-again}
 use Rattle.calls.specs.CallList.{Trees, Shape, bodies, treesOf}
 use Rattle.calls.proofs.lists.AllLaws.{all-imp, all-map, map-back}
-use Rattle.calls.proofs.encoding.Blocks.{Block, field, flat, InBlock, hasOf, bodies-flat, bodies-all, gather, Sound, takes, shaped-in, keeps, shaped-out}
+use Rattle.calls.proofs.encoding.Blocks.{Block, field, flat, InBlock, hasOf, bodies-flat, bodies-all, gather, FieldSound, takes, shaped-in, keeps, shaped-out}
 use Rattle.calls.proofs.encoding.FieldBytes.{Storable, key-length, key-bytes, key-storable}
 use Rattle.calls.proofs.trees.SixTrees.{EachTree}
 
@@ -38,7 +38,7 @@ map-block t w xs = map-map (field t) w xs
 -- written
 
 module _ {ss : List Shape} where
-  pub keys-sound : (t : ℕ) {ks : List Key} → takes t 37 293 ss ≡ true → All Storable ks → InBlock (Sound ss) (keysBlock t ks)
+  pub keys-sound : (t : ℕ) {ks : List Key} → takes t 37 293 ss ≡ true → All Storable ks → InBlock (FieldSound ss) (keysBlock t ks)
   keys-sound t e h =
       all-map keyBody
       (all-imp
@@ -48,7 +48,7 @@ module _ {ss : List Shape} where
         bytes = key-bytes k (s .bytes);
       }) h)
 
-  pub trees-sound : {t : Trees} → All (λ n. takes n 37 293 ss ≡ true) treeTags → TreesFit t → All (InBlock (Sound ss)) (treeBlocks t)
+  pub trees-sound : {t : Trees} → All (λ n. takes n 37 293 ss ≡ true) treeTags → TreesFit t → All (InBlock (FieldSound ss)) (treeBlocks t)
   trees-sound (more a (more b (more c (more d (more e (more f none)))))) h =
       more (keys-sound 4 a (h .alloc))
       (more (keys-sound 10 b (h .lru))
@@ -88,7 +88,7 @@ trees-back ks h a b c d e f =
 
 -- read
 
-module _ {ss : List Shape} {fs : List Field} (h : All (Sound ss) fs) where
+module _ {ss : List Shape} {fs : List Field} (h : All (FieldSound ss) fs) where
   pub keys-read : (t : ℕ) → keeps t 37 293 ss ≡ true → All Storable (map keyOf (bodies t fs))
   keys-read t e =
       all-map keyOf (all-imp (λ b s. key-storable (s .bytes) (shaped-out t 37 293 ss b e (s .shape) .1)) (bodies-all t h))

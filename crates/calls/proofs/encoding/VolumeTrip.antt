@@ -21,7 +21,7 @@ use Rattle.calls.specs.CallList.{Head, headOf, headBody, headOk, pieceOf
 use Rattle.calls.specs.Answers.{readVolume}
 use Rattle.calls.specs.History.{withoutRequests}
 use Rattle.calls.proofs.lists.AllLaws.{all-imp, all-join, all-map, all-test, test-all, map-back}
-use Rattle.calls.proofs.encoding.Blocks.{Block, field, flat, InBlock, flat-all, chosen-flat, hasOf, bodies-flat, bodies-all, order-ascend, flat-order, gather, gathered, Sound, takes, shaped-in, shaped-out, shaped-fits, tagsOf, shaped-tag, shaped-widen, shaped-after}
+use Rattle.calls.proofs.encoding.Blocks.{Block, field, flat, InBlock, flat-all, chosen-flat, hasOf, bodies-flat, bodies-all, order-ascend, flat-order, gather, gathered, FieldSound, takes, shaped-in, shaped-out, shaped-fits, tagsOf, shaped-tag, shaped-widen, shaped-after}
 use Rattle.calls.proofs.lists.BoolLaws.{both, parts}
 use Rattle.calls.proofs.encoding.FieldBytes.{number-back, fields-bytes}
 use Rattle.calls.proofs.encoding.TreeFields.{TreesFit, treeTags, treeBlocks, map-block, trees-sound, part-back, trees-back, trees-read, trees-again}
@@ -151,7 +151,7 @@ volume-flat : (v : Volume) → volumeBytes v ≡ encode (flat (volumeBlocks v))
 unfolding volumeBytes treeFields reservedField flat
 volume-flat v = ap encode (simp (append-assoc, append-nil, map-block))
 
-pub buckets-sound : {ss : List Shape} (t : ℕ) (bs : List Bucket) → takes t 4 4 ss ≡ true → InBlock (Sound ss) (bucketsBlock t bs)
+pub buckets-sound : {ss : List Shape} (t : ℕ) (bs : List Bucket) → takes t 4 4 ss ≡ true → InBlock (FieldSound ss) (bucketsBlock t bs)
 unfolding leBytes
 buckets-sound {ss} t [] e = none
 buckets-sound {ss} t (b ∷ bs) e =
@@ -168,7 +168,7 @@ buckets-back t ks e h = part-back bucketBytes bucketRead t ks e (all-imp bucket-
 -- written
 
 module _ {v : Volume} (h : VolumeFits v) where
-  volume-sound : All (Sound volumeShapes) (flat (volumeBlocks v))
+  volume-sound : All (FieldSound volumeShapes) (flat (volumeBlocks v))
   unfolding volumeShapes allOf
   volume-sound =
       flat-all
@@ -227,15 +227,15 @@ abbrev everyShape : List Shape
 everyShape = volumeShapes ++ requests
 
 -- a list of bytes that is laid out right, whatever its requests
-pub record Laid (s : List ℕ) : Type 0 where
+pub record ListLaid (s : List ℕ) : Type 0 where
   pub bytes : Bytes s
   pub ends : whole s ≡ true
-  pub sound : All (Sound everyShape) (fields s)
+  pub sound : All (FieldSound everyShape) (fields s)
   pub order : tagsAscend (fields s) ≡ true
   pub one : length (bodies 1 (fields s)) ≡ 1
   pub ok : VolumeOk (readVolume s)
 
-laid : (ss : List Shape) {s : List ℕ} → ((f : Field) → shaped ss f ≡ true → shaped everyShape f ≡ true) → Bytes s → laidOut ss s ≡ true → Laid s
+laid : (ss : List Shape) {s : List ℕ} → ((f : Field) → shaped ss f ≡ true → shaped everyShape f ≡ true) → Bytes s → laidOut ss s ≡ true → ListLaid s
 unfolding laidOut
 laid ss {s} w r h =
     let fs : List Field = fields s in
@@ -265,20 +265,20 @@ request-shapes call f h = go (eqb call 1) (eqb call 2) h
     go false true h = shaped-after (exactly 65 13 ∷ []) (exactly 66 10 ∷ []) f h
     go false false h = absurd (false≢true h)
 
-pub call-laid : (call : ℕ) {s : List ℕ} → Bytes s → callLaidOut call s ≡ true → Laid s
+pub call-laid : (call : ℕ) {s : List ℕ} → Bytes s → callLaidOut call s ≡ true → ListLaid s
 unfolding callLaidOut
 call-laid call {s} r h =
     laid (volumeShapes ++ requestShapes call) (λ f. shaped-widen volumeShapes (requestShapes call) requests f (request-shapes call f)) r
     (parts (laidOut (volumeShapes ++ requestShapes call) s) (eqb (readVolume s .head .call) call) h .0)
 
-pub volume-laid : {s : List ℕ} → Bytes s → volumeLaidOut s ≡ true → Laid s
+pub volume-laid : {s : List ℕ} → Bytes s → volumeLaidOut s ≡ true → ListLaid s
 unfolding volumeLaidOut shaped
 volume-laid r h =
     laid volumeShapes
     (λ f e. shaped-widen volumeShapes [] requests f (λ z. absurd (false≢true z)) (rw (append-nil volumeShapes) e)) r h
 
 head-read :
-    (bs : List (List ℕ)) → length bs ≡ 1 → All (λ b. Sound everyShape (field 1 b)) bs
+    (bs : List (List ℕ)) → length bs ≡ 1 → All (λ b. FieldSound everyShape (field 1 b)) bs
     → HeadFits (headOf (firstBody bs)) × (headBody (headOf (firstBody bs)) ∷ [] ≡ bs)
 unfolding volumeShapes
 head-read [] e h = absurd (omega arith)
@@ -287,7 +287,7 @@ head-read (b ∷ []) e (more h none) =
     (head-fits (h .bytes), ap (λ (x : List ℕ). x ∷ []) (head-again (h .bytes) (omega (arith, l .0, l .1))))
 head-read (b ∷ c ∷ bs) e h = absurd (omega arith)
 
-module _ {s : List ℕ} (l : Laid s) where
+module _ {s : List ℕ} (l : ListLaid s) where
   pub laid-fits : VolumeFits (readVolume s)
   unfolding callListOf volumeShapes allOf
   laid-fits =
@@ -314,16 +314,16 @@ module _ {s : List ℕ} (l : Laid s) where
       ∙ (λ i. record { tag = 1; has = headBody (headOf (firstBody (bodies 1 fs))) ∷ [] } ∷ b ++ (record { tag = 64; has = sym r i } ∷ []))
 
 pub volume-fits : {s : List ℕ} → Bytes s → volumeLaidOut s ≡ true → VolumeFits (readVolume s) × VolumeOk (readVolume s)
-volume-fits {s} r h = let l : Laid s = volume-laid r h in (laid-fits l, l .ok)
+volume-fits {s} r h = let l : ListLaid s = volume-laid r h in (laid-fits l, l .ok)
 
 pub call-fits : (call : ℕ) {s : List ℕ} → Bytes s → callLaidOut call s ≡ true → VolumeFits (readVolume s) × VolumeOk (readVolume s)
-call-fits call {s} r h = let l : Laid s = call-laid call r h in (laid-fits l, l .ok)
+call-fits call {s} r h = let l : ListLaid s = call-laid call r h in (laid-fits l, l .ok)
 
 -- a volume that was read is written again
 pub volume-again : {s : List ℕ} → Bytes s → volumeLaidOut s ≡ true → volumeBytes (readVolume s) ≡ s
 unfolding volumeLaidOut laidOut volumeShapes
 volume-again {s} r h =
-    let l : Laid s = volume-laid r h in
+    let l : ListLaid s = volume-laid r h in
     let q = parts (allOf (shaped volumeShapes) (fields s)) _ (parts (whole s) _ h .1) .0 in
     volume-flat (readVolume s)
     ∙ ap (λ (ks : List Block). encode (flat ks)) (sym (laid-blocks l))
@@ -334,7 +334,7 @@ volume-again {s} r h =
 
 -- a call list without its requests
 
-module _ {s : List ℕ} (l : Laid s) where
+module _ {s : List ℕ} (l : ListLaid s) where
   pub without-volume : withoutRequests s ≡ volumeBytes (readVolume s)
   unfolding withoutRequests volumeShapes those
   without-volume =

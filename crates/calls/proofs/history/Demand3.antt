@@ -26,7 +26,7 @@ abbrev pub offeredBy : List ℕ → ℕ → Bool
 offeredBy clean n = isFree (start clean) (bucket n)
 
 -- What every state of a history keeps.
-pub record Kept (offered : ℕ → Bool) (v : Volume) (live : List Live) : Type 0 where
+pub record ClaimKept (offered : ℕ → Bool) (v : Volume) (live : List Live) : Type 0 where
   pub good : Good (v .head .bucketSectors) offered (view v live)
   pub typed : Typed (v .trees .alloc)
   pub gens : GensHeld v
@@ -38,7 +38,7 @@ typed-batches [] v t = t
 typed-batches (b ∷ bs) v t = typed-batches bs (applyBatch b v) (typed-applyQueue (b .trees .alloc) (v .trees .alloc) t)
 
 -- each applied call keeps it
-pub keeps-demand : (offered : ℕ → Bool) → Keeps (Kept offered)
+pub keeps-demand : (offered : ℕ → Bool) → Keeps (ClaimKept offered)
 unfolding applyBatch applyTrees withRoots
 keeps-demand offered =
     record {
@@ -76,7 +76,7 @@ unfolding lookup
 typed-none p k e = absurd (Option·none-ne-some k e)
 
 -- no piece is live on a clean volume, and no key but runs is there
-pub kept-clean : (clean : List ℕ) → Clean clean → Kept (offeredBy clean) (readVolume clean) []
+pub kept-clean : (clean : List ℕ) → Clean clean → ClaimKept (offeredBy clean) (readVolume clean) []
 kept-clean clean c =
     record {
       good = clean-good (readVolume clean .head .bucketSectors) clean c;

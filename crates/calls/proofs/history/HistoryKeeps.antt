@@ -25,7 +25,7 @@ use Rattle.calls.proofs.place.PlaceFits.{place-fits}
 use Rattle.calls.proofs.place.PlaceLaws.{newPieces, placedVolume, placed-spots}
 use Rattle.calls.proofs.release.ReleaseFits.{release-fits}
 use Rattle.calls.proofs.release.ReleaseLaws.{released}
-use Rattle.calls.proofs.encoding.VolumeTrip.{Laid, call-laid, laid-fits, without-read, read-back}
+use Rattle.calls.proofs.encoding.VolumeTrip.{ListLaid, call-laid, laid-fits, without-read, read-back}
 
 -- what a call finds: bytes whose trees are laid out right
 pub record Read (s : List ℕ) : Type 0 where
@@ -45,7 +45,7 @@ pub record Keeps (P : Volume → List Live → Type 0) : Type 0 where
 
 -- ---- what apply writes
 -- its volume reads as the batches make it
-batched : (s written volume : List ℕ) (bs : List Batch) → Laid s → All BatchFits bs → All BatchOk bs → written ≡ changeBytes bs
+batched : (s written volume : List ℕ) (bs : List Batch) → ListLaid s → All BatchFits bs → All BatchOk bs → written ≡ changeBytes bs
     → volume ≡ volumeBytes (nextVolume (withoutRequests s) written) → readVolume volume ≡ applyBatches bs (readVolume s)
 batched s written volume bs l f o w v =
     let n : nextVolume (withoutRequests s) written ≡ applyBatches bs (readVolume s) = rw (w, changes-back f, without-read l) in
@@ -57,7 +57,7 @@ one-batch : (b : Batch) (v : Volume) → applyBatches (b ∷ []) v ≡ applyBatc
 unfolding applyBatches
 one-batch b v = refl
 
-read-laid : {s : List ℕ} → Bytes s → Laid s → Read s
+read-laid : {s : List ℕ} → Bytes s → ListLaid s → Read s
 read-laid r l = record { bytes = r; trees = l .ok .trees }
 
 -- the pieces of an accepted placement's answer are those that it placed

@@ -27,8 +27,8 @@ use Rattle.calls.proofs.lists.AllLaws.{all-imp, all-map, all-test, test
 use Rattle.calls.proofs.encoding.ApplyLaws.{all-applyQueue}
 use Rattle.calls.proofs.lists.BoolLaws.{parts}
 use Rattle.calls.proofs.freespace.CoverLaws.{length-from, cover-once}
-use Rattle.calls.proofs.history.Demand3.{offeredBy, Kept, keeps-demand, kept-clean}
-use Rattle.calls.proofs.discard.DiscardLaws.{bucketsAt, Due, Sound, discarding, batch-sound, discard-keeps, after-all}
+use Rattle.calls.proofs.history.Demand3.{offeredBy, ClaimKept, keeps-demand, kept-clean}
+use Rattle.calls.proofs.discard.DiscardLaws.{bucketsAt, Due, VolumeSound, discarding, batch-sound, discard-keeps, after-all}
 use Rattle.calls.proofs.discard.DiscardPhases.{Discarding, wait-cover}
 use Rattle.calls.proofs.history.HistoryKeeps.{Keeps, history-keeps}
 use Rattle.calls.proofs.freespace.JoinLaws.{joined}
@@ -117,7 +117,7 @@ module _ (reserved used : Bucket → Bool) where
 -- ---- what a discard's batches keep
 module _ (B : ℕ) (offered : ℕ → Bool) (live : List Live) where
   record After (v : Volume) : Type 0 where
-    sound : Sound B offered live v
+    sound : VolumeSound B offered live v
     once : (b : ℕ) → coverOf (v .trees .freespace) b ≤ 1
     begun : All Begun (v .trees .freespace)
 
@@ -147,12 +147,12 @@ module _ (B : ℕ) (offered : ℕ → Bool) (live : List Live) where
         }
 
 -- ---- what each call keeps
-record Held (offered : ℕ → Bool) (v : Volume) (live : List Live) : Type 0 where
-  kept : Kept offered v live
+record RunsHeld (offered : ℕ → Bool) (v : Volume) (live : List Live) : Type 0 where
+  kept : ClaimKept offered v live
   once : (b : ℕ) → coverOf (v .trees .freespace) b ≤ 1
   begun : All Begun (v .trees .freespace)
 
-keeps-runs : (offered : ℕ → Bool) → Keeps (Held offered)
+keeps-runs : (offered : ℕ → Bool) → Keeps (RunsHeld offered)
 unfolding applyBatch applyTrees placeBatch releaseBatch walkOf applyQueue
 keeps-runs offered =
     let d = keeps-demand offered in
@@ -186,7 +186,7 @@ keeps-runs offered =
     }
 
 -- ---- a clean volume
-clean-held : (clean : List ℕ) → Clean clean → Held (offeredBy clean) (readVolume clean) []
+clean-held : (clean : List ℕ) → Clean clean → RunsHeld (offeredBy clean) (readVolume clean) []
 clean-held clean c =
     let l = readVolume clean .trees .freespace in
     record {

@@ -44,7 +44,7 @@ use Rattle.calls.proofs.freespace.BucketLaws.{in-all}
 use Rattle.calls.proofs.encoding.ChangeTrip.{BatchFits, BatchOk}
 use Rattle.calls.proofs.freespace.CoverLaws.{length-from}
 use Rattle.calls.proofs.encoding.FieldBytes.{Storable}
-use Rattle.calls.proofs.encoding.KeyFitsLaws.{bodies-bytes, ValueFits, struct-fits, bucket-pos, Queued, queued-pos, queued-value, new-queued, deletion-queued, changed-queued, trees-fit, trees-zero, volume-queued, lru-keys, roots-if, plus-fits, less-fits, differ-fits, buckets-row, Within, within, list-within, words-fit}
+use Rattle.calls.proofs.encoding.KeyFitsLaws.{bodies-bytes, ValueFits, struct-fits, bucket-pos, Queued, queued-pos, queued-value, new-queued, deletion-queued, changed-queued, trees-fit, trees-zero, volume-queued, lru-keys, roots-if, plus-fits, less-fits, differ-fits, buckets-row, VolumeLimits, within, list-within, words-fit}
 use Rattle.calls.proofs.place.PlaceLaws.{PlacedIn, sectorsIn, gensIn, takenBy, place-enough, placed-bounds, taken-bound}
 use Rattle.calls.proofs.trees.SixTrees.{trees-order, EachTree}
 use Rattle.calls.proofs.trees.SortedLaws.{Sorted}
@@ -351,7 +351,7 @@ module _ (v : Volume) (ps : List Placed) (w : Walked) (f : HeadFits (v .head)) (
 
 -- a placement that is accepted
 
-module _ (c : CallList) (f : VolumeFits (c .volume)) (ok : VolumeOk (c .volume)) (w : Within (c .volume)) (fit : All PieceFits (c .pieces))
+module _ (c : CallList) (f : VolumeFits (c .volume)) (ok : VolumeOk (c .volume)) (w : VolumeLimits (c .volume)) (fit : All PieceFits (c .pieces))
     (few : length (c .pieces) ≤ 1024) (small : (b : Bucket) → genOf (c .volume .trees .gens) b < 256) (passed : verdict (placeTests c) ≡ 0) where
   sorted : Sorted (c .volume .trees .freespace)
   sorted = trees-order (ok .trees) .freespace .0

@@ -38,7 +38,7 @@ use Rattle.calls.proofs.freespace.BucketLaws.{count, in-counted, out-co
 use Rattle.calls.proofs.freespace.CoverLaws.{endsWithin, cover-bound}
 use Rattle.calls.proofs.place.FitLaws.{fills, storedIn, Sizes, Fitted, fitted}
 use Rattle.calls.proofs.history.Phases.{inBucket, LiesIn, allocDirty, allocKind, occ, lenOn, freeBy, Good, allocGen}
-use Rattle.calls.proofs.place.PlacePhases.{free-empty, Placing, place-good}
+use Rattle.calls.proofs.place.PlacePhases.{free-empty, PlacedPhases, place-good}
 use Rattle.calls.proofs.answers.RefusalLaws.{verdict-ok, test-ok}
 use Rattle.calls.proofs.freespace.RunLaws.{walk-gives, covered}
 use Rattle.calls.proofs.trees.SortedLaws.{Sorted}
@@ -286,7 +286,7 @@ module _ (c : CallList) where
           alloc-new b e = ap readAlloc (place-alloc (bucket b)) ∙ rw e
 
           pub place-placing :
-              Placing (sectorsIn c) (view (c .volume) live) (view (placedVolume c) (live ++ newPieces c)) (λ b. isIn (takenBy c) (bucket b)) (newPieces c)
+              PlacedPhases (sectorsIn c) (view (c .volume) live) (view (placedVolume c) (live ++ newPieces c)) (λ b. isIn (takenBy c) (bucket b)) (newPieces c)
           unfolding dirtyIn
           place-placing =
               let B = sectorsIn c in

@@ -35,7 +35,7 @@ occ-on B x p i = go (leb (p .first .0) x) refl (ltb x (p .first .0 + p .length))
         rw (same-bucket B (p .first .0) (p .length) x (i .1) (leb-true _ _ e) (ltb-true _ _ d), eq-eqb (p .first .0 / B) (p .first .0 / B) refl) (i .0)
 
 -- what a placement does to what is seen: the buckets taken, and the new pieces
-pub record Placing (B : ℕ) (s s′ : Seen) (taken : ℕ → Bool) (ps : List Live) : Type 0 where
+pub record PlacedPhases (B : ℕ) (s s′ : Seen) (taken : ℕ → Bool) (ps : List Live) : Type 0 where
   pub was-free : (b : ℕ) → taken b ≡ true → freeBy (s .cover b) (s .kept b) ≡ true
   pub cover-taken : (b : ℕ) → taken b ≡ true → s′ .cover b ≡ 0
   pub cover-same : (b : ℕ) → taken b ≡ false → s .kept b ≡ false → s′ .cover b ≡ s .cover b
@@ -77,7 +77,7 @@ module _ (off : Bool) (c : ℕ) (k : Bool) (n : ℕ) (a : Option Alloc) (w : Boo
   phase-shrunk c′ (used f e1 e2 e3 e4 e5) l u = used f (omega arith) e2 e3 e4 e5
   phase-shrunk c′ (wait f e1 e2 e3 e4 e5 e6) l u = wait f (omega arith) e2 e3 e4 e5 e6
 
-module _ (B : ℕ) (offered : ℕ → Bool) (s s′ : Seen) (g : Good B offered s) (taken : ℕ → Bool) (ps : List Live) (h : Placing B s s′ taken ps) where
+module _ (B : ℕ) (offered : ℕ → Bool) (s s′ : Seen) (g : Good B offered s) (taken : ℕ → Bool) (ps : List Live) (h : PlacedPhases B s s′ taken ps) where
   no-new : (b : ℕ) → taken b ≡ false → total (lenOn B b) ps ≡ 0
   no-new b e = none-on B b ps (all-imp (λ p t q. clash t (rw q e)) (h .ps-taken))
 

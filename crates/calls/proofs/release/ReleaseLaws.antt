@@ -88,7 +88,7 @@ abbrev pub freed : Volume → List Freed → Bucket → ℕ
 freed v rs b = freedIn (v .head .bucketSectors) rs b
 
 -- of a bucket that is named
-pub record Held (v : Volume) (rs : List Freed) (b : Bucket) : Type 0 where
+pub record BucketHeld (v : Volume) (rs : List Freed) (b : Bucket) : Type 0 where
   pub key : Key
   pub found : lookup (allocAt b) (v .trees .alloc) ≡ some key
   pub long : 56 ≤ length (key .value)
@@ -99,9 +99,9 @@ pub record Held (v : Volume) (rs : List Freed) (b : Bucket) : Type 0 where
 pub record ReleaseAccepted (v : Volume) (rs : List Freed) : Type 0 where
   pub some-sectors : 0 < v .head .bucketSectors
   pub requests : allOf (freedOk (v .head .bucketSectors)) rs ≡ true
-  pub held : (b : Bucket) → isIn (touched v rs) b ≡ true → Held v rs b
+  pub held : (b : Bucket) → isIn (touched v rs) b ≡ true → BucketHeld v rs b
 
-pub held-of : (v : Volume) (rs : List Freed) (b : Bucket) → bucketRefusal v rs b ≡ 0 → Held v rs b
+pub held-of : (v : Volume) (rs : List Freed) (b : Bucket) → bucketRefusal v rs b ≡ 0 → BucketHeld v rs b
 unfolding bucketRefusal allocValue dirtyAt
 held-of v rs b e =
     let a15 = verdict-ok _ _ e in
@@ -120,7 +120,7 @@ held-of v rs b e =
         → get dirtySectors (fromOption [] (λ k. k .value) o) ≤ v .head .bucketSectors
         → freed v rs b ≤ get dirtySectors (fromOption [] (λ k. k .value) o)
         → (isEmptied v rs b ≡ true → genShort (v .trees .gens) b ≡ false)
-        → Held v rs b
+        → BucketHeld v rs b
     go none f n l d h r = absurd (clash n refl)
     go (some k) f n l d h r = record { key = k; found = f; long = l; small = d; held = h; room = r }
 
@@ -178,7 +178,7 @@ module _ (v : Volume) (rs : List Freed) where
       ∙ rw (isIn-those (isEmptied v rs) (touched v rs) b)
 
 -- ---- a bucket that is named
-module _ (v : Volume) (rs : List Freed) (b : Bucket) (h : Held v rs b) where
+module _ (v : Volume) (rs : List Freed) (b : Bucket) (h : BucketHeld v rs b) where
   abbrev value : List ℕ
   value = h .key .value
 
@@ -230,10 +230,10 @@ module _ (v : Volume) (rs : List Freed) (live live′ : List Live) (ok : verdict
   is-named : (b : ℕ) → isIn (touched v rs) (bucket b) ≡ ltb 0 (asks b)
   is-named b = named-freed (v .head .bucketSectors) rs (a .requests) (bucket b) ∙ rw (freed-asked (v .head .bucketSectors) rs (bucket b))
 
-  holds : (b : ℕ) → 0 < asks b → Held v rs (bucket b)
+  holds : (b : ℕ) → 0 < asks b → BucketHeld v rs (bucket b)
   holds b p = a .held (bucket b) (is-named b ∙ lt-ltb 0 (asks b) p)
 
-  dirty-is : (b : ℕ) (h : Held v rs (bucket b)) → allocDirty (readAlloc (lookup (allocAt (bucket b)) (v .trees .alloc))) ≡ get dirtySectors (h .key .value)
+  dirty-is : (b : ℕ) (h : BucketHeld v rs (bucket b)) → allocDirty (readAlloc (lookup (allocAt (bucket b)) (v .trees .alloc))) ≡ get dirtySectors (h .key .value)
   dirty-is b h = rw (h .found)
 
   some-held : (b n : ℕ) → asks b ≡ n → n ≤ allocDirty (readAlloc (lookup (allocAt (bucket b)) (v .trees .alloc)))
@@ -294,7 +294,7 @@ release-gens v rs ok g b k e = gens-at v rs a b ∙ go (isIn (touched v rs) b) r
         let h = a .held b m in
         rw (and-true (isEmptied v rs b), ← op-some (releasedKey v rs b) k q .1, key-is v rs b h) (each h (isEmptied v rs b))
       where
-        each : (h : Held v rs b) (t : Bool) → cond t (emptiedGen (v .trees) b) (genOf (v .trees .gens) b) ≡ get gen (cond t (wholly v rs b h) (partly v rs b h))
+        each : (h : BucketHeld v rs b) (t : Bool) → cond t (emptiedGen (v .trees) b) (genOf (v .trees .gens) b) ≡ get gen (cond t (wholly v rs b h) (partly v rs b h))
         each h true = gen-is v rs b h ∙ sym (emptied-gen (v .head .journal) (h .key .value) (h .long))
         each h false =
             g b (h .key) (h .found)

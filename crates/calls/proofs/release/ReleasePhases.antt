@@ -10,7 +10,7 @@ use borrow.Author.Tests.{ltb-true, ltb-false, eqb-true}
 use Rattle.wire.specs.Kinds.{sameSector}
 use Rattle.calls.specs.Lists.{total}
 use Rattle.calls.specs.CallList.{Freed}
-use Rattle.calls.specs.History.{Live, names, under, takeOut, andThen, takeAll}
+use Rattle.calls.specs.History.{Live, names, withFirst, takeOut, andThen, takeAll}
 use Rattle.calls.proofs.lists.AllLaws.{all-at, all-of}
 use Rattle.calls.proofs.lists.BoolLaws.{parts}
 use Rattle.calls.proofs.history.Phases.{inBucket, occ, lenOn, Alloc, Seen, allocGen, allocDirty, allocKind, Phase, idle, free, used, wait, PhaseAt, Good, mem-own, counted}
@@ -37,7 +37,7 @@ take-out r [] l′ e = absurd (Option·none-ne-some l′ e)
 take-out r (p ∷ ps) l′ e = go (names r p) refl (takeOut r ps) (λ l″ q. take-out r ps l″ q) e
   where
     go : (t : Bool) → names r p ≡ t → (o : Option (List Live)) → ((l″ : List Live) → o ≡ some l″ → Out r ps l″)
-        → cond t (some ps) (under p o) ≡ some l′ → Out r (p ∷ ps) l′
+        → cond t (some ps) (withFirst p o) ≡ some l′ → Out r (p ∷ ps) l′
     go true d o ih q =
         let b = parts (sameSector (r .first) (p .first)) (eqb (r .sectors) (p .length)) d in
         rw (← Option·some-injective ps l′ q) (record {

@@ -8,7 +8,7 @@ use Rattle.calls.specs.CallList as calls
 use Rattle.calls.specs.Answers.{Answer, outcome}
 use Rattle.calls.proofs.answers.OutcomeLaws.{refused}
 use Rattle.reader.specs.declared.table.Ends.{Ends}
-use Rattle.reader.proofs.PartsLaws.{Part, alloc-part, need-discard-part}
+use Rattle.reader.proofs.PartsLaws.{TablePart, alloc-part, need-discard-part}
 use Rattle.discard.proofs.OutcomeLaws.{read-ready, discard-unbatched, discard-after}
 use borrow.Author.Needs.{needs}
 use Rattle.discard.proofs.discard.discard_read.Statement.{statement}
@@ -21,12 +21,12 @@ start p = p .before .before .before .before .before
 abbrev ends : tie.Else1 → Ends
 ends p = start p .args .ends
 
-allocs : (p : tie.Else1) → Part 0 (ends p .alloc) 4096 (now (start p .args .places))
+allocs : (p : tie.Else1) → TablePart 0 (ends p .alloc) 4096 (now (start p .args .places))
 allocs p =
     let a = start p in
     alloc-part 3 (now (a .args .list)) (now (a .args .places)) (a .args .head) (a .args .ends) (a .pre .0) (a .pre .1) .0
 
-needed : (p : tie.Else1) → Part (ends p .freespace) (ends p .«need_discard») 4096 (now (start p .args .places))
+needed : (p : tie.Else1) → TablePart (ends p .freespace) (ends p .«need_discard») 4096 (now (start p .args .places))
 needed p =
     let a = start p in
     need-discard-part 3 (now (a .args .list)) (now (a .args .places)) (a .args .head) (a .args .ends) (a .pre .0) (a .pre .1) .0

@@ -13,14 +13,14 @@ use Rattle.reader.proofs.KeyHereLaws.{whole-at, keys-next}
 use Rattle.reader.specs.Checked.{endInRange}
 use Rattle.freespace.proofs.RunLaws.{rising, meets-all}
 use Rattle.wire.proofs.KindLaws.{from-length}
-use Rattle.freespace.proofs.FreeLaws.{Counting, RunCounted, counting-start, counting-end, counting-on, counting-past, counting-at}
+use Rattle.freespace.proofs.FreeLaws.{FreeCounting, RunCounted, counting-start, counting-end, counting-on, counting-past, counting-at}
 use native.Mathlib.Omega.{arith}
 use borrow.Author.Needs.{needs}
 use Rattle.freespace.proofs.runs.free_count.Statement.{statement}
 use Rattle.freespace.proofs.runs.free_count.Tie as tie
 
 abbrev Inv-loop : tie.InvT-loop
-Inv-loop s runs reserved free₀ j₀ i₀ free j i = Counting (readVolume s .trees .freespace) (readVolume s .reserved) free j i
+Inv-loop s runs reserved free₀ j₀ i₀ free j i = FreeCounting (readVolume s .trees .freespace) (readVolume s .reserved) free j i
 
 abbrev μ-loop : tie.MeasureT-loop
 μ-loop s runs reserved free₀ j₀ i₀ free j i = length runs - i

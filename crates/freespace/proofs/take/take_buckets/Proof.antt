@@ -11,14 +11,14 @@ use Rattle.reader.specs.KeyHere.{keyHere}
 use Rattle.reader.proofs.KeyHereLaws.{whole-at, keys-next}
 use Rattle.reader.proofs.CheckedLaws.{run-range}
 use Rattle.reader.specs.Checked.{endInRange}
-use Rattle.freespace.proofs.TakeLaws.{Walking, walking-start, walking-full, walking-end, walking-refused, walking-on, passed-next}
+use Rattle.freespace.proofs.TakeLaws.{RunWalking, walking-start, walking-full, walking-end, walking-refused, walking-on, passed-next}
 use native.Mathlib.Omega.{arith}
 use borrow.Author.Needs.{needs}
 use Rattle.freespace.proofs.take.take_buckets.Statement.{statement}
 use Rattle.freespace.proofs.take.take_buckets.Tie as tie
 
 abbrev Inv-loop : tie.InvT-loop
-Inv-loop s runs reserved used n taken₀ w₀ taken w = Walking (isIn (readVolume s .reserved)) (isUsed (readVolume s .trees .alloc)) (readVolume s .trees .freespace) (walk (isIn (readVolume s .reserved)) (isUsed (readVolume s .trees .alloc)) n (runsOf (readVolume s .trees .freespace))) n taken₀ taken w
+Inv-loop s runs reserved used n taken₀ w₀ taken w = RunWalking (isIn (readVolume s .reserved)) (isUsed (readVolume s .trees .alloc)) (readVolume s .trees .freespace) (walk (isIn (readVolume s .reserved)) (isUsed (readVolume s .trees .alloc)) n (runsOf (readVolume s .trees .freespace))) n taken₀ taken w
 
 abbrev μ-loop : tie.MeasureT-loop
 μ-loop s runs reserved used n taken₀ w₀ taken w = length runs - w .passed

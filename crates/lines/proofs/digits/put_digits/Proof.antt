@@ -5,12 +5,12 @@ use native.Mathlib.Nat.{mod-lt}
 use mathlib.Core.Path.{refl}
 use Rattle.wire.proofs.OutputLaws.{wrote-length}
 use Rattle.wire.proofs.EmitLaws.{emitted}
-use Rattle.lines.proofs.DigitLaws.{Filled, fill-none, fill-more, filled}
+use Rattle.lines.proofs.DigitLaws.{DigitsFilled, fill-none, fill-more, filled}
 use Rattle.lines.proofs.digits.put_digits.Statement.{statement}
 use Rattle.lines.proofs.digits.put_digits.Tie as tie
 
 abbrev Inv-loop : tie.InvT-loop
-Inv-loop out at base count n text₀ from₀ rest₀ text from rest = (20 ≤ from + count) × Filled base n text from rest
+Inv-loop out at base count n text₀ from₀ rest₀ text from rest = (20 ≤ from + count) × DigitsFilled base n text from rest
 
 abbrev μ-loop : tie.MeasureT-loop
 μ-loop out at base count n text₀ from₀ rest₀ text from rest = from

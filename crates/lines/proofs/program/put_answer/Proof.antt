@@ -8,7 +8,7 @@ use borrow.Author.Needs.{needs}
 use Rattle.wire.proofs.NumberLaws.{bytes-from}
 use Rattle.wire.proofs.EmitLaws.{emitted}
 use Rattle.calls.specs.ChangeList.{changeLaidOut}
-use Rattle.lines.specs.Program.{answerTo}
+use Rattle.lines.specs.Program.{answerByByte}
 use Rattle.lines.proofs.WrittenLaws.{answer-written, answer-most}
 use Rattle.lines.proofs.ProgramLaws.{lines-refused, lines-accepted, shows}
 use Rattle.lines.proofs.program.put_answer.Statement.{statement}
@@ -28,7 +28,7 @@ returns : tie.Need-returns
 returns c =
     let a = c .before .before .before .before in
     let s = now (a .args .list) in
-    shows (emitted (lines-refused (answerTo s) (a .pre .numbered) (λ z. absurd (omega (arith, z, c .before .before .if1 .taken)))) (c .put-refused .ensures))
+    shows (emitted (lines-refused (answerByByte s) (a .pre .numbered) (λ z. absurd (omega (arith, z, c .before .before .if1 .taken)))) (c .put-refused .ensures))
     (size-1 (c .before)) (answer-most s (bytes-from s (λ i. let h = c .before .before .before .shared-slice-known .given i in omega arith)))
 
 slice-aggregate-put-lines : tie.Need-slice-aggregate-put-lines
@@ -46,7 +46,7 @@ returns-2 : tie.Need-returns-2
 returns-2 c =
     let a = c .before .before .before .before .before .before in
     let s = now (a .args .list) in
-    shows (emitted (lines-accepted (answerTo s) (sym (a .pre .numbered) ∙ omega (arith, c .before .before .before .before .if1 .left)) (a .pre .bytes)) (c .put-lines .ensures))
+    shows (emitted (lines-accepted (answerByByte s) (sym (a .pre .numbered) ∙ omega (arith, c .before .before .before .before .if1 .left)) (a .pre .bytes)) (c .put-lines .ensures))
     (size-2 (c .before)) (answer-most s (bytes-from s (λ i. let h = c .before .before .before .before .before .shared-slice-known .given i in omega arith)))
 
 pub put-answer-spec : {M : Type 1} → statement M

@@ -1,15 +1,15 @@
--- `needed::read_pieces` meets its contract. The invariant is `Filled`.
+-- `needed::read_pieces` meets its contract. The invariant is `PiecesFilled`.
 use mathlib.Core.Path.{refl, _∙_}
 use native.Mathlib.Omega.{arith}
 use Prim.Native.Nat.{_-_}
 use lib.ListN.{length}
 use Rattle.calls.specs.Answers.{readCall}
-use Rattle.next_fit.proofs.ReadLaws.{Filled, filled-next, filled-end}
+use Rattle.next_fit.proofs.ReadLaws.{PiecesFilled, filled-next, filled-end}
 use Rattle.next_fit.proofs.needed.read_pieces.Statement.{statement}
 use Rattle.next_fit.proofs.needed.read_pieces.Tie as tie
 
 abbrev Inv-loop : tie.InvT-loop
-Inv-loop s offsets ps₀ i₀ ps i = Filled (readCall s .pieces) ps i
+Inv-loop s offsets ps₀ i₀ ps i = PiecesFilled (readCall s .pieces) ps i
 
 abbrev μ-loop : tie.MeasureT-loop
 μ-loop s offsets ps₀ i₀ ps i = length offsets - i

@@ -53,7 +53,7 @@ use Rattle.next_fit.specs.Fit.{slotNumber, slotsIn, fitSlot, fitPiece, l
 use Rattle.reader.specs.declared.piece.Piece.{Piece}
 use Rattle.next_fit.specs.declared.slot.Open.{Open}
 use Rattle.next_fit.proofs.LayLaws.{noPiece}
-use Rattle.next_fit.proofs.LaidLaws.{Laid, laid-first, laid-next, laid-end}
+use Rattle.next_fit.proofs.LaidLaws.{LaidUpTo, laid-first, laid-next, laid-end}
 use Rattle.next_fit.proofs.Again.{LentAgain, lends-again, comes-back}
 use Rattle.reader.proofs.piece.Piece as P
 use Rattle.reader.proofs.piece.Piece.Laws as P′
@@ -98,7 +98,7 @@ module _ (ys : List Piece) (bucket : ℕ) (ss : List ℕ) where
     pub slots : List ℕ
     pub good : Is O.the-row cur (O′.lowered cur ∷ [])
     pub kept : length slots ≡ length ss
-    pub laid : Laid bucket ys at cur slots
+    pub laid : LaidUpTo bucket ys at cur slots
 
   abbrev Nearer : Turn → Turn → Type 0
   Nearer s t = length ys - s .at < length ys - t .at

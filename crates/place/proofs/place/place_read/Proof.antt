@@ -4,7 +4,7 @@ use mathlib.Core.Path.{sym}
 use denote.Ref.{now}
 use lib.ListN.{length}
 use lib.Seq.{length-take-le}
-use Rattle.place.proofs.ReadLaws.{Lent, lent, called, gens-called, place-on}
+use Rattle.place.proofs.ReadLaws.{PartsLent, lent, called, gens-called, place-on}
 use borrow.Author.Needs.{needs}
 use Rattle.place.proofs.place.place_read.Statement.{statement}
 use Rattle.place.proofs.place.place_read.Tie as tie
@@ -13,7 +13,7 @@ abbrev start : tie.After-slice-known → tie.Start
 start c = c .before .before .before
 
 -- the parts of the table that are lent
-parts : (c : tie.After-slice-known) → let a = start c in Lent (now (a .args .list)) (now (a .args .places)) (a .args .h) (a .args .ends) (a .pre .0) (a .pre .1)
+parts : (c : tie.After-slice-known) → let a = start c in PartsLent (now (a .args .list)) (now (a .args .places)) (a .args .h) (a .args .ends) (a .pre .0) (a .pre .1)
 parts c = let a = start c in lent (now (a .args .list)) (now (a .args .places)) (a .args .h) (a .args .ends) (a .pre .0) (a .pre .1)
 
 slice-aggregate-place-lists : tie.Need-slice-aggregate-place-lists

@@ -1,4 +1,4 @@
--- `dirty::fill_dirty` meets its contract. The invariant is `Counting`.
+-- `dirty::fill_dirty` meets its contract. The invariant is `DirtyCounting`.
 use native.Mathlib.Omega.{arith}
 use mathlib.Core.Path.{_≡_, refl}
 use Prim.Native.Nat.{_-_, _≤_, _<_}
@@ -6,12 +6,12 @@ use lib.ListN.{length, length-set}
 use Rattle.calls.specs.Answers.{readCall}
 use Rattle.calls.specs.Place.{walkOf}
 use Rattle.place_keys.proofs.StepLaws.{numbers-length, index-low, stored-most}
-use Rattle.place_keys.proofs.BucketLaws.{Counting, counting-first, counting-next, counting-end}
+use Rattle.place_keys.proofs.BucketLaws.{DirtyCounting, counting-first, counting-next, counting-end}
 use Rattle.place_keys.proofs.dirty.fill_dirty.Statement.{statement}
 use Rattle.place_keys.proofs.dirty.fill_dirty.Tie as tie
 
 abbrev Inv-loop : tie.InvT-loop
-Inv-loop dirty₀ s pieces slots i₀ dirty i = (length dirty ≡ length dirty₀) × Counting s (walkOf (readCall s) .taken) dirty i
+Inv-loop dirty₀ s pieces slots i₀ dirty i = (length dirty ≡ length dirty₀) × DirtyCounting s (walkOf (readCall s) .taken) dirty i
 
 abbrev μ-loop : tie.MeasureT-loop
 μ-loop dirty₀ s pieces slots i₀ dirty i = length pieces - i

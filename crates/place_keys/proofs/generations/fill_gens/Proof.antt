@@ -7,12 +7,12 @@ use Rattle.wire.specs.Kinds.{bucketInRange, bucketsIn}
 use Rattle.calls.specs.Answers.{readVolume}
 use Rattle.calls.specs.Generations.{genOf}
 use Rattle.place_keys.proofs.StepLaws.{bucket-at, low-at}
-use Rattle.place_keys.proofs.FillLaws.{Filled, filled-next, filled-end}
+use Rattle.place_keys.proofs.FillLaws.{GensFilled, filled-next, filled-end}
 use Rattle.place_keys.proofs.generations.fill_gens.Statement.{statement}
 use Rattle.place_keys.proofs.generations.fill_gens.Tie as tie
 
 abbrev Inv-loop : tie.InvT-loop
-Inv-loop out₀ s records taken i₀ out i = (i ≤ length taken) × (length out ≡ length out₀) × Filled (genOf (readVolume s .trees .gens)) taken out i
+Inv-loop out₀ s records taken i₀ out i = (i ≤ length taken) × (length out ≡ length out₀) × GensFilled (genOf (readVolume s .trees .gens)) taken out i
 
 abbrev μ-loop : tie.MeasureT-loop
 μ-loop out₀ s records taken i₀ out i = length taken - i

@@ -3,7 +3,7 @@ use native.Mathlib.Omega.{arith}
 use mathlib.Core.Path.{sym, _∙_}
 use lib.Seq.{length-take-le}
 use Rattle.reader.specs.declared.table.Ends.{Ends}
-use Rattle.reader.proofs.PartsLaws.{Part}
+use Rattle.reader.proofs.PartsLaws.{TablePart}
 use Rattle.release.proofs.ReadLaws.{parts-within, parts-keyed, parts-requested, parts-few, parts-outcome, scratch-long}
 use borrow.Author.Needs.{needs}
 use Rattle.release.proofs.release.release_parts.Statement.{statement}
@@ -20,7 +20,7 @@ ends p = start p .args .ends
 
 -- the parts of the table that are lent
 parts : (p : tie.After-slice-known2) → let t = start p .args .table .now in
-    Part 0 (ends p .alloc) 4096 t × Part (ends p .backpointers) (ends p .gens) 4096 t × Part (ends p .reserved) (ends p .requests) 1024 t
+    TablePart 0 (ends p .alloc) 4096 t × TablePart (ends p .backpointers) (ends p .gens) 4096 t × TablePart (ends p .reserved) (ends p .requests) 1024 t
 parts p = let a = start p .pre in parts-within (a .0) (a .1)
 
 slice-aggregate-release-lists : tie.Need-slice-aggregate-release-lists

@@ -7,13 +7,13 @@ use Rattle.wire.specs.declared.bpos.Bpos.{Bpos}
 use Rattle.calls.specs.Trees.{lookup}
 use Rattle.reader.specs.KeyHere.{keysHere}
 use Rattle.release_keys.specs.Places.{PlaceOf}
-use Rattle.release_keys.specs.Skipping.{Skipped}
-use Rattle.release_keys.proofs.AllocLaws.{Walking, walk-starts, walk-turn, walk-ends}
+use Rattle.release_keys.specs.Skipping.{KeysSkipped}
+use Rattle.release_keys.proofs.AllocLaws.{AllocWalking, walk-starts, walk-turn, walk-ends}
 use Rattle.release_keys.proofs.allocs.find_allocs.Statement.{statement}
 use Rattle.release_keys.proofs.allocs.find_allocs.Tie as tie
 
 abbrev Inv-loop : tie.InvT-loop
-Inv-loop s alloc buckets places₀ i₀ k₀ places i k = Walking s buckets places₀ places (keysHere s alloc) i k
+Inv-loop s alloc buckets places₀ i₀ k₀ places i k = AllocWalking s buckets places₀ places (keysHere s alloc) i k
 
 abbrev μ-loop : tie.MeasureT-loop
 μ-loop s alloc buckets places₀ i₀ k₀ places i k = length buckets - k
@@ -72,7 +72,7 @@ loop-again c =
     let e = c .before .before .alloc-at .ensures in
     let r = c .before .skip-below .result in
     walk-turn (a .pre .1 .1) (a .pre .1 .0) (l .loop .inv) (omega arith) r (c .place-here .result)
-    (subst (λ (p : Bpos). Skipped ks (l .loop .i) p r) e (c .before .skip-below .ensures))
+    (subst (λ (p : Bpos). KeysSkipped ks (l .loop .i) p r) e (c .before .skip-below .ensures))
     (subst (λ (p : Bpos). PlaceOf s (c .place-here .result) (lookup p (drop r ks))) e (c .place-here .ensures))
 
 same-length : tie.Need-same-length Inv-loop μ-loop

@@ -10,7 +10,7 @@ use Rattle.calls.specs.Release.{freedOk}
 use Rattle.calls.proofs.lists.AllOfLaws.{all-of-drop, all-of-first}
 use Rattle.release_sums.specs.Freeds.{freedHeld, freedsIn}
 use Rattle.release_sums.specs.Summing.{Marked}
-use Rattle.release_sums.proofs.FreedLaws.{Within, within, freeds-next, freeds-none}
+use Rattle.release_sums.proofs.FreedLaws.{FreedWithin, within, freeds-next, freeds-none}
 use Rattle.release_sums.proofs.SumLaws.{Adding, add-starts, add-at, add-turn, add-ends, freed-most, marked-starts, marked-turn}
 use Rattle.release_sums.proofs.sums.add_up.Statement.{statement}
 use Rattle.release_sums.proofs.sums.add_up.Tie as tie
@@ -26,7 +26,7 @@ record Here (c : tie.After-bucket-of Inv-loop μ-loop) : Type 0 where
   here :
       drop (c .before .before .before .before .loop .i) (freedsIn (c .before .before .before .before .before .before .before .before .args .s .now) (c .before .before .before .before .before .before .before .before .args .requests .now))
       ≡ freedHeld (c .before .before .freed-at .result) ∷ drop (c .before .before .before .before .loop .i + 1) (freedsIn (c .before .before .before .before .before .before .before .before .args .s .now) (c .before .before .before .before .before .before .before .before .args .requests .now))
-  inside : Within (c .before .before .before .before .before .before .before .before .args .sectors) (freedHeld (c .before .before .freed-at .result))
+  inside : FreedWithin (c .before .before .before .before .before .before .before .before .args .sectors) (freedHeld (c .before .before .freed-at .result))
   bucket : bucketOf (c .before .before .freed-at .result .first) (c .before .before .before .before .before .before .before .before .args .sectors) .0 ≡ c .bucket-of .result .0
   low : c .bucket-of .result .0 < 65536
 
