@@ -2,6 +2,7 @@
 pub mod AllLaws
 pub mod AllOfLaws
 pub mod AnyLaws
+pub mod AscendLaws
 pub mod BoolLaws
 pub mod MapLaws
 pub mod OneSort

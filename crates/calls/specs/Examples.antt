@@ -106,7 +106,7 @@ spot first stored b = record { first = sector first; stored = stored; bucket = b
 abbrev pub freeing : ℕ → ℕ → Freed
 freeing first sectors = record { first = sector first; sectors = sectors }
 
--- what ofBatches batch of an answer says
+-- what each batch of an answer says
 abbrev pub ofBatches : {A : Type 0} → (Batch → A) → Answer → List A
 ofBatches part a = map part (changesOf (a .written))
 

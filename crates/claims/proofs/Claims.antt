@@ -86,7 +86,7 @@ use Rattle.lines.proofs.program.bucket_lines.Statement as linesS
 -- ==== Demand 1: every list is answered, or refused by the number that the order names
 
 -- ---- the four calls
--- Of ofBatches call: the compiled function meets its contract, in every model of memory (`statement`, which the toolchain makes of the contract in
+-- Of each call: the compiled function meets its contract, in every model of memory (`statement`, which the toolchain makes of the contract in
 -- crates/zerglaz/src/lib.rt); its contract asks nothing of the arguments (`Asked`, what a caller must show); and what it says after the call (`Learnt`, what a caller
 -- learns). There `a` are the arguments at entry, `e` the same at exit, `now` is what a reference refers to, and `r` is the number that the call answers.
 pub zerglaz-place : {M : Type 1} → placeS.statement M
@@ -154,7 +154,7 @@ module _ (κs : Lfts 4) (a : Dens κs applyK.ps) (r : ℕ) (e : AtExit (endedOf 
   apply-says = refl
 
 -- ---- the worked cases of FORMAT.md
--- 1. bucket 128, stored 96, 96, 64: three buckets, offset 0 ofBatches, no LRU root
+-- 1. bucket 128, stored 96, 96, 64: three buckets, offset 0 each, no LRU root
 pub case1 : nextFit 128 0 0 (96 ∷ 96 ∷ 64 ∷ []) ≡ slot 0 0 ∷ slot 1 0 ∷ slot 2 0 ∷ []
 case1 = cases .case1
 
@@ -210,7 +210,7 @@ case6-before = cases .case6-before
 pub case6-flags : get flags (emptied 7 (newAlloc 1 255 96 1)) ≡ 0x21
 case6-flags = cases .case6-flags
 
--- 7. usedBucket 96: freeing 96 empties, 97 gives 18
+-- 7. held 96: freeing 96 empties, 97 gives 18
 pub case7 : ofBatches (λ b. map (λ k. get dataType (k .value)) (b .trees .alloc)) (release (releasing heldVolume (freeing 640 96 ∷ [])) 65536 1000)
     ≡ (9 ∷ []) ∷ []
 case7 = cases .case7
@@ -243,7 +243,7 @@ used = cases .used
 pub used-met : place (placing (volumeFor (headFor 1 1) (usedBucket 12 0 128 ∷ []) (run 80 70 ∷ []) [] []) (plain 128 ∷ plain 128 ∷ plain 128 ∷ [])) 2000 .number ≡ 13
 used-met = cases .used-met
 
--- ---- whole answers, ofBatches on a small list on which an answer that gets one thing wrong differs
+-- ---- whole answers, each on a small list on which an answer that gets one thing wrong differs
 -- a list that passes a limit is 3, and 2 where its layout is broken too
 pub limit-passed : place pastBase 14 .number ≡ 3
 limit-passed = worked-answers .limit-passed
@@ -340,7 +340,7 @@ pub words-more : (kind stored file checksum word option : ℕ) → 1 < option
     → extentWords option kind stored file checksum word ≡ crc64 stored file (csumTypeOf option) kind ∷ checksum ∷ word ∷ []
 words-more = entries.words-more
 
--- ---- ofBatches packed word and struct has the fields that the header names
+-- ---- each packed word and struct has the fields that the header names
 -- struct bch_extent_ptr: type, cached, unused, unwritten, offset, dev, gen
 pub pointer-decodes : (d : DeviceSector) (generation : ℕ) → sectorNumber d < 2 ^ 44 → generation < 256
     → unpack (1 ∷ 1 ∷ 1 ∷ 1 ∷ 44 ∷ 8 ∷ 8 ∷ []) (pointer d generation) ≡ 1 ∷ 0 ∷ 0 ∷ 0 ∷ sectorNumber d ∷ 0 ∷ generation ∷ []
@@ -373,7 +373,7 @@ pub flags-decode : (f : Flags) → f .needDiscard < 2 ^ 1 → f .needIncGen < 2 
 flags-decode f a b c d e =
     decoded.flags-decode f (record { needDiscard = a; needIncGen = b; backpointersStart = c; nrBackpointers = d; unnamed = e })
 
--- struct bch_alloc_v4: what a new value holds, and what emptying, a discard and another dirty count make of ofBatches member
+-- struct bch_alloc_v4: what a new value holds, and what emptying, a discard and another dirty count make of each member
 pub new-decodes : (journal generation dirty clock : ℕ) → journal < 2 ^ 64 → generation < 256 → dirty < 2 ^ 32 → clock < 2 ^ 64
     → map (λ m. get m (newAlloc journal generation dirty clock)) allocV4
     ≡ journal ∷ 0x23 ∷ generation ∷ generation ∷ 4 ∷ 0 ∷ dirty ∷ 0 ∷ 1 ∷ clock ∷ 0 ∷ 0 ∷ 0 ∷ 0 ∷ 0 ∷ []
@@ -447,12 +447,12 @@ pub history-runs : (clean : List ℕ) → Clean clean → (steps : List Step) �
     (overlaps l ≡ false) × (allOf (λ k. not (beganBefore (endOf k) (k .size))) l ≡ true)
 history-runs clean c steps h = let r = runs.history-runs clean c steps h in (r .disjoint, r .begun)
 
--- ofBatches key of tree 14 is a generation record of 256 bytes
+-- each key of tree 14 is a generation record of 256 bytes
 pub history-records : (clean : List ℕ) → Clean clean → (steps : List Step) → History (start clean) steps
     → All (λ k. (k .type ≡ 30) × (length (k .value) ≡ 256)) (readVolume (after (start clean) steps .volume) .trees .gens)
 history-records = records.history-records
 
--- what these stand on: whatever field 1, but for the bucket sectors, and ofBatches applied call leave true of a volume and its live pieces, every history does
+-- what these stand on: whatever field 1, but for the bucket sectors, and each applied call leave true of a volume and its live pieces, every history does
 pub history-keeps : (P : Volume → List Live → Type 0)
     → ((v w : Volume) (live : List Live) → w .trees ≡ v .trees → w .reserved ≡ v .reserved → w .head .bucketSectors ≡ v .head .bucketSectors → P v live → P w live)
     → ((s : List ℕ) (live : List Live) → Bytes s → treesOk (readVolume s .trees) ≡ true → verdict (placeTests (readCall s)) ≡ 0 → P (readVolume s) live
@@ -484,7 +484,7 @@ pub walk-taken-ascend : (reserved used : Bucket → Bool) (need : ℕ) (l : List
     → inOrder bucketBelow (walk reserved used need (runsOf l) .taken) ≡ true
 walk-taken-ascend reserved used need l k = taken.walk-taken-ascend reserved used need l (keys-order l k .0)
 
--- an accepted placement writes one batch; its fields 72 and its extents' pointers, the last word of ofBatches, tell the same, and a pointer gives sector and generation back
+-- an accepted placement writes one batch; its fields 72 and its extents' pointers, the last word of each, tell the same, and a pointer gives sector and generation back
 pub pointers-agree : (s : List ℕ) (room : ℕ) → Bytes s → place s room .number ≡ 0
     → (b : Batch) × (changesOf (place s room .written) ≡ b ∷ [])
     × (map (λ k. le 8 (drop (length (k .value) - 8) (k .value))) (b .extents) ≡ map (λ t. pointer (t .first) (t .generation)) (b .spots))

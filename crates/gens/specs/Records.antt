@@ -12,7 +12,7 @@ use Rattle.wire.specs.declared.kinds.Bucket.{Bucket}
 use Rattle.calls.specs.Generations.{genRecord}
 use Rattle.reader.specs.KeyHere.{keyHere, Whole}
 
--- the table after the key at an offset: a record is recordNoted, another key at a record's place takes it out
+-- the table after the key at an offset: a record is noted, another key at a record's place takes it out
 unfoldable pub recordNoted : ℕ → Key → List ℕ → List ℕ
 recordNoted at k table =
     cond (eqb (k .pos .inode) 0 && (eqb (k .pos .snapshot) 0 && ltb (k .pos .offset) 256))

@@ -10,7 +10,7 @@ ghost use Rattle.gens.specs.Records.{recordNoted, recordEntry, RecordsFo
 use reader::key;
 use wire::kinds::Bucket;
 
-// Notes the offset of a key, if it is a record; another key at a record's place takes out what was recordNoted. The reader shows that a key stands there.
+// Notes the offset of a key, if it is a record; another key at a record's place takes out what was noted. The reader shows that a key stands there.
 fn note_record(s: &[u8], at: u32, table: &mut [u32; 256])
     requires { ⌜ Whole (now s) at ⌝ }
     ensures { λ _. ⌜ now (table .exit) ≡ recordNoted at (keyHere (now (s .entry)) at) (now (table .entry)) ⌝ }

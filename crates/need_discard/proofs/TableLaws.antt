@@ -1,4 +1,4 @@
--- The table by bucket: each need-discard key that is waitNoted is the last so far of its bucket.
+-- The table by bucket: each need-discard key that is noted is the last so far of its bucket.
 use Prim.Native.Nat.{ℕ, _+_, _-_, _<_}
 use mathlib.Core.Path.{_≡_, refl, sym, _∙_}
 use mathlib.Core.Bool.{Bool, true, false, not, cond, and-true, and-false}
@@ -24,7 +24,7 @@ use Rattle.need_discard.specs.declared.waiting.Waits.{Waits}
 use Rattle.need_discard.specs.declared.waiting.Waits.the-variants.{At, Not}
 use Rattle.wire.specs.declared.bpos.Bpos.{Bpos}
 
--- one key more: the last that isOfBucket a bucket stands
+-- one key more: the last that names a bucket stands
 pub waiting-more : (ks : List Key) (k : Key) (b : Bucket) → waitingKey (ks ++ k ∷ []) b ≡ cond (isOfBucket k b) (some k) (waitingKey ks b)
 unfolding waitingKey
 waiting-more [] k b = refl
@@ -66,17 +66,17 @@ noted-length s table o i = go (isSet (keyHere s o))
     go true = length-set table (bucketHere s o .0) (i + 1)
     go false = refl
 
--- the key at place i is waitNoted
+-- the key at place i is noted
 module _ (s needs table : List ℕ) (ks : List Key) (i : ℕ) (h : i < length needs) (l : length table ≡ 65536)
     (t : Entries s needs ks table) (b : Bucket) (m : bucketInRange b ≡ true) where
   abbrev o : ℕ
   o = getD needs i 0
 
-  -- a key of another type isOfBucket no bucket
+  -- a key of another type names no bucket
   other : isSet (keyHere s o) ≡ false → Entry s needs (ks ++ keyHere s o ∷ []) b (getD table (b .0) 0)
   other e = entry-kept (t b m) refl (waiting-more ks (keyHere s o) b ∙ rw e)
 
-  -- a key of type 25 isOfBucket its own bucket and no other
+  -- a key of type 25 names its own bucket and no other
   this : isSet (keyHere s o) ≡ true → Entry s needs (ks ++ keyHere s o ∷ []) b (getD (set table (bucketHere s o .0) (i + 1)) (b .0) 0)
   this e = go (sameBucket (bucketHere s o) b) refl
     where
@@ -111,7 +111,7 @@ pub all-entries : (s needs table : List ℕ) (i : ℕ) → i ≡ length needs �
     → Entries s needs (keysHere s needs) table
 all-entries s needs table i e t = rw (e, take-length needs) at t
 
--- the key at place i is searched: the last so far that isOfBucket a bucket has its entry
+-- the key at place i is searched: the last so far that names a bucket has its entry
 module _ (s needs : List ℕ) (b : Bucket) where
   pub search-none : Entry s needs (keysHere s (take 0 needs)) b 0
   unfolding waitingKey
@@ -135,7 +135,7 @@ module _ (s needs : List ℕ) (b : Bucket) where
 pub unfilled : {s needs table : List ℕ} → All (NeedKept s) needs → length table < 65536 → WaitingTable s needs table
 unfilled k h = record { kept = k; entries = λ l. absurd (omega arith) }
 
--- whether a key isOfBucket a bucket, by its own bucket and its type
+-- whether a key names a bucket, by its own bucket and its type
 module _ (s : List ℕ) (o : ℕ) (b : Bucket) {d : Bucket} {t : Bool} (e : d ≡ bucketHere s o) (p : t ≡ sameBucket d b) where
   pub names-this : {k : ℕ} → t ≡ true → k ≡ keyHere s o .type → eqb k 25 ≡ isOfBucket (keyHere s o) b
   names-this q f = rw (f, sym e, sym p ∙ q) (sym (and-true (isSet (keyHere s o))))

@@ -1,4 +1,4 @@
--- The table by bucket: which need-discard key is the last that isOfBucket each bucket.
+-- The table by bucket: which need-discard key is the last that names each bucket.
 use Prim.Native.Nat.{ℕ, _+_, _-_, _≤_, _<_}
 use mathlib.Core.Path.{_≡_}
 use mathlib.Core.List.{List}
@@ -22,11 +22,11 @@ abbrev pub waitsOf : Option Key → Waits
 waitsOf none = Not
 waitsOf (some k) = At (k .pos)
 
--- a key isOfBucket a bucket
+-- a key names a bucket
 abbrev pub isOfBucket : Key → Bucket → Bool
 isOfBucket k b = isSet k && sameBucket (bucketIn (k .pos)) b
 
--- The entry of a bucket: 0 where none of the keys isOfBucket it, else the place of the last that does, counted from 1.
+-- The entry of a bucket: 0 where none of the keys names it, else the place of the last that does, counted from 1.
 pub record Entry (s needs : List ℕ) (ks : List Key) (b : Bucket) (e : ℕ) : Type 0 where
   pub unnamed : e ≡ 0 → waitingKey ks b ≡ none
   pub named : 0 < e → (e ≤ length needs) × (waitingKey ks b ≡ some (keyHere s (getD needs (e - 1) 0)))
@@ -40,6 +40,6 @@ pub record WaitingTable (s needs table : List ℕ) : Type 0 where
   pub kept : All (NeedKept s) needs
   pub entries : 65536 ≤ length table → Entries s needs (keysHere s needs) table
 
--- the table after the need-discard key at an offset, the one at place i: a key of another type than 25 isOfBucket no bucket
+-- the table after the need-discard key at an offset, the one at place i: a key of another type than 25 names no bucket
 unfoldable pub waitNoted : List ℕ → List ℕ → ℕ → ℕ → List ℕ
 waitNoted s table o i = cond (isSet (keyHere s o)) (set table (bucketHere s o .0) (i + 1)) table

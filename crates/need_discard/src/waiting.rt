@@ -46,7 +46,7 @@ pub fn note_waiting(table: &mut [u16; 65536], s: &[u8], needs: &[u32])
     }
 }
 
-// Whether the need-discard key at an offset isOfBucket a bucket, which a key of another type than 25 does not.
+// Whether the need-discard key at an offset names a bucket, which a key of another type than 25 does not.
 fn names_bucket(s: &[u8], o: u32, b: Bucket) -> bool
     requires { ⌜ NeedKept (now s) o ⌝ }
     ensures { λ r. ⌜ r ≡ isOfBucket (keyHere (now (s .entry)) o) b ⌝ }
@@ -57,7 +57,7 @@ fn names_bucket(s: &[u8], o: u32, b: Bucket) -> bool
     false
 }
 
-// The entry of a bucket, by a search through the keys: the last that isOfBucket it stands.
+// The entry of a bucket, by a search through the keys: the last that names it stands.
 fn search_entry(s: &[u8], needs: &[u32], b: Bucket) -> usize
     requires { ⌜ All (NeedKept (now s)) (now needs) ⌝ }
     ensures { λ r. ⌜ Entry (now (s .entry)) (now (needs .entry)) (keysHere (now (s .entry)) (now (needs .entry))) b r ⌝ }

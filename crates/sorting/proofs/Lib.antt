@@ -3,12 +3,10 @@ pub mod MergeLaws
 pub mod LastLaws
 pub mod KeepLaws
 pub mod EntryLaws
-pub mod AscendLaws
 pub mod SectionLaws
 pub mod BoundLaws
 pub mod ChunkLaws
 pub mod PassLaws
-pub mod AlikeLaws
 pub mod HeldLaws
 pub mod TableLaws
 pub mod WalkLaws

@@ -40,7 +40,7 @@ pub record Cases : Type 0 where
   pub case6-oldest : get oldestGen (emptied 7 (newAlloc 1 255 96 1)) ≡ 0
   pub case6-before : get flags (newAlloc 1 255 96 1) ≡ 0x23
   pub case6-flags : get flags (emptied 7 (newAlloc 1 255 96 1)) ≡ 0x21
-  -- 7. usedBucket 96: freeing 96 empties, 97 gives 18
+  -- 7. held 96: freeing 96 empties, 97 gives 18
   pub case7 :
       map (λ b. map (λ k. get dataType (k .value)) (b .trees .alloc)) (changesOf (release (releasing heldVolume (freeing 640 96 ∷ [])) 65536 1000 .written))
       ≡ (9 ∷ []) ∷ []

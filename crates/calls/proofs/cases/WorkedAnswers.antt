@@ -1,4 +1,4 @@
--- Worked cases beside the P cases, computed of whole answers: ofBatches has a list on which an answer that is wrong in one place, as the edits in must-fail
+-- Worked cases beside the P cases, computed of whole answers: each has a list on which an answer that is wrong in one place, as the edits in must-fail
 -- make it, differs.
 use mathlib.Core.Path.{_≡_, refl}
 use mathlib.Core.List.{[], _∷_, _++_, map}
