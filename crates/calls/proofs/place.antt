@@ -4,3 +4,4 @@ pub mod PlaceFits
 pub mod PlaceLaws
 pub mod PlacePhases
 pub mod PointerLaws
+pub mod ReadFits

@@ -102,8 +102,8 @@ unusedChange v rs bs =
 
 -- the rows of a release, ascending: freed sectors and buckets negated
 unfoldable pub releaseRows : Volume → List Freed → List Bucket → List Bucket → List Counters
-releaseRows v rs bs gone =
-    let n = length gone in
+releaseRows v rs bs emptiedBuckets =
+    let n = length emptiedBuckets in
     let freed = negℤ (pos (total (λ r. r .sectors) rs)) in
     countedRows
     (sectorsRow freed ∷ bucketsRow 4 (negℤ (pos n)) freed (unusedChange v rs bs) ∷ bucketsRow 9 (pos n) (pos 0) (pos 0) ∷ [])
@@ -113,7 +113,7 @@ unfoldable pub releaseBatch : Volume → List Freed → Batch
 releaseBatch v rs =
     let h = v .head in
     let bs = freedBuckets (h .bucketSectors) rs in
-    let gone = those (isEmptied v rs) bs in
+    let emptiedBuckets = those (isEmptied v rs) bs in
     record {
       extents = [];
       trees =
@@ -121,16 +121,16 @@ releaseBatch v rs =
             alloc = map (releasedKey v rs) bs;
             lru = flatMap (releasedLru v rs) bs;
             freespace = [];
-            needDiscard = map (needDiscardKey (h .journal)) gone;
+            needDiscard = map (needDiscardKey (h .journal)) emptiedBuckets;
             backpointers = map (λ r. deletion (backpointerAt (r .first))) rs;
-            gens = gensQueued (emptiedGen (v .trees)) (v .trees .gens) gone;
+            gens = gensQueued (emptiedGen (v .trees)) (v .trees .gens) emptiedBuckets;
           };
       roots =
-          rootsIf (not (isEmpty gone) && rootMissing (h .roots) 1) 12
-          ++ rootsIf (not (isEmpty gone) && rootMissing (h .roots) 2) 14;
+          rootsIf (not (isEmpty emptiedBuckets) && rootMissing (h .roots) 1) 12
+          ++ rootsIf (not (isEmpty emptiedBuckets) && rootMissing (h .roots) 2) 14;
       taken = [];
       spots = [];
-      rows = releaseRows v rs bs gone;
+      rows = releaseRows v rs bs emptiedBuckets;
       sectors = [];
       discarded = [];
     }

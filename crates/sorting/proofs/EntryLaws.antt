@@ -161,9 +161,9 @@ module _ {t : ℕ} {s : List ℕ} {o : ℕ} (k : EntryAt t s o) where
   unfolding entryFrom entryOf
   key-pos z = rw (ne-eqb t 64 z) (sym (pos-at s o (sizeAt s o) (key-size z .0)))
 
-  pub bucket-gone : t ≡ 64 → getD s (o - 3) 0 ≡ 75 → 0 ≡ entryFrom t s o .type
+  pub bucket-deleted : t ≡ 64 → getD s (o - 3) 0 ≡ 75 → 0 ≡ entryFrom t s o .type
   unfolding entryFrom entryOf tagAt
-  bucket-gone z e = rw (eq-eqb t 64 z, e)
+  bucket-deleted z e = rw (eq-eqb t 64 z, e)
 
   pub bucket-stays : t ≡ 64 → (getD s (o - 3) 0 ≡ 75 → ⊥) → 1 ≡ entryFrom t s o .type
   unfolding entryFrom entryOf tagAt

@@ -144,16 +144,16 @@ module _ (t : Trees) (ks : List Key) (v : Volume) (due : All (Due (v .trees .all
   abbrev v′ : Volume
   v′ = applyBatch (discardBatch t ks) v
 
-  abbrev gone : ℕ → Bool
-  gone b = isIn (bucketsAt ks) (bucket b)
+  abbrev inBatch : ℕ → Bool
+  inBatch b = isIn (bucketsAt ks) (bucket b)
 
-  alloc-in : (b : ℕ) → gone b ≡ true → At b ks (lookup (allocAt (bucket b)) (v′ .trees .alloc))
+  alloc-in : (b : ℕ) → inBatch b ≡ true → At b ks (lookup (allocAt (bucket b)) (v′ .trees .alloc))
   unfolding applyBatch applyTrees discardBatch
   alloc-in b e =
       rw (lookup-applyQueue (allocAt (bucket b)) (map cleared ks) (v .trees .alloc))
       (left-in (v .trees .alloc) b ks (lookup (allocAt (bucket b)) (v .trees .alloc)) due e)
 
-  alloc-out : (b : ℕ) → gone b ≡ false → lookup (allocAt (bucket b)) (v′ .trees .alloc) ≡ lookup (allocAt (bucket b)) (v .trees .alloc)
+  alloc-out : (b : ℕ) → inBatch b ≡ false → lookup (allocAt (bucket b)) (v′ .trees .alloc) ≡ lookup (allocAt (bucket b)) (v .trees .alloc)
   unfolding applyBatch applyTrees discardBatch
   alloc-out b e =
       lookup-applyQueue (allocAt (bucket b)) (map cleared ks) (v .trees .alloc)
@@ -166,17 +166,17 @@ module _ (t : Trees) (ks : List Key) (v : Volume) (due : All (Due (v .trees .all
     was : lookup (allocAt (bucket b)) (v .trees .alloc) ≡ some (i .key)
     was = ap (λ (q : Bpos). lookup q (v .trees .alloc)) (sym (i .place)) ∙ key-due .found
 
-  nine : (b : ℕ) → gone b ≡ true → allocKind (readAlloc (lookup (allocAt (bucket b)) (v .trees .alloc))) ≡ 9
+  nine : (b : ℕ) → inBatch b ≡ true → allocKind (readAlloc (lookup (allocAt (bucket b)) (v .trees .alloc))) ≡ 9
   nine b e = let i = alloc-in b e in rw (was b _ i) (key-due b _ i .waits)
 
   pub gens-kept : GensHeld v → GensHeld v′
   unfolding applyBatch applyTrees discardBatch applyQueue
-  gens-kept h b k e = tree ∙ go (gone (b .0)) refl
+  gens-kept h b k e = tree ∙ go (inBatch (b .0)) refl
     where
       tree : genOf (v′ .trees .gens) b ≡ genOf (v .trees .gens) b
       tree = refl
 
-      go : (u : Bool) → gone (b .0) ≡ u → genOf (v .trees .gens) b ≡ get gen (k .value)
+      go : (u : Bool) → inBatch (b .0) ≡ u → genOf (v .trees .gens) b ≡ get gen (k .value)
       go true d =
           let i = alloc-in (b .0) d in
           let q : cleared (i .key) ≡ k = Option·some-injective (cleared (i .key)) k (sym (i .left) ∙ e) in
@@ -184,7 +184,7 @@ module _ (t : Trees) (ks : List Key) (v : Volume) (due : All (Due (v .trees .all
       go false d = h b k (sym (alloc-out (b .0) d) ∙ e)
 
   module _ (B : ℕ) (offered : ℕ → Bool) (live : List Live) (s : VolumeSound B offered live v) (sorted : Sorted ks) where
-    pub discarding : Discarding (view v live) (view v′ live) gone
+    pub discarding : Discarding (view v live) (view v′ live) inBatch
     unfolding applyBatch applyTrees discardBatch insertBuckets
     discarding =
         record {
@@ -207,7 +207,7 @@ module _ (t : Trees) (ks : List Key) (v : Volume) (due : All (Due (v .trees .all
     unfolding applyBatch applyTrees discardBatch
     batch-sound =
         record {
-          good = discard-good B offered (view v live) (view v′ live) (s .good) gone discarding;
+          good = discard-good B offered (view v live) (view v′ live) (s .good) inBatch discarding;
           alloc = sorted-applyQueue _ (v .trees .alloc) (s .alloc);
           freespace = sorted-applyQueue _ (v .trees .freespace) (s .freespace);
           needDiscard = sorted-applyQueue _ (v .trees .needDiscard) (s .needDiscard);

@@ -10,13 +10,13 @@ use Rattle.calls.proofs.lists.AllLaws.{all-at, all-of}
 use Rattle.calls.proofs.history.Phases.{inBucket, lenOn, Alloc, Seen, allocDirty, allocKind, Phase, idle, free, used, wait, PhaseAt, Good, mem-own}
 
 -- what a discard does to what is seen: the buckets that it takes
-pub record Discarding (s s′ : Seen) (gone : ℕ → Bool) : Type 0 where
+pub record Discarding (s s′ : Seen) (inBatch : ℕ → Bool) : Type 0 where
   pub live : s′ .live ≡ s .live
-  pub cover : (b : ℕ) → s′ .cover b ≡ s .cover b + one (gone b)
-  pub kept : (b : ℕ) → s′ .kept b ≡ (s .kept b && not (gone b))
-  pub waited : (b : ℕ) → gone b ≡ true → allocKind (s .alloc b) ≡ 9
-  pub cleared : (b : ℕ) → gone b ≡ true → (allocKind (s′ .alloc b) ≡ 0) × (allocDirty (s′ .alloc b) ≡ allocDirty (s .alloc b))
-  pub same : (b : ℕ) → gone b ≡ false → (s′ .alloc b ≡ s .alloc b) × (s′ .waits b ≡ s .waits b)
+  pub cover : (b : ℕ) → s′ .cover b ≡ s .cover b + one (inBatch b)
+  pub kept : (b : ℕ) → s′ .kept b ≡ (s .kept b && not (inBatch b))
+  pub waited : (b : ℕ) → inBatch b ≡ true → allocKind (s .alloc b) ≡ 9
+  pub cleared : (b : ℕ) → inBatch b ≡ true → (allocKind (s′ .alloc b) ≡ 0) × (allocDirty (s′ .alloc b) ≡ allocDirty (s .alloc b))
+  pub same : (b : ℕ) → inBatch b ≡ false → (s′ .alloc b ≡ s .alloc b) × (s′ .waits b ≡ s .waits b)
 
 module _ (off : Bool) (c : ℕ) (k : Bool) (n : ℕ) (a : Option Alloc) (w : Bool) where
   phase-discard : (c′ : ℕ) (k′ : Bool) (a′ : Option Alloc) (w′ : Bool) → Phase off c k n a w → allocKind a ≡ 9 → c′ ≡ c + 1 → k′ ≡ false → allocKind a′ ≡ 0 → allocDirty a′ ≡ allocDirty a → Phase off c′ k′ n a′ w′
@@ -38,20 +38,20 @@ module _ (off : Bool) (c : ℕ) (k : Bool) (n : ℕ) (a : Option Alloc) (w : Boo
   not-waiting (used f e1 e2 e3 e4 e5) l u = omega arith
   not-waiting (wait f e1 e2 e3 e4 e5 e6) l u = omega arith
 
-module _ (B : ℕ) (offered : ℕ → Bool) (s s′ : Seen) (g : Good B offered s) (gone : ℕ → Bool) (h : Discarding s s′ gone) where
+module _ (B : ℕ) (offered : ℕ → Bool) (s s′ : Seen) (g : Good B offered s) (inBatch : ℕ → Bool) (h : Discarding s s′ inBatch) where
   discard-phase : (b : ℕ) → PhaseAt B offered s′ b
-  discard-phase b = rw (h .live) (go (gone b) refl)
+  discard-phase b = rw (h .live) (go (inBatch b) refl)
     where
-      go : (t : Bool) → gone b ≡ t → Phase (offered b) (s′ .cover b) (s′ .kept b) (total (lenOn B b) (s .live)) (s′ .alloc b) (s′ .waits b)
+      go : (t : Bool) → inBatch b ≡ t → Phase (offered b) (s′ .cover b) (s′ .kept b) (total (lenOn B b) (s .live)) (s′ .alloc b) (s′ .waits b)
       go true e =
           phase-discard _ _ _ _ _ _ (s′ .cover b) (s′ .kept b) (s′ .alloc b) (s′ .waits b) (g .phase b) (h .waited b e)
           (rw (h .cover b, e)) (rw (h .kept b, e) (and-false (s .kept b))) (h .cleared b e .0) (h .cleared b e .1)
       go false e = rw (h .cover b, h .kept b, e, h .same b e .0, h .same b e .1, add-zero, and-true) (g .phase b)
 
-  stays-put : (b : ℕ) → 0 < total (lenOn B b) (s .live) → gone b ≡ false
-  stays-put b l = go (gone b) refl
+  stays-put : (b : ℕ) → 0 < total (lenOn B b) (s .live) → inBatch b ≡ false
+  stays-put b l = go (inBatch b) refl
     where
-      go : (t : Bool) → gone b ≡ t → t ≡ false
+      go : (t : Bool) → inBatch b ≡ t → t ≡ false
       go true e = absurd (not-waiting _ _ _ _ _ _ (g .phase b) l (h .waited b e))
       go false e = refl
 

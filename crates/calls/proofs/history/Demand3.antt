@@ -14,7 +14,7 @@ use Rattle.calls.proofs.history.ClaimLaws.{claimed, clean-good, clean-g
 use Rattle.calls.proofs.discard.DiscardLaws.{discard-all, discard-gens, after-all}
 use Rattle.calls.proofs.history.HistoryKeeps.{Keeps, history-keeps}
 use Rattle.calls.proofs.history.Phases.{Good}
-use Rattle.calls.proofs.place.PlaceFits.{gens-small, sectors-small}
+use Rattle.calls.proofs.place.ReadFits.{gens-small, sectors-small}
 use Rattle.calls.proofs.place.PlaceLaws.{place-keeps, place-gens}
 use Rattle.calls.proofs.release.ReleaseLaws.{releasing-good, release-gens}
 use Rattle.calls.proofs.trees.SixTrees.{trees-order}

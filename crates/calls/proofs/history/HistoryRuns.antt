@@ -32,7 +32,7 @@ use Rattle.calls.proofs.discard.DiscardLaws.{bucketsAt, Due, VolumeSoun
 use Rattle.calls.proofs.discard.DiscardPhases.{Discarding, wait-cover}
 use Rattle.calls.proofs.history.HistoryKeeps.{Keeps, history-keeps}
 use Rattle.calls.proofs.freespace.JoinLaws.{joined}
-use Rattle.calls.proofs.place.PlaceFits.{gens-small, sectors-small}
+use Rattle.calls.proofs.place.ReadFits.{gens-small, sectors-small}
 use Rattle.calls.proofs.place.PlaceLaws.{runKeys, place-placing}
 use Rattle.calls.proofs.trees.SixTrees.{trees-order}
 use Rattle.calls.proofs.trees.SortedLaws.{Sorted}
@@ -122,17 +122,17 @@ module _ (B : ℕ) (offered : ℕ → Bool) (live : List Live) where
     begun : All Begun (v .trees .freespace)
 
   module _ (t : Trees) (v : Volume) (ks : List Key) (due : All (Due (v .trees .alloc)) ks) (sorted : Sorted ks) (h : After v) where
-    abbrev gone : ℕ → Bool
-    gone b = isIn (bucketsAt ks) (bucket b)
+    abbrev inBatch : ℕ → Bool
+    inBatch b = isIn (bucketsAt ks) (bucket b)
 
     -- no run covered a bucket that waited
     batch-once : (b : ℕ) → coverOf (applyBatch (discardBatch t ks) v .trees .freespace) b ≤ 1
-    batch-once b = go (gone b) refl (d .cover b)
+    batch-once b = go (inBatch b) refl (d .cover b)
       where
-        d : Discarding (view v live) (view (applyBatch (discardBatch t ks) v) live) gone
+        d : Discarding (view v live) (view (applyBatch (discardBatch t ks) v) live) inBatch
         d = discarding t ks v due B offered live (h .sound) sorted
 
-        go : (u : Bool) → gone b ≡ u → coverOf (applyBatch (discardBatch t ks) v .trees .freespace) b ≡ coverOf (v .trees .freespace) b + one u
+        go : (u : Bool) → inBatch b ≡ u → coverOf (applyBatch (discardBatch t ks) v .trees .freespace) b ≡ coverOf (v .trees .freespace) b + one u
             → coverOf (applyBatch (discardBatch t ks) v .trees .freespace) b ≤ 1
         go true e c = omega (arith, wait-cover _ _ _ _ _ _ (h .sound .good .phase b) (d .waited b e))
         go false e c = omega (arith, h .once b)

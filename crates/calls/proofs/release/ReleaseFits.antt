@@ -139,8 +139,8 @@ module _ (v : Volume) (rs : List Freed) (f : VolumeFits v) (ok : VolumeOk v) (fi
   abbrev named : List Bucket
   named = freedBuckets sectors rs
 
-  abbrev gone : List Bucket
-  gone = those (isEmptied v rs) named
+  abbrev emptiedBuckets : List Bucket
+  emptiedBuckets = those (isEmptied v rs) named
 
   keys : EachTree (All Queued) (v .trees)
   keys = volume-queued f ok
@@ -154,8 +154,8 @@ module _ (v : Volume) (rs : List Freed) (f : VolumeFits v) (ok : VolumeOk v) (fi
   some-named : length named ≤ 1024
   some-named = omega (arith, named-few sectors rs)
 
-  gone-below : All (λ b. b .0 < 65536) gone
-  gone-below = all-those (isEmptied v rs) below
+  emptied-below : All (λ b. b .0 < 65536) emptiedBuckets
+  emptied-below = all-those (isEmptied v rs) below
 
   alloc-value : (b : Bucket) → ValueFits (allocValue (v .trees) b)
   unfolding allocValue
@@ -208,14 +208,14 @@ module _ (v : Volume) (rs : List Freed) (f : VolumeFits v) (ok : VolumeOk v) (fi
         freespace = All.none;
         needDiscard =
             all-map _
-            (all-imp (λ b l. new-queued 25 0 (omega arith) (omega arith) (bucket-pos (f .head .journal) (omega arith)) no-value) gone-below);
+            (all-imp (λ b l. new-queued 25 0 (omega arith) (omega arith) (bucket-pos (f .head .journal) (omega arith)) no-value) emptied-below);
         backpointers =
             all-map _
             (all-imp
             (λ (r : Freed) (e : freedOk sectors r ≡ true).
             let l = first-below sectors r (a .some-sectors) (f .head .bucketSectors) e in
             deletion-queued (bucket-pos (omega arith) (omega arith))) (test-all (freedOk sectors) rs (a .requests)));
-        gens = records-queued (emptiedGen (v .trees)) gen-small gone-below (keys .gens);
+        gens = records-queued (emptiedGen (v .trees)) gen-small emptied-below (keys .gens);
       }
 
   -- rows
@@ -252,19 +252,19 @@ module _ (v : Volume) (rs : List Freed) (f : VolumeFits v) (ok : VolumeOk v) (fi
             (all-each (λ b. cond-most (isEmptied v rs b) (omega (arith, f .head .bucketSectors)) (omega arith)) named),
       ))
 
-  batch-rows : All RowFits (releaseRows v rs named gone)
+  batch-rows : All RowFits (releaseRows v rs named emptiedBuckets)
   unfolding releaseRows countedRows
   batch-rows =
-      let n : length gone ≤ 1024 = omega (arith, those-length (isEmptied v rs) named, some-named) in
+      let n : length emptiedBuckets ≤ 1024 = omega (arith, those-length (isEmptied v rs) named, some-named) in
       let d = less-fits (total (λ r. r .sectors) rs) (omega (arith, freed-small)) in
       let z = plus-fits 0 (omega arith) in
       all-those _
       (All.more (record { inode = omega arith; offset = omega arith; numbers = one d })
-      (All.more (buckets-row 4 (omega arith) (less-fits (length gone) (omega arith)) d unused-fits)
-      (All.more (buckets-row 9 (omega arith) (plus-fits (length gone) (omega arith)) z z) All.none)))
+      (All.more (buckets-row 4 (omega arith) (less-fits (length emptiedBuckets) (omega arith)) d unused-fits)
+      (All.more (buckets-row 9 (omega arith) (plus-fits (length emptiedBuckets) (omega arith)) z z) All.none)))
 
   wants : ℕ → Bool
-  wants bit = not (isEmpty gone) && rootMissing (v .head .roots) bit
+  wants bit = not (isEmpty emptiedBuckets) && rootMissing (v .head .roots) bit
 
   batch-roots : {P : ℕ → Type 0} → P 12 → P 14 → All P (releaseBatch v rs .roots)
   unfolding releaseBatch wants

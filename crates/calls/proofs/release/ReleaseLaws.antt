@@ -215,8 +215,8 @@ module _ (v : Volume) (rs : List Freed) (b : Bucket) (h : BucketHeld v rs b) whe
     part-is : isEmptied v rs b ≡ false → lookup (allocAt b) (released v rs .trees .alloc) ≡ some (withValue (h .key) partly)
     part-is e = alloc-is partly (rw e)
 
-    gone-is : isEmptied v rs b ≡ true → lookup (allocAt b) (released v rs .trees .alloc) ≡ some (withValue (h .key) wholly)
-    gone-is e = alloc-is wholly (rw e)
+    whole-is : isEmptied v rs b ≡ true → lookup (allocAt b) (released v rs .trees .alloc) ≡ some (withValue (h .key) wholly)
+    whole-is e = alloc-is wholly (rw e)
 
 -- ---- the whole
 module _ (v : Volume) (rs : List Freed) (live live′ : List Live) (ok : verdict (releaseTests v rs) ≡ 0) (small : v .head .bucketSectors < 65536)
@@ -268,7 +268,7 @@ module _ (v : Volume) (rs : List Freed) (live live′ : List Live) (ok : verdict
             let d = dirty-is b h in
             let m = is-named b ∙ lt-ltb 0 (asks b) p in
             let w = goes v rs (bucket b) h (omega arith) in
-            let e = gone-is v rs (bucket b) h t m w in (
+            let e = whole-is v rs (bucket b) h t m w in (
               rw (e, emptied-kind (v .head .journal) (h .key .value) (h .long)),
               rw (e, emptied-dirty (v .head .journal) (h .key .value) (h .long)),
               needs-at v rs b ∙ rw (w, m),

@@ -1,7 +1,7 @@
 -- `type_at` meets its contract.
 use mathlib.Core.Path.{sym, _∙_}
 use native.Mathlib.Omega.{arith}
-use Rattle.sorting.proofs.EntryLaws.{key-size, bucket-gone, bucket-stays, key-type}
+use Rattle.sorting.proofs.EntryLaws.{key-size, bucket-deleted, bucket-stays, key-type}
 use Rattle.sorting.proofs.entries.type_at.Statement.{statement}
 use Rattle.sorting.proofs.entries.type_at.Tie as tie
 
@@ -11,7 +11,7 @@ tag-at-requires c κs =
     (k .after, omega (arith, k .within))
 
 returns : tie.Need-returns
-returns c = bucket-gone (c .before .before .before .before .pre) (c .before .before .if1 .taken) (sym (c .before .tag-at .ensures) ∙ c .if2 .taken)
+returns c = bucket-deleted (c .before .before .before .before .pre) (c .before .before .if1 .taken) (sym (c .before .tag-at .ensures) ∙ c .if2 .taken)
 
 returns-2 : tie.Need-returns-2
 returns-2 c =
