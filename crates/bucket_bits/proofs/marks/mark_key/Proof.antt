@@ -59,9 +59,13 @@ returns-3 c =
 bucket-in-requires : tie.Need-bucket-in-requires
 bucket-in-requires c κs = search needs
 
+-- the call's start
+abbrev start : tie.After-data-type → tie.Start
+start c = c .before .before .before .before .before .before .before .before
+
 mark-requires : tie.Need-mark-requires
 mark-requires c κs =
-    let a = c .before .before .before .before .before .before .before .before .before .before .before in
+    let a = start (c .before .before .before) in
     let k = keyHere (a .args .s .now) (a .args .at) in
     let e = c .before .before .before .before .before .before .before .before .before .pos-at .ensures in
     let i : k .pos .inode ≡ 0 = sym (ap (λ (p : Bpos). p .inode) e) ∙ c .before .before .before .before .before .before .before .if1 .left in
@@ -70,7 +74,7 @@ mark-requires c κs =
 returns-4 : tie.Need-returns-4
 returns-4 c =
     let d = c .before .before .before in
-    let a = d .before .before .before .before .before .before .before .before .before in
+    let a = start (d .before) in
     let k = keyHere (a .args .s .now) (a .args .at) in
     let e = d .before .before .before .before .before .before .before .pos-at .ensures in
     c .mark .ensures ∙ ap (λ (b : Bucket). withMark (a .args .bits .now) b) (c .before .bucket-in .ensures ∙ ap bucketIn e)

@@ -25,6 +25,10 @@ mul-start c = omega (arith, c .if1 .taken)
 shared-slice-read-start : tie.Need-shared-slice-read-start Inv-loop μ-loop
 shared-slice-read-start c = omega (arith, c .before .if1 .taken)
 
+-- the turn's begin
+abbrev turn : tie.After-pass-below Inv-loop μ-loop → tie.At-loop Inv-loop μ-loop
+turn c = c .before .before .before .before
+
 -- the key that the turn begins with
 here :
     (c : tie.Then1 Inv-loop μ-loop)
@@ -42,12 +46,12 @@ pass-below-requires : tie.Need-pass-below-requires Inv-loop μ-loop
 pass-below-requires c κs = (c .before .before .before .before .before .before .before .pre .0, c .before .if1 .taken, omega (arith, here (c .before) .kept .after))
 
 same-length : tie.Need-same-length Inv-loop μ-loop
-same-length c = part-length (c .before .before .before .before .before .before .loop .inv .part)
+same-length c = part-length (turn (c .before .before) .loop .inv .part)
 
 returns : tie.Need-returns Inv-loop μ-loop
 returns c =
     let e = c .before .before .pass-below .ensures .none (c .if2 .taken) in
-    writing-end (c .before .before .before .before .before .before .loop .inv) (e .0) (e .1)
+    writing-end (turn (c .before .before) .loop .inv) (e .0) (e .1)
 
 sub-put-bytes : tie.Need-sub-put-bytes Inv-loop μ-loop
 sub-put-bytes c = c .before .before .before .before .pass-below .ensures .long
@@ -62,8 +66,9 @@ loop-less c =
 
 loop-again : tie.Need-loop-again Inv-loop μ-loop
 loop-again c =
-    writing-on (c .before .before .before .before .before .before .before .before .before .before .before .loop .inv)
-    (c .before .before .before .before .before .before .before .pass-below .ensures)
+    let p = c .before .before .before .before .before .before .before in
+    writing-on (turn p .loop .inv)
+    (p .pass-below .ensures)
     (c .before .before .put-bytes .ensures)
 
 same-length-2 : tie.Need-same-length-2 Inv-loop μ-loop

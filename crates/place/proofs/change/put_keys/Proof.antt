@@ -29,6 +29,16 @@ allocs-of a = record { number = ap (λ (x : Head). x .journal) (sym (a .pre .pla
 abbrev start : tie.After-put-extents → tie.Start
 start c = c .before .before .before .before .before .before .before .before .before .before .before .before
 
+-- what stands before each call of the sequence
+abbrev extents : tie.After-put-allocs → tie.After-put-extents
+extents c = c .before .before .before .before
+
+abbrev allocs : tie.After-put-lrus → tie.After-put-allocs
+allocs c = c .before .before .before .before .before
+
+abbrev lrus : tie.After-put-queue → tie.After-put-lrus
+lrus c = c .before .before .before .before
+
 put-extents-requires : tie.Need-put-extents-requires
 put-extents-requires c κs = search needs
 
@@ -43,13 +53,13 @@ cast-put-lrus : tie.Need-cast-put-lrus
 cast-put-lrus c = search needs
 
 put-lrus-requires : tie.Need-put-lrus-requires
-put-lrus-requires c κs = let a = start (c .before .before .before .before .before .before .before .before) in ((a .pre .long, a .pre .plan .sectors), record { placed = placed a; dirty = a .pre .dirty })
+put-lrus-requires c κs = let a = start (extents (c .before .before .before .before)) in ((a .pre .long, a .pre .plan .sectors), record { placed = placed a; dirty = a .pre .dirty })
 
 put-queue-requires : tie.Need-put-queue-requires
-put-queue-requires c κs = start (c .before .before .before .before .before .before .before .before .before .before .before .before) .pre .walk
+put-queue-requires c κs = start (extents (allocs (c .before .before .before))) .pre .walk
 
 put-backpointers-requires : tie.Need-put-backpointers-requires
-put-backpointers-requires c κs = start (c .before .before .before .before .before .before .before .before .before .before .before .before .before .before .before .before) .pre .plan
+put-backpointers-requires c κs = start (extents (allocs (lrus (c .before .before .before)))) .pre .plan
 
 same-length : tie.Need-same-length
 same-length c = search needs
@@ -58,9 +68,9 @@ returns : tie.Need-returns
 returns c =
     let b = c .before .before in
     let q = b .before .before .before .before in
-    let l = q .before .before .before .before in
-    let m = l .before .before .before .before .before in
-    let e = m .before .before .before .before in
+    let l = lrus q in
+    let m = allocs l in
+    let e = extents m in
     let a = start e in
     emitted (sym (keys-of (a .pre .plan)))
     (and-then (e .put-extents .ensures)

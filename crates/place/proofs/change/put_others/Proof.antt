@@ -37,9 +37,16 @@ tallied a = a .pre .1 .is ∙ ap talliesOf (sym (placed-pieces (readCall (a .arg
 abbrev start : tie.After-put-lru-root → tie.Start
 start r = r .before .before .before .before .before .before .before .before .before .before .before .before
 
+-- what stands before the calls after it
+abbrev root : tie.After-put-taken → tie.After-put-lru-root
+root c = c .before .before .before .before
+
+abbrev taken : tie.After-put-spots → tie.After-put-taken
+taken c = c .before .before .before .before
+
 put-rows-requires : tie.Need-put-rows-requires
 put-rows-requires c κs =
-    let a = start (c .before .before .before .before .before .before .before .before .before .before .before) in
+    let a = start (root (taken (c .before .before .before))) in
     ((omega (arith, a .pre .0 .short, table-length (a .args .taken .now)), a .pre .0 .option), record { buckets = bucketsIn (a .args .taken .now); placed = placed a; count = table-length (a .args .taken .now); tallied = record { is = tallied a; small = a .pre .1 .small } })
 
 put-sectors-requires : tie.Need-put-sectors-requires
@@ -57,8 +64,8 @@ returns c =
     let n = z .before .before .before .before in
     let w = n .before .before .before .before in
     let p = w .before .before .before .before in
-    let t = p .before .before .before .before in
-    let r = t .before .before .before .before in
+    let t = taken p in
+    let r = root t in
     let a = start r in
     let rows = w .put-rows .ensures (bucketsIn (a .args .taken .now)) (placed a) (table-length (a .args .taken .now)) (tallied a) in
     emitted (sym (others-of (a .pre .0) (a .args .v .tallies) (a .pre .1 .is)))

@@ -7,6 +7,10 @@ use borrow.Author.Needs.{needs}
 use Rattle.place.proofs.place.place_by.Statement.{statement}
 use Rattle.place.proofs.place.place_by.Tie as tie
 
+-- the call's start
+abbrev start : tie.After-read-call → tie.Start
+start c = c .before .before .before .before .before
+
 read-call-requires : tie.Need-read-call-requires
 read-call-requires c κs = search needs
 
@@ -18,16 +22,18 @@ enum-known-h c = search needs
 
 place-read-requires : tie.Need-place-read-requires
 place-read-requires c κs =
-    let a = rw (c .before .before .before .before .h .given .1) at (c .before .before .before .before .before .before .before .before .read-call .ensures) in
-    (a .0, a .1, c .before .before .before .before .before .before .before .before .before .before .before .before .before .pre .1)
+    let r = c .before .before .before .before .before .before .before .before in
+    let a = rw (c .before .before .before .before .h .given .1) at (r .read-call .ensures) in
+    (a .0, a .1, start r .pre .1)
 
 same-length : tie.Need-same-length
 same-length c = search needs
 
 returns : tie.Need-returns
 returns c =
-    let b = c .before .before .before .before .before .before .before .before .before .before in
-    let a = rw (c .before .number .given .1) at (c .before .before .before .before .before .read-call .ensures) in
+    let r = c .before .before .before .before .before in
+    let b = start r in
+    let a = rw (c .before .number .given .1) at (r .read-call .ensures) in
     refused (c .before .number .given .0 .0) (now (b .args .out)) (place-refused (now (b .args .list)) (length (now (b .args .out))) (a .0) (a .1)) (b .pre .1)
 
 same-length-2 : tie.Need-same-length-2

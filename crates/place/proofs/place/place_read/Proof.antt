@@ -69,9 +69,13 @@ part-place-lists-start-4 c = omega (arith, parts (c .before .before .before .bef
 part-place-lists-end-4 : tie.Need-part-place-lists-end-4
 part-place-lists-end-4 c = omega (arith, parts (c .before .before .before .before) .pieces .within)
 
+-- what stands before the parts of the table are lent
+abbrev unlent : tie.After-place-lists-arg7 → tie.After-slice-known
+unlent c = c .before .before .before .before .before .before .before
+
 place-lists-requires : tie.Need-place-lists-requires
 place-lists-requires c κs =
-    let a = c .before .before .before .before .before .before .before .before .before .before in (
+    let a = start (unlent c) in (
       called (now (a .args .list)) (now (a .args .places)) (a .args .h) (a .args .ends) (a .pre .0) (a .pre .1),
       gens-called (now (a .args .list)) (now (a .args .places)) (a .args .h) (a .args .ends) (a .pre .0) (a .pre .1),
       a .pre .2,
@@ -82,7 +86,7 @@ same-length c = search needs
 
 returns : tie.Need-returns
 returns c =
-    let a = c .before .before .before .before .before .before .before .before .before .before .before .before .before in
+    let a = start (unlent (c .before .before .before)) in
     place-on (now (a .args .list)) (length (now (a .args .out))) (now (a .args .out)) (a .pre .0) (c .before .before .place-lists .ensures)
 
 pub place-read-spec : {M : Type 1} → statement M

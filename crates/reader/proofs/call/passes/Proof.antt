@@ -8,6 +8,10 @@ use Rattle.reader.proofs.TableLaws.{passed-limit, passed-noted}
 use Rattle.reader.proofs.call.passes.Statement.{statement}
 use Rattle.reader.proofs.call.passes.Tie as tie
 
+-- the call's start
+abbrev start : tie.After-field-within → tie.Start
+start c = c .before .before .before .before
+
 returns : tie.Need-returns
 returns c = search needs
 
@@ -16,7 +20,7 @@ field-within-requires c κs = search needs
 
 returns-2 : tie.Need-returns-2
 returns-2 c =
-    let a = c .before .before .before .before .before .args in
+    let a = start (c .before) .args in
     passed-limit (now (a .s)) (a .over) (a .tag) (a .start) (a .n) (now (a .counts)) (now (a .index)) (c .before .before .if1 .left)
     (sym (c .before .field-within .ensures) ∙ not-true _ (c .if2 .taken))
 
@@ -25,17 +29,18 @@ rank-of-requires c κs = search needs
 
 note-requires : tie.Need-note-requires
 note-requires c κs =
-    (rw (c .rank-of .ensures) (rank-below _), rw (c .rank-of .ensures) (c .before .before .before .before .before .before .before .before .pre .1 (c .before .before .before .before .before .if1 .left)))
+    (rw (c .rank-of .ensures) (rank-below _), rw (c .rank-of .ensures) (start (c .before .before .before .before) .pre .1 (c .before .before .before .before .before .if1 .left)))
 
 same-length : tie.Need-same-length
 same-length c = search needs
 
 returns-3 : tie.Need-returns-3
 returns-3 c =
-    let a = c .before .before .before .before .before .before .before .before .before .before .before .args in
+    let w = c .before .before .before .before .before .before .before in
+    let a = start w .args in
     passed-noted (now (a .s)) (a .over) (a .tag) (a .start) (a .n) (now (a .counts)) _ (now (a .index)) _ _ _
-    (c .before .before .before .before .before .before .before .before .if1 .left)
-    (sym (c .before .before .before .before .before .before .before .field-within .ensures) ∙ not-false _ (c .before .before .before .before .before .before .if2 .left))
+    (w .before .if1 .left)
+    (sym (w .field-within .ensures) ∙ not-false _ (c .before .before .before .before .before .before .if2 .left))
     (c .before .before .before .rank-of .ensures)
     (c .before .before .note .ensures)
 

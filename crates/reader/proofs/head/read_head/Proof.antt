@@ -63,9 +63,13 @@ add-le64-3 c = search needs
 le64-requires-3 : tie.Need-le64-requires-3
 le64-requires-3 c κs = search needs
 
+-- the call's start, before its ten numbers are read
+abbrev start : tie.After-le643 → tie.Start
+start c = c .before .before .before .before .before .before .before .before .before .before .before
+
 returns : tie.Need-returns
 returns c =
-    let a = c .before .before .before .before .before .before .before .before .before .before .before .args in
+    let a = start c .args in
     simp (
       c .before .before .before .before .before .before .before .before .before .le8 .ensures,
       c .before .before .before .before .before .before .before .before .le16 .ensures,
