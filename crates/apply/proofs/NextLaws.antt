@@ -2,12 +2,12 @@
 use mathlib.Core.Path.{_≡_, refl, ap, sym, _∙_}
 use mathlib.Core.Bool.{Bool, true, false, not, _&&_, _||_, and-true}
 use mathlib.Core.List.{List, [], _∷_, _++_, map, append-assoc, append-nil}
-use Prim.Native.Nat.{ℕ, _+_, _-_}
+use Prim.Native.Nat.{ℕ, _+_, _-_, _<_}
 use lib.Dec.{leb, eqb}
-use lib.ListN.{length, length-map}
+use lib.ListN.{length, getD, length-map}
 use Rattle.wire.specs.Bytes.{All, none, more}
 use Rattle.wire.specs.Numbers.{each}
-use Rattle.wire.specs.Fields.{Field, fields, whole}
+use Rattle.wire.specs.Fields.{Field, fieldsAfter, fields, size, whole}
 use Rattle.wire.specs.Keys.{Key, keyOf}
 use Rattle.wire.specs.Encode.{encodeField, encode, keyField}
 use Rattle.wire.specs.Kinds.{bucketInRange, runEndInRange, baseInRange}
@@ -17,11 +17,11 @@ use Rattle.wire.proofs.EncodeLaws.{encode-next, encode-append}
 use Rattle.calls.specs.Lists.{allOf}
 use Rattle.calls.specs.CallList.{Head, headBody, Trees, Volume, bodies, treesOf, callListOf, shaped, treeFields, reservedField, volumeBytes}
 use Rattle.calls.specs.Limits.{isSet, atInode0, isRun, fewKeys, countsOk, bucketsOk, volumeWithin}
-use Rattle.calls.specs.ChangeList.{changeShapes, changeLaidOut}
+use Rattle.calls.specs.ChangeList.{changeShapes, closed, changeLaidOut, splitBatches, changesOf}
 use Rattle.calls.specs.Trees.{applyQueue}
-use Rattle.calls.specs.Apply.{applyTrees, withRoots}
+use Rattle.calls.specs.Apply.{applyTrees, withRoots, applyBatches}
 use Rattle.calls.specs.Answers.{readVolume, nextVolume}
-use Rattle.calls.proofs.lists.AllLaws.{all-imp, all-each, all-test, test-all}
+use Rattle.calls.proofs.lists.AllLaws.{all-nth, all-imp, all-each, all-test, test-all}
 use Rattle.calls.proofs.lists.BoolLaws.{both, parts}
 use Rattle.calls.proofs.encoding.Blocks.{field, keeps}
 use Rattle.reader.proofs.BoolLaws.{same}
@@ -285,3 +285,26 @@ next-within {vol} list p l h =
     && (sectionWithin 11 (n .freespace i)
     && (sectionWithin 12 (n .needDiscard i)
     && (sectionWithin 13 (n .backpointers i) && (sectionWithin 14 (n .gens i) && (sectionWithin 64 (n .reserved i) && true)))))))
+
+-- the volume itself: no bytes at all change nothing
+none-laid : changeLaidOut [] ≡ true
+unfolding changeLaidOut whole size fieldsAfter allOf closed splitBatches
+none-laid = refl
+
+none-changed : (vol : List ℕ) → nextVolume vol [] ≡ readVolume vol
+unfolding changesOf splitBatches fieldsAfter applyBatches
+none-changed vol = refl
+
+none-next : (vol : List ℕ) (t : ℕ) → nextOf vol [] t ≡ entries t (fields vol)
+unfolding nextOf entries fieldsAfter applyQueue
+none-next vol t = refl
+
+-- so each of its sections is within its limits
+pub section-within :
+    {vol : List ℕ} → Parted vol → volumeWithin (readVolume vol) ≡ true → (i : ℕ) → i < 7
+    → sectionWithin (getD sections i 0) (entries (getD sections i 0) (fields vol)) ≡ true
+unfolding nextWithin
+section-within {vol} p h i l =
+    let e : allOf (nextWithin vol []) sections ≡ true = sym (next-within [] p none-laid h) ∙ ap volumeWithin (none-changed vol) ∙ h in
+    let w : nextWithin vol [] (getD sections i 0) ≡ true = all-nth 0 (test-all (nextWithin vol []) sections e) i l in
+    ap (sectionWithin (getD sections i 0)) (sym (none-next vol (getD sections i 0))) ∙ w

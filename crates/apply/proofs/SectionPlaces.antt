@@ -1,6 +1,7 @@
 -- The sections of a volume by the reader's table.
 use mathlib.Core.Path.{_≡_, refl, sym, _∙_}
 use mathlib.Core.Bool.{Bool, true, false, cond, false≢true}
+use lib.Dec.{leb}
 use mathlib.Core.List.{List, [], _∷_, map}
 use Prim.Native.Nat.{ℕ, zero, suc, _+_, _-_, _≤_, _<_}
 use native.Mathlib.Nat.{add-zero}
@@ -10,7 +11,9 @@ use Rattle.wire.specs.Bytes.{All, none, more}
 use Rattle.wire.specs.Fields.{fields}
 use Rattle.wire.proofs.OutputLaws.{drop-next}
 use Rattle.calls.specs.CallList.{bodies}
+use Rattle.calls.specs.Lists.{allOf}
 use Rattle.calls.proofs.lists.AllLaws.{first, all-nth}
+use Rattle.calls.proofs.lists.BoolLaws.{parts}
 use Rattle.calls.proofs.encoding.Blocks.{field}
 use Rattle.reader.specs.Table.{FieldHere, Tabled}
 use Rattle.reader.specs.Readings.{ListRead}
@@ -19,6 +22,7 @@ use Rattle.reader.specs.declared.table.Ends.{Ends}
 use Rattle.reader.proofs.OfferedLaws.{here-length}
 use Rattle.sorting.specs.Entries.{sections, isEntry, entryOf, entries}
 use Rattle.sorting.specs.EntryPlaces.{sizeAt, tagAt, entryFrom, entriesAt, Stands}
+use Rattle.merge.specs.Counts.{keyFits, StandsWithin, sectionWithin}
 use Rattle.merge.specs.QueueTable.{InParts}
 use Rattle.merge.specs.declared.queue.Parts.{Parts}
 use Rattle.apply.specs.NextVolume.{endsOf, queueEnd, SectionReady, QueueReady}
@@ -101,9 +105,25 @@ section-at p r (suc (suc (suc (suc (suc zero))))) l = section-between (all-nth 0
 section-at p r (suc (suc (suc (suc (suc (suc zero)))))) l = section-between (all-nth 0 (p .each) 6 (omega arith)) (r .table .reserved) (omega (arith, r .ends .reserved)) (bound r 6 (omega arith))
 section-at p r (suc (suc (suc (suc (suc (suc (suc i))))))) l = absurd (omega arith)
 
+-- each of a section's keys is within its limits, where the section is
+each-within : {t : ℕ} {vol os : List ℕ} → All (Stands t vol) os → allOf (λ k. keyFits t (k .type) (k .pos)) (entriesAt t vol os) ≡ true → All (StandsWithin t vol) os
+unfolding allOf entriesAt
+each-within none h = none
+each-within {t} {vol} (more {a = o} {s = os} p r) h =
+    let k = entryFrom t vol o in
+    let q = parts (keyFits t (k .type) (k .pos)) (allOf (λ k. keyFits t (k .type) (k .pos)) (entriesAt t vol os)) h in
+    more (record { stands = p; fits = q .0 }) (each-within r (q .1))
+
 -- what the writing of a section asks
-pub section-ready : {vol index : List ℕ} {t from to : ℕ} → SectionOf vol t → SectionAt vol index t from to → SectionReady t vol (take (to - from) (drop from index))
-section-ready s p = record { stands = p .stands; up = rw (p .keys) (s .up) }
+pub section-ready :
+    {vol index : List ℕ} {t from to : ℕ} → SectionOf vol t → sectionWithin t (entries t (fields vol)) ≡ true → SectionAt vol index t from to
+    → SectionReady t vol (take (to - from) (drop from index))
+unfolding sectionWithin
+section-ready {vol} {t = t} s w p =
+    record {
+      stands = each-within (p .stands) (rw (p .keys) (parts (leb (length (entries t (fields vol))) 4096) _ w .1));
+      up = rw (p .keys) (s .up);
+    }
 
 -- where the queued keys of section number i start in their table
 abbrev pub firstOf : Parts → ℕ → ℕ

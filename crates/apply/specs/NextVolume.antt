@@ -18,9 +18,9 @@ use Rattle.reader.specs.Readings.{ListRead}
 use Rattle.reader.specs.declared.head.Head.{Head}
 use Rattle.reader.specs.declared.table.Ends.{Ends}
 use Rattle.sorting.specs.Entries.{entries, sectionBytes}
-use Rattle.sorting.specs.EntryPlaces.{EntryAt, Stands, entriesAt}
+use Rattle.sorting.specs.EntryPlaces.{EntryAt, entriesAt}
 use Rattle.merge.specs.Queues.{gather, ascending}
-use Rattle.merge.specs.Counts.{sectionWithin}
+use Rattle.merge.specs.Counts.{StandsWithin, sectionWithin}
 use Rattle.merge.specs.declared.queue.Parts.{Parts}
 use Rattle.apply.specs.declared.lists.Reached.{Reached}
 
@@ -39,9 +39,9 @@ pub record Ready (vol index : List ℕ) (h : Head) (e : Ends) (list : List ℕ) 
   pub change : changeLaidOut list ≡ true
   pub read : ListRead 0 vol index h e
 
--- these places of a volume are of keys of section t, which ascend
+-- these places of a volume are of keys of section t, which ascend and are within their limits
 pub record SectionReady (t : ℕ) (vol keys : List ℕ) : Type 0 where
-  pub stands : All (Stands t vol) keys
+  pub stands : All (StandsWithin t vol) keys
   pub up : ascending (entriesAt t vol keys) ≡ true
 
 -- these places of a change list are of its queued keys of section t, the last at each position, in order

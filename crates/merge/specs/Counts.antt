@@ -1,4 +1,5 @@
 -- FORMAT.md, "Limits", of a section's keys as one number: 1 for each, and 4,097, which is too many, for one that passes a limit.
+use mathlib.Core.Path.{_≡_}
 use Prim.Native.Nat.{ℕ, _+_}
 use mathlib.Core.Bool.{Bool, true, not, _&&_, _||_, cond}
 use mathlib.Core.List.{List, [], _∷_}
@@ -9,6 +10,7 @@ use Rattle.wire.specs.Kinds.{bucketInRange, runEndInRange}
 use Rattle.wire.specs.Positions.{bucketIn}
 use Rattle.wire.specs.declared.bpos.Bpos.{Bpos}
 use Rattle.calls.specs.Lists.{allOf}
+use Rattle.sorting.specs.EntryPlaces.{Stands, entryFrom}
 
 -- a key of type y at p is within the limits of section t
 unfoldable pub keyFits : ℕ → ℕ → Bpos → Bool
@@ -17,6 +19,11 @@ keyFits t y p =
     (cond (eqb t 4) (not (eqb (p .inode) 0) || bucketInRange (bucketIn p))
     (cond (eqb t 12) (not (eqb y 25) || bucketInRange (bucketIn p))
     (cond (eqb t 11) (not (eqb y 25 && eqb (p .inode) 0) || runEndInRange (bucketIn p)) true)))
+
+-- a key of a volume starts at o, and is within the limits of section t
+pub record StandsWithin (t : ℕ) (s : List ℕ) (o : ℕ) : Type 0 where
+  pub stands : Stands t s o
+  pub fits : keyFits t (entryFrom t s o .type) (entryFrom t s o .pos) ≡ true
 
 -- at most 4,096 keys, each within its limits
 unfoldable pub sectionWithin : ℕ → List Key → Bool

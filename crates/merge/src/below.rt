@@ -4,7 +4,7 @@ ghost use Prim.Native.Nat.{_+_, _≤_, _<_};
 ghost use lib.ListN.{length, getD};
 ghost use Rattle.wire.specs.Bytes.{All};
 ghost use Rattle.merge.specs.Queues.{below, beyond};
-ghost use Rattle.sorting.specs.EntryPlaces.{Stands};
+ghost use Rattle.merge.specs.Counts.{StandsWithin};
 ghost use Rattle.merge.specs.Merging.{keysFrom, Stretched, PositionSkipped, Put};
 use crate::limits;
 use sorting::bound;
@@ -15,7 +15,7 @@ use wire::bpos::Bpos;
 use wire::emit;
 use wire::fields;
 
-// A place in the output, an index into the table of the volume's keys, and how many keys were written so far, as `limits::add` counts.
+// A place in the output, an index into the table of the volume's keys, and how many keys were written so far, as `limits` counts.
 pub struct Cursor {
     pub p: usize,
     pub at: usize,
@@ -29,7 +29,7 @@ pub struct Stretch {
     pub count: usize,
 }
 
-// The volume's keys from an index on that stand side by side from a place on, as far as they are below the limit. The table shows that they are keys.
+// The volume's keys from an index on that stand side by side from a place on, as far as they are below the limit. The table shows that they are keys, and refusal 3 that each is within its limits.
 fn pass_below(
     vol: &[u8],
     keys: &[u32],
@@ -39,7 +39,7 @@ fn pass_below(
     section: u8,
     lim: Bound,
 ) -> Stretch
-    requires { ⌜ All (Stands section (now vol)) (now keys) × (i < length (now keys)) × (start + 3 ≡ getD (now keys) i 0) ⌝ }
+    requires { ⌜ All (StandsWithin section (now vol)) (now keys) × (i < length (now keys)) × (start + 3 ≡ getD (now keys) i 0) ⌝ }
     ensures { λ r. ⌜ Stretched section (now (vol .entry)) (now (keys .entry)) i start counted lim r ⌝ }
 {
     let mut next = i;
@@ -54,7 +54,7 @@ fn pass_below(
         if !bound::is_under(lim, x) {
             return Stretch { next, end, count };
         }
-        count = limits::add(count, section, entries::type_at(vol, o, section), x);
+        count = limits::add_within(count);
         end = o + fields::len_at(vol, o);
         next += 1;
     }
@@ -70,7 +70,7 @@ pub fn put_below(
     section: u8,
     lim: Bound,
 ) -> Cursor
-    requires { ⌜ All (Stands section (now vol)) (now keys) × (from .at ≤ length (now keys)) ⌝ }
+    requires { ⌜ All (StandsWithin section (now vol)) (now keys) × (from .at ≤ length (now keys)) ⌝ }
     ensures { λ r. ⌜ Put section (now (out .entry)) (now (vol .entry)) (now (keys .entry)) from (below lim (keysFrom section (now (vol .entry)) (now (keys .entry)) (from .at))) (beyond lim (keysFrom section (now (vol .entry)) (now (keys .entry)) (from .at))) (now (out .exit)) r ⌝ }
 {
     let mut at = from;
@@ -93,7 +93,7 @@ pub fn put_below(
 
 // Past the volume's next key, if it is at pos.
 pub fn skip_at(vol: &[u8], keys: &[u32], at: usize, section: u8, pos: Bpos) -> usize
-    requires { ⌜ All (Stands section (now vol)) (now keys) × (at ≤ length (now keys)) ⌝ }
+    requires { ⌜ All (StandsWithin section (now vol)) (now keys) × (at ≤ length (now keys)) ⌝ }
     ensures { λ r. ⌜ PositionSkipped section (now (vol .entry)) (now (keys .entry)) at pos r ⌝ }
 {
     if keys.len() <= at {

@@ -38,15 +38,22 @@ fn key_fits(section: u8, ty: u8, pos: Bpos) -> bool
     kinds::run_end_in_range(b)
 }
 
-// One key more, counted up to 4,097.
-pub fn add(count: usize, section: u8, ty: u8, pos: Bpos) -> usize
-    ensures { λ r. ⌜ min r 4097 ≡ min (count + countOf section ty pos) 4097 ⌝ }
+// One key more that is within its limits, counted up to 4,097.
+pub fn add_within(count: usize) -> usize
+    ensures { λ r. ⌜ min r 4097 ≡ min (count + 1) 4097 ⌝ }
 {
     if 4096 < count {
         return count;
     }
+    count + 1
+}
+
+// One key more, counted up to 4,097.
+pub fn add(count: usize, section: u8, ty: u8, pos: Bpos) -> usize
+    ensures { λ r. ⌜ min r 4097 ≡ min (count + countOf section ty pos) 4097 ⌝ }
+{
     if key_fits(section, ty, pos) {
-        return count + 1;
+        return add_within(count);
     }
     4097
 }

@@ -7,8 +7,8 @@ ghost use Rattle.wire.specs.Bytes.{All};
 ghost use Rattle.wire.specs.Output.{Wrote};
 ghost use Rattle.sorting.specs.Entries.{sectionBytes};
 ghost use Rattle.merge.specs.Queues.{shown, front, back};
-ghost use Rattle.sorting.specs.EntryPlaces.{EntryAt, Stands, entryFrom};
-ghost use Rattle.merge.specs.Counts.{countAll};
+ghost use Rattle.sorting.specs.EntryPlaces.{EntryAt, entryFrom};
+ghost use Rattle.merge.specs.Counts.{StandsWithin, countAll};
 ghost use Rattle.merge.specs.Merging.{keysFrom, Put};
 use crate::below;
 use crate::below::Cursor;
@@ -53,7 +53,7 @@ pub fn put_queued(
     o: usize,
     section: u8,
 ) -> Cursor
-    requires { ⌜ All (Stands section (now vol)) (now keys) × (from .at ≤ length (now keys)) × EntryAt section (now list) o ⌝ }
+    requires { ⌜ All (StandsWithin section (now vol)) (now keys) × (from .at ≤ length (now keys)) × EntryAt section (now list) o ⌝ }
     ensures { λ r. ⌜ Put section (now (out .entry)) (now (vol .entry)) (now (keys .entry)) from (front (entryFrom section (now (list .entry)) o ∷ []) (keysFrom section (now (vol .entry)) (now (keys .entry)) (from .at))) (back (entryFrom section (now (list .entry)) o ∷ []) (keysFrom section (now (vol .entry)) (now (keys .entry)) (from .at))) (now (out .exit)) r ⌝ }
 {
     let pos = entries::pos_at(list, o, section);

@@ -9,6 +9,7 @@ use Rattle.calls.proofs.lists.AllLaws.{all-nth}
 use Rattle.sorting.specs.Entries.{sections}
 use Rattle.apply.proofs.VolumeLaws.{parted}
 use Rattle.apply.proofs.SectionPlaces.{SectionAt, section-at, QueueAt, queue-at, section-ready}
+use Rattle.apply.proofs.NextLaws.{section-within}
 use Rattle.apply.proofs.ResultLaws.{Sectioning, sections-start, sections-on, sections-end}
 use Rattle.apply.proofs.lists.put_volume.Statement.{statement}
 use Rattle.apply.proofs.lists.put_volume.Tie as tie
@@ -92,7 +93,7 @@ put-next-requires c κs =
     let s = start (l .before) in
     let p = parted (s .pre .0 .laid) in
     rw (c .section-at .ensures)
-    (section-ready (all-nth 0 (p .each) (l .loop .i) (q .before .before .loop-test .taken)) (keys q), queue q .ready)
+    (section-ready (all-nth 0 (p .each) (l .loop .i) (q .before .before .loop-test .taken)) (section-within p (s .pre .0 .within) (l .loop .i) (q .before .before .loop-test .taken)) (keys q), queue q .ready)
 
 add-i : tie.Need-add-i Inv-loop μ-loop
 add-i c = omega (arith, c .before .before .before .before .before .before .before .before .before .loop-test .taken)

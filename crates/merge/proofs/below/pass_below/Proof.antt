@@ -6,7 +6,9 @@ use denote.Ref.{now}
 use lib.ListN.{length, getD}
 use Rattle.wire.proofs.NumberLaws.{bytes-from}
 use Rattle.calls.proofs.lists.AllLaws.{all-nth}
-use Rattle.sorting.specs.EntryPlaces.{sizeAt, Stands}
+use Rattle.sorting.specs.EntryPlaces.{sizeAt}
+use Rattle.merge.specs.Counts.{StandsWithin}
+use Rattle.merge.proofs.CountLaws.{count-fits}
 use Rattle.merge.proofs.MergeLaws.{Stretching, stretching-start, stretched-out, stretched-apart, stretched-stop, stretching-on}
 use Rattle.merge.proofs.below.pass_below.Statement.{statement}
 use Rattle.merge.proofs.below.pass_below.Tie as tie
@@ -20,14 +22,14 @@ abbrev μ-loop : tie.MeasureT-loop
 -- the key at an index
 stands :
     (c : tie.Start Inv-loop μ-loop) (k : ℕ) → k < length (now (c .args .keys))
-    → Stands (c .args .section) (now (c .args .vol)) (getD (now (c .args .keys)) k 0)
+    → StandsWithin (c .args .section) (now (c .args .vol)) (getD (now (c .args .keys)) k 0)
 stands c k h = all-nth 0 (c .pre .0) k h
 
 loop-holds : tie.Need-loop-holds Inv-loop μ-loop
 loop-holds c =
     let s = c .before .before in
     let h = stands s (s .args .i) (s .pre .1) in
-    stretching-start _ _ _ _ _ _ _ (omega (arith, s .pre .1)) (omega (arith, s .pre .2, h .kept .within))
+    stretching-start _ _ _ _ _ _ _ (omega (arith, s .pre .1)) (omega (arith, s .pre .2, h .stands .kept .within))
 
 mul-o : tie.Need-mul-o Inv-loop μ-loop
 mul-o c = omega arith
@@ -47,12 +49,12 @@ returns c = stretched-apart (c .before .before .before .loop .inv) (c .before .b
 -- the key that the turn is at
 here :
     (c : tie.Else1 Inv-loop μ-loop)
-    → Stands (c .before .before .before .before .before .before .args .section) (now (c .before .before .before .before .before .before .args .vol))
+    → StandsWithin (c .before .before .before .before .before .before .args .section) (now (c .before .before .before .before .before .before .args .vol))
     (getD (now (c .before .before .before .before .before .before .args .keys)) (c .before .before .before .loop .next) 0)
 here c = stands (c .before .before .before .before .before .before) _ (c .before .before .loop-test .taken)
 
 pos-at-requires : tie.Need-pos-at-requires Inv-loop μ-loop
-pos-at-requires c κs = here c .kept
+pos-at-requires c κs = here c .stands .kept
 
 is-under-requires : tie.Need-is-under-requires Inv-loop μ-loop
 is-under-requires c κs = tt
@@ -63,20 +65,17 @@ returns-2 c =
     stretched-stop (c .before .before .before .before .before .before .loop .inv) (c .before .before .before .before .before .loop-test .taken)
     (cc (c .before .before .pos-at .ensures, c .before .is-under .ensures, t))
 
-type-at-requires : tie.Need-type-at-requires Inv-loop μ-loop
-type-at-requires c κs = here (c .before .before .before) .kept
-
-add-requires : tie.Need-add-requires Inv-loop μ-loop
-add-requires c κs = tt
+add-within-requires : tie.Need-add-within-requires Inv-loop μ-loop
+add-within-requires c κs = tt
 
 len-at-requires : tie.Need-len-at-requires Inv-loop μ-loop
 len-at-requires c κs =
-    let k = here (c .before .before .before .before .before) .kept in
+    let k = here (c .before .before .before .before) .stands .kept in
     (k .after, omega (arith, k .within))
 
 add-end : tie.Need-add-end Inv-loop μ-loop
 unfolding sizeAt
-add-end c = omega (arith, c .len-at .ensures, here (c .before .before .before .before .before .before) .kept .within)
+add-end c = omega (arith, c .len-at .ensures, here (c .before .before .before .before .before) .stands .kept .within)
 
 add-next : tie.Need-add-next Inv-loop μ-loop
 add-next c = omega arith
@@ -87,15 +86,15 @@ loop-less c = omega arith
 loop-again : tie.Need-loop-again Inv-loop μ-loop
 unfolding sizeAt
 loop-again c =
-    let e = c .before .before .before .before .before .before in
+    let e = c .before .before .before .before .before in
     let l = e .before .before .before in
     let s = l .before .before .before in
-    let p = c .before .before .before .before .before .pos-at .ensures in
-    let t = not-false (c .before .before .before .before .is-under .result) (c .before .before .before .if2 .left) in
+    let p = c .before .before .before .before .pos-at .ensures in
+    let t = not-false (c .before .before .before .is-under .result) (c .before .before .if2 .left) in
     let b = bytes-from (now (s .args .vol)) (λ i. let h = l .before .before .shared-slice-known .given i in omega arith) in
-    stretching-on (l .loop .inv) (e .before .before .loop-test .taken) b (here e) (e .if1 .left) (c .len-at .ensures)
-    (cc (p, c .before .before .before .before .is-under .ensures, t))
-    (rw (c .before .before .type-at .ensures, p) at (c .before .add .ensures))
+    stretching-on (l .loop .inv) (e .before .before .loop-test .taken) b (here e .stands) (e .if1 .left) (c .len-at .ensures)
+    (cc (p, c .before .before .before .is-under .ensures, t))
+    (omega (arith, c .before .add-within .ensures, count-fits _ _ _ (here e .fits)))
 
 returns-3 : tie.Need-returns-3 Inv-loop μ-loop
 returns-3 c =
@@ -116,8 +115,7 @@ pass-below-spec =
     pos-at-requires
     is-under-requires
     returns-2
-    type-at-requires
-    add-requires
+    add-within-requires
     len-at-requires
     add-end
     add-next

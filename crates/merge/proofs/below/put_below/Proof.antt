@@ -5,7 +5,7 @@ use denote.Ref.{now}
 use lib.ListN.{length, getD}
 use Rattle.wire.proofs.OutputLaws.{part-length}
 use Rattle.calls.proofs.lists.AllLaws.{all-nth}
-use Rattle.sorting.specs.EntryPlaces.{Stands}
+use Rattle.merge.specs.Counts.{StandsWithin}
 use Rattle.merge.proofs.SectionLaws.{Writing, writing-start, writing-on, writing-end, writing-out}
 use Rattle.merge.proofs.below.put_below.Statement.{statement}
 use Rattle.merge.proofs.below.put_below.Tie as tie
@@ -32,7 +32,7 @@ turn c = c .before .before .before .before
 -- the key that the turn begins with
 here :
     (c : tie.Then1 Inv-loop μ-loop)
-    → Stands (c .before .before .before .before .before .before .args .section) (now (c .before .before .before .before .before .before .args .vol))
+    → StandsWithin (c .before .before .before .before .before .before .args .section) (now (c .before .before .before .before .before .before .args .vol))
     (getD (now (c .before .before .before .before .before .before .args .keys)) (c .before .before .loop .at .at) 0)
 here c = all-nth 0 (c .before .before .before .before .before .before .pre .0) (c .before .before .loop .at .at) (c .if1 .taken)
 
@@ -40,10 +40,10 @@ cast-start : tie.Need-cast-start Inv-loop μ-loop
 cast-start c = omega (arith, c .shared-slice-known3 .given (c .before .before .before .loop .at .at))
 
 sub-start : tie.Need-sub-start Inv-loop μ-loop
-sub-start c = omega (arith, here (c .before) .kept .after)
+sub-start c = omega (arith, here (c .before) .stands .kept .after)
 
 pass-below-requires : tie.Need-pass-below-requires Inv-loop μ-loop
-pass-below-requires c κs = (c .before .before .before .before .before .before .before .pre .0, c .before .if1 .taken, omega (arith, here (c .before) .kept .after))
+pass-below-requires c κs = (c .before .before .before .before .before .before .before .pre .0, c .before .if1 .taken, omega (arith, here (c .before) .stands .kept .after))
 
 same-length : tie.Need-same-length Inv-loop μ-loop
 same-length c = part-length (turn (c .before .before) .loop .inv .part)

@@ -19,7 +19,7 @@ cast-pos-at : tie.Need-cast-pos-at
 cast-pos-at c = omega (arith, c .shared-slice-known3 .given (c .before .before .before .before .args .at))
 
 pos-at-requires : tie.Need-pos-at-requires
-pos-at-requires c κs = all-nth 0 (c .before .before .before .before .pre .0) (c .before .before .before .before .args .at) (omega (arith, c .before .if1 .left)) .kept
+pos-at-requires c κs = all-nth 0 (c .before .before .before .before .pre .0) (c .before .before .before .before .args .at) (omega (arith, c .before .if1 .left)) .stands .kept
 
 pos-less-requires : tie.Need-pos-less-requires
 pos-less-requires c κs = search needs
