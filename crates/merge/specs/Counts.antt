@@ -32,6 +32,10 @@ sectionWithin t ks = leb (length ks) 4096 && allOf (λ k. keyFits t (k .type) (k
 unfoldable pub countOf : ℕ → ℕ → Bpos → ℕ
 countOf t y p = cond (keyFits t y p) 1 4097
 
+-- a queued key, unless it is a deletion
+unfoldable pub countQueued : ℕ → ℕ → Bpos → ℕ
+countQueued t y p = cond (eqb y 0) 0 (countOf t y p)
+
 unfoldable pub countAll : ℕ → List Key → ℕ
 countAll t [] = 0
 countAll t (k ∷ ks) = countOf t (k .type) (k .pos) + countAll t ks
