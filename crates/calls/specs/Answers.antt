@@ -1,11 +1,11 @@
--- The four answers: number and bytes, for any list and any output length.
+-- The five answers: number and bytes, for any list and any output length.
 use Prim.Native.Nat.{ℕ}
 use mathlib.Core.List.{List, [], _∷_, _++_}
 use mathlib.Core.Bool.{not, _&&_, cond}
 use lib.ListN.{length, drop, replicate}
 use lib.Dec.{leb, ltb, eqb}
 use Rattle.wire.specs.Fields.{fields}
-use Rattle.calls.specs.CallList.{Volume, CallList, callListOf, callLaidOut, volumeLaidOut, volumeBytes}
+use Rattle.calls.specs.CallList.{Volume, CallList, callListOf, callLaidOut, volumeLaidOut, listLaidOut, noneTwice, volumeBytes, callBytes}
 use Rattle.calls.specs.Limits.{volumeWithin, listWithin}
 use Rattle.calls.specs.ChangeList.{changeBytes, changeLaidOut, changesOf}
 use Rattle.calls.specs.Place.{placeTests, placeBatch, placedOf, walkOf}
@@ -39,7 +39,7 @@ unfoldable pub place : List ℕ → ℕ → Answer
 unfolding computing answer
 place s room =
     let c = readCall s in
-    answer (test 2 (callLaidOut 1 s) ∷ test 3 (listWithin c) ∷ placeTests c)
+    answer (test 2 (callLaidOut 1 s) ∷ test 22 (noneTwice (c .volume)) ∷ test 3 (listWithin c) ∷ placeTests c)
     (changeBytes (placeBatch (c .volume) (placedOf c) (walkOf c) ∷ [])) room
 
 -- list, scratch length, output length
@@ -48,7 +48,8 @@ unfolding computing answer
 release s scratch room =
     let c = readCall s in
     answer
-    (test 1 (leb 65536 scratch) ∷ test 2 (callLaidOut 2 s) ∷ test 3 (listWithin c) ∷ releaseTests (c .volume) (c .releases))
+    (test 1 (leb 65536 scratch) ∷ test 2 (callLaidOut 2 s) ∷ test 22 (noneTwice (c .volume)) ∷ test 3 (listWithin c)
+    ∷ releaseTests (c .volume) (c .releases))
     (changeBytes (releaseBatch (c .volume) (c .releases) ∷ [])) room
 
 -- list, output length
@@ -56,7 +57,10 @@ unfoldable pub discard : List ℕ → ℕ → Answer
 unfolding computing answer
 discard s room =
     let c = readCall s in
-    answer (test 2 (callLaidOut 3 s) ∷ test 3 (listWithin c) ∷ test 20 (not (eqb (c .volume .head .batch) 0)) ∷ [])
+    answer
+    (test 2 (callLaidOut 3 s) ∷ test 22 (noneTwice (c .volume)) ∷ test 3 (listWithin c)
+    ∷ test 20 (not (eqb (c .volume .head .batch) 0))
+    ∷ [])
     (changeBytes (discardBatches (c .volume))) room
 
 -- the next volume
@@ -68,10 +72,21 @@ unfoldable pub apply : List ℕ → List ℕ → ℕ → Answer
 unfolding computing answer
 apply s change room =
     answer
-    (test 2 (volumeLaidOut s && changeLaidOut change) ∷ test 3 (volumeWithin (readVolume s))
+    (test 2 (volumeLaidOut s && changeLaidOut change) ∷ test 22 (noneTwice (readVolume s)) ∷ test 3 (volumeWithin (readVolume s))
     ∷ test 3 (volumeWithin (nextVolume s change))
     ∷ [])
     (volumeBytes (nextVolume s change)) room
+
+-- the sorted form of a list: the encoding of what was read
+abbrev pub sortedForm : List ℕ → List ℕ
+sortedForm s = callBytes (readCall s)
+
+-- list, output length
+unfoldable pub sort : List ℕ → ℕ → Answer
+unfolding computing answer
+sort s room =
+    let c = readCall s in
+    answer (test 2 (listLaidOut s) ∷ test 22 (noneTwice (c .volume)) ∷ test 3 (listWithin c) ∷ []) (sortedForm s) room
 
 -- the whole output after a call: the bytes written, and the rest unchanged
 unfoldable pub outputAfter : Answer → List ℕ → List ℕ

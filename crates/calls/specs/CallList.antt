@@ -9,11 +9,12 @@ use Rattle.wire.specs.Fields.{Field, fields, whole}
 use Rattle.wire.specs.Keys.{Key, keyOf}
 use Rattle.wire.specs.Encode.{encode, keyField}
 use Rattle.wire.specs.Order.{posLess}
-use Rattle.wire.specs.Kinds.{bucketRead, bucketBytes, bucketBelow, sectorRead, fileSectorRead, fileSectorBytes}
+use Rattle.wire.specs.Kinds.{bucketRead, bucketBytes, bucketBelow, sectorRead, sectorBytes, fileSectorRead, fileSectorBytes}
 use Rattle.wire.specs.declared.kinds.Bucket.{Bucket}
 use Rattle.wire.specs.declared.kinds.DeviceSector.{DeviceSector}
 use Rattle.wire.specs.declared.kinds.FileSector.{FileSector}
 use Rattle.calls.specs.Lists.{allOf, those, inOrder}
+use Rattle.calls.specs.Sorting.{sortedBy}
 
 -- field 1
 pub record Head : Type 0 where
@@ -86,6 +87,12 @@ pub record Freed : Type 0 where
 unfoldable pub freedOf : List ℕ → Freed
 freedOf b = record { first = sectorRead b; sectors = le 2 (drop 8 b) }
 
+unfoldable pub pieceBody : Piece → List ℕ
+pieceBody p = leBytes 2 (p .file) ++ leBytes 2 (p .stored) ++ leBytes 1 (p .kind) ++ leBytes 8 (p .checksum)
+
+unfoldable pub freedBody : Freed → List ℕ
+freedBody r = sectorBytes (r .first) ++ leBytes 2 (r .sectors)
+
 -- a list that was read
 pub record CallList : Type 0 where
   pub volume : Volume
@@ -100,8 +107,9 @@ abbrev pub firstBody : List (List ℕ) → List ℕ
 firstBody [] = []
 firstBody (b ∷ bs) = b
 
-unfoldable pub treesOf : List Field → Trees
-treesOf fs =
+-- the keys of each tree, as they stand
+unfoldable pub keysOf : List Field → Trees
+keysOf fs =
     record {
       alloc = map keyOf (bodies 4 fs);
       lru = map keyOf (bodies 10 fs);
@@ -111,10 +119,31 @@ treesOf fs =
       gens = map keyOf (bodies 14 fs);
     }
 
+-- a key stands at a lower position
+abbrev pub keyBelow : Key → Key → Bool
+keyBelow a b = posLess (a .pos) (b .pos)
+
+-- the keys of each tree by position
+unfoldable pub sortedTrees : Trees → Trees
+sortedTrees t =
+    record {
+      alloc = sortedBy keyBelow (t .alloc);
+      lru = sortedBy keyBelow (t .lru);
+      freespace = sortedBy keyBelow (t .freespace);
+      needDiscard = sortedBy keyBelow (t .needDiscard);
+      backpointers = sortedBy keyBelow (t .backpointers);
+      gens = sortedBy keyBelow (t .gens);
+    }
+
+-- reserved buckets by number
+unfoldable pub reservedOf : List Field → List Bucket
+reservedOf fs = sortedBy bucketBelow (map bucketRead (bodies 64 fs))
+
+-- what a list is read as, in whatever order its fields stand; requests keep theirs
 unfoldable pub callListOf : List Field → CallList
 callListOf fs =
     record {
-      volume = record { head = headOf (firstBody (bodies 1 fs)); trees = treesOf fs; reserved = map bucketRead (bodies 64 fs) };
+      volume = record { head = headOf (firstBody (bodies 1 fs)); trees = sortedTrees (keysOf fs); reserved = reservedOf fs };
       pieces = map pieceOf (bodies 65 fs);
       releases = map freedOf (bodies 66 fs);
     }
@@ -146,33 +175,38 @@ volumeShapes =
 unfoldable pub requestShapes : ℕ → List Shape
 requestShapes call = cond (eqb call 1) (exactly 65 13 ∷ []) (cond (eqb call 2) (exactly 66 10 ∷ []) [])
 
--- tags ascend
-unfoldable pub tagsAscend : List Field → Bool
-tagsAscend fs = inOrder (λ f g. leb (f .tag) (g .tag)) fs
+-- the test holds of each tree
+abbrev pub allTrees : (List Key → Bool) → Trees → Bool
+allTrees test t =
+    test (t .alloc)
+    && (test (t .lru) && (test (t .freespace) && (test (t .needDiscard) && (test (t .backpointers) && test (t .gens)))))
 
--- keys of a tree ascend strictly, and the snapshot is 0 outside tree 0
+-- every snapshot is 0
+abbrev pub snapshotsOk : List Key → Bool
+snapshotsOk ks = allOf (λ k. eqb (k .pos .snapshot) 0) ks
+
+-- keys ascend strictly: no position stands twice
+abbrev pub keysAscend : List Key → Bool
+keysAscend ks = inOrder keyBelow ks
+
+-- what refusals 2 and 22 leave of a tree, and of all
 unfoldable pub keysOk : List Key → Bool
-keysOk ks = inOrder (λ a b. posLess (a .pos) (b .pos)) ks && allOf (λ k. eqb (k .pos .snapshot) 0) ks
+keysOk ks = keysAscend ks && snapshotsOk ks
 
 unfoldable pub treesOk : Trees → Bool
-treesOk t =
-    keysOk (t .alloc)
-    && (keysOk (t .lru) && (keysOk (t .freespace) && (keysOk (t .needDiscard) && (keysOk (t .backpointers) && keysOk (t .gens)))))
+treesOk t = allTrees keysOk t
 
 -- the call is 1, 2 or 3, and the root bits above bit 2 are 0
 unfoldable pub headOk : Head → Bool
 headOk h = leb 1 (h .call) && (leb (h .call) 3 && ltb (h .roots) 8)
 
--- a list of whole fields of these shapes, in order, with field 1 exactly once
+-- a list of whole fields of these shapes, with field 1 exactly once
 unfoldable pub laidOut : List Shape → List ℕ → Bool
 laidOut shapes s =
     whole s
     && (allOf (shaped shapes) (fields s)
-    && (tagsAscend (fields s)
     && (eqb (length (bodies 1 (fields s))) 1
-    && (headOk (callListOf (fields s) .volume .head)
-    && (treesOk (callListOf (fields s) .volume .trees)
-    && inOrder bucketBelow (callListOf (fields s) .volume .reserved))))))
+    && (headOk (callListOf (fields s) .volume .head) && allTrees snapshotsOk (callListOf (fields s) .volume .trees))))
 
 -- refusal 2, for a call: the layout, the call's own number, and no other call's requests
 unfoldable pub callLaidOut : ℕ → List ℕ → Bool
@@ -182,6 +216,14 @@ callLaidOut call s =
 -- refusal 2, for a volume, which has no requests
 unfoldable pub volumeLaidOut : List ℕ → Bool
 volumeLaidOut s = laidOut volumeShapes s
+
+-- refusal 2, for a list of whatever call its head names
+unfoldable pub listLaidOut : List ℕ → Bool
+listLaidOut s = laidOut (volumeShapes ++ requestShapes (callListOf (fields s) .volume .head .call)) s
+
+-- refusal 22: of the sorted keys of a tree no two neighbours stand at one position, and no reserved bucket stands twice
+unfoldable pub noneTwice : Volume → Bool
+noneTwice v = allTrees keysAscend (v .trees) && inOrder bucketBelow (v .reserved)
 
 -- the fields of a volume
 unfoldable pub treeFields : Trees → List Field
@@ -194,7 +236,19 @@ treeFields t =
 unfoldable pub reservedField : Bucket → Field
 reservedField b = record { tag = 64; body = bucketBytes b }
 
+unfoldable pub volumeFields : Volume → List Field
+volumeFields v =
+    (record { tag = 1; body = headBody (v .head) } ∷ []) ++ treeFields (v .trees) ++ map reservedField (v .reserved)
+
 unfoldable pub volumeBytes : Volume → List ℕ
-volumeBytes v =
-    encode
-    ((record { tag = 1; body = headBody (v .head) } ∷ []) ++ treeFields (v .trees) ++ map reservedField (v .reserved))
+volumeBytes v = encode (volumeFields v)
+
+abbrev pub pieceField : Piece → Field
+pieceField p = record { tag = 65; body = pieceBody p }
+
+abbrev pub freedField : Freed → Field
+freedField r = record { tag = 66; body = freedBody r }
+
+-- the sorted form of a list that was read: field 1, the trees, reserved buckets, and the requests in their own order
+unfoldable pub callBytes : CallList → List ℕ
+callBytes c = encode (volumeFields (c .volume) ++ map pieceField (c .pieces) ++ map freedField (c .releases))

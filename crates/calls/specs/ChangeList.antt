@@ -12,8 +12,8 @@ use Rattle.wire.specs.Kinds.{bucketRead, bucketBytes, sectorRead, sectorBytes}
 use Rattle.wire.specs.Rows.{Counters, rowField, rowOf}
 use Rattle.wire.specs.declared.kinds.Bucket.{Bucket}
 use Rattle.wire.specs.declared.kinds.DeviceSector.{DeviceSector}
-use Rattle.calls.specs.Lists.{allOf}
-use Rattle.calls.specs.CallList.{Trees, bodies, treesOf, treeFields, Shape, shaped, keyShape, exactly, tagsAscend}
+use Rattle.calls.specs.Lists.{allOf, inOrder}
+use Rattle.calls.specs.CallList.{Trees, bodies, keysOf, treeFields, Shape, shaped, keyShape, exactly}
 
 -- field 72
 pub record Spot : Type 0 where
@@ -109,6 +109,10 @@ closed [] = true
 closed (f ∷ []) = eqb (f .tag) 76
 closed (f ∷ g ∷ fs) = closed (g ∷ fs)
 
+-- tags ascend
+unfoldable pub tagsAscend : List Field → Bool
+tagsAscend fs = inOrder (λ f g. leb (f .tag) (g .tag)) fs
+
 -- refusal 2, for a change list: lengths, tag order in each batch, snapshots, root ids and the closing 76
 unfoldable pub changeLaidOut : List ℕ → Bool
 changeLaidOut s =
@@ -129,7 +133,7 @@ unfoldable pub batchOf : List Field → Batch
 batchOf fs =
     record {
       extents = map keyOf (bodies 0 fs);
-      trees = treesOf fs;
+      trees = keysOf fs;
       roots = map (le 1) (bodies 70 fs);
       taken = map bucketRead (bodies 71 fs);
       spots = map spotOf (bodies 72 fs);

@@ -16,6 +16,7 @@ use Rattle.format.specs.Packing.{get}
 use Rattle.format.specs.AllocV4.{gen, dataType, dirtySectors, needDiscardType}
 use Rattle.calls.specs.Lists.{allOf, anyOf, those, total, one, fromOption}
 use Rattle.calls.specs.CallList.{Piece, Freed, volumeLaidOut}
+use Rattle.calls.specs.SameFields.{AsOften}
 use Rattle.calls.specs.Limits.{isSet, isRun}
 use Rattle.calls.specs.Freespace.{isIn, runsOf, endOf, bucketsOf, overlaps}
 use Rattle.calls.specs.Generations.{genOf}
@@ -130,11 +131,11 @@ after st (s ∷ ss) = after (advance st s) ss
 unfoldable pub carried : List ℕ → List Field
 carried s = those (λ f. not (eqb (f .tag) 1 || isRequest f)) (fields s)
 
--- what a history asks of a step: bytes, of which only field 1, its bucket sectors excepted, and requests differ from the volume last reached; and a
--- release that is accepted names live pieces, none twice
+-- what a history asks of a step: bytes, of which only field 1, its bucket sectors excepted, and requests differ from the volume last reached, up to
+-- the order of fields; and a release that is accepted names live pieces, none twice
 pub record Allowed (st : State) (s : Step) : Type 0 where
   pub bytes : Bytes (s .list)
-  pub same : carried (s .list) ≡ carried (st .volume)
+  pub same : AsOften (carried (s .list)) (carried (st .volume))
   pub sectors : readCall (s .list) .volume .head .bucketSectors ≡ readVolume (st .volume) .head .bucketSectors
   pub named :
       s .call ≡ releasing → answerTo s .number ≡ 0 → (l : List Live) × (takeAll (readCall (s .list) .releases) (st .live) ≡ some l)

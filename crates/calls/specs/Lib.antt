@@ -1,5 +1,6 @@
 pub mod Lists
 pub mod Sorting
+pub mod SameFields
 pub mod CallList
 pub mod Limits
 pub mod Trees
@@ -19,6 +20,7 @@ pub mod Discard
 pub mod Apply
 pub mod Computing
 pub mod Answers
+pub mod ListCalls
 pub mod History
 pub mod Examples
 pub mod ExampleHistory

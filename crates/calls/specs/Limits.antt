@@ -7,7 +7,7 @@ use Rattle.wire.specs.Keys.{Key}
 use Rattle.wire.specs.Kinds.{bucketInRange, runEndInRange, baseInRange}
 use Rattle.wire.specs.Positions.{bucketIn}
 use Rattle.calls.specs.Lists.{allOf}
-use Rattle.calls.specs.CallList.{Trees, Volume, CallList}
+use Rattle.calls.specs.CallList.{Trees, allTrees, Volume, CallList}
 
 -- a key that stands for a bucket: of type 25, and at inode 0
 abbrev pub isSet : Key → Bool
@@ -24,10 +24,7 @@ unfoldable pub fewKeys : List Key → Bool
 fewKeys ks = leb (length ks) 4096
 
 unfoldable pub countsOk : Trees → Bool
-countsOk t =
-    fewKeys (t .alloc)
-    && (fewKeys (t .lru)
-    && (fewKeys (t .freespace) && (fewKeys (t .needDiscard) && (fewKeys (t .backpointers) && fewKeys (t .gens)))))
+countsOk t = allTrees fewKeys t
 
 -- bucket numbers are below 65,536: alloc keys at inode 0, need-discard keys of type 25; a type 25 freespace key at inode 0 ends at most at 65,536
 unfoldable pub bucketsOk : Trees → Bool

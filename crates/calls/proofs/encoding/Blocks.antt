@@ -12,7 +12,8 @@ use Rattle.wire.specs.Bytes.{All, none, more, Bytes}
 use Rattle.wire.proofs.NumberLaws.{all-append}
 use Rattle.wire.proofs.RoundTrip.{FieldFits}
 use Rattle.calls.specs.Lists.{allOf, those, inOrder}
-use Rattle.calls.specs.CallList.{Shape, shaped, bodies, tagsAscend}
+use Rattle.calls.specs.CallList.{Shape, shaped, bodies}
+use Rattle.calls.specs.ChangeList.{tagsAscend}
 use Rattle.calls.proofs.lists.AllLaws.{all-imp, all-each, all-map, test-all}
 use Rattle.calls.proofs.lists.BoolLaws.{both, parts, or-map, cond-same}
 
