@@ -25,3 +25,4 @@ pub mod VolumeLaws
 pub mod PartsLaws
 pub mod NextLaws
 pub mod CheckedLaws
+pub mod SortedBodyLaws

@@ -1,4 +1,4 @@
--- What each field after field 1 of a call list or a volume must be: by itself, and after the field before it.
+-- What each field of a call list or a volume must be: by itself, and, where the list is in order, after the field before it.
 use Prim.Native.Nat.{ℕ}
 use mathlib.Core.List.{List, [], _∷_, _++_}
 use mathlib.Core.Bool.{Bool, true, false, not, _&&_, _||_, cond}
@@ -9,6 +9,7 @@ use Rattle.wire.specs.Keys.{Key, keyOf}
 use Rattle.wire.specs.Order.{posLess}
 use Rattle.wire.specs.Kinds.{bucketRead, bucketBelow, bucketInRange, runEndInRange, baseInRange}
 use Rattle.wire.specs.Positions.{bucketIn}
+use Rattle.calls.specs.Lists.{those}
 use Rattle.calls.specs.CallList.{Head, headOf, headOk, Shape, shaped, volumeShapes, requestShapes}
 use Rattle.calls.specs.ChangeList.{fieldOk}
 use Rattle.calls.specs.Limits.{isSet, atInode0, isRun}
@@ -20,12 +21,17 @@ restShapes call = drop 1 (volumeShapes ++ requestShapes call)
 unfoldable pub callFieldOk : ℕ → Field → Bool
 callFieldOk call f = shaped (restShapes call) f && fieldOk f
 
--- the first field: field 1, of this call or of any
-unfoldable pub startsOk : ℕ → Bool → List Field → Bool
-startsOk call any [] = false
-startsOk call any (f ∷ fs) =
-    (eqb (f .tag) 1 && eqb (length (f .body)) 39)
-    && (headOk (headOf (f .body)) && (any || eqb (headOf (f .body) .call) call))
+-- field 1, of this call or of any
+unfoldable pub headFieldOk : ℕ → Bool → List ℕ → Bool
+headFieldOk call any b = eqb (length b) 39 && (headOk (headOf b) && (any || eqb (headOf b .call) call))
+
+-- a field of a list: field 1, or one beside it
+unfoldable pub anyFieldOk : ℕ → Bool → Field → Bool
+anyFieldOk call any f = cond (eqb (f .tag) 1) (headFieldOk call any (f .body)) (callFieldOk call f)
+
+-- the fields beside field 1
+unfoldable pub others : List Field → List Field
+others fs = those (λ f. not (eqb (f .tag) 1)) fs
 
 -- the field with tag t whose body starts at place b of s, with all that stands after it
 abbrev pub fieldFrom : List ℕ → ℕ → ℕ → Field

@@ -1,4 +1,4 @@
--- What refusals 2 and 3 show of a list.
+-- What refusals 2, 22 and 3 show of a list.
 use Prim.Native.Nat.{ℕ}
 use mathlib.Core.Path.{_≡_}
 use mathlib.Core.Bool.{Bool, true, not, _||_}

@@ -1,14 +1,14 @@
 -- The head that the code holds.
 use Prim.Native.Nat.{ℕ}
 use mathlib.Core.List.{List, _++_}
-use lib.ListN.{getD}
 use Rattle.wire.specs.Numbers.{leBytes}
 use Rattle.calls.specs.CallList as calls
+use Rattle.calls.specs.Answers.{readVolume}
 use Rattle.reader.specs.declared.head.Head.{Head}
 
--- the call byte of a list that starts with field 1
+-- the call byte of a list's first field 1, wherever that stands
 unfoldable pub callByte : List ℕ → ℕ
-callByte s = getD s 3 0
+callByte s = readVolume s .head .call
 
 abbrev pub headIn : Head → calls.Head
 headIn h =

@@ -7,3 +7,4 @@ pub mod KeyHere
 pub mod Located
 pub mod Pieces
 pub mod Checked
+pub mod Arranged
