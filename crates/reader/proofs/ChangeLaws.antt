@@ -11,8 +11,8 @@ use Rattle.wire.specs.Fields.{Field, fieldsAfter, fields, fieldAt, stepOf, whol
 use Rattle.wire.specs.declared.fields.NextField.the-variants.{Stop}
 use Rattle.wire.proofs.FieldLaws.{FieldAt, FieldsWalked, walked-none, walked-more, whole-end, whole-left}
 use Rattle.calls.specs.Lists.{allOf, inOrder}
-use Rattle.calls.specs.CallList.{shaped, tagsAscend}
-use Rattle.calls.specs.ChangeList.{endField, intoFirst, splitBatches, changeShapes, fieldOk, closed, changeLaidOut}
+use Rattle.calls.specs.CallList.{shaped}
+use Rattle.calls.specs.ChangeList.{endField, intoFirst, splitBatches, changeShapes, fieldOk, closed, changeLaidOut, tagsAscend}
 use Rattle.reader.specs.Bodies.{changeFieldOk, tagAfter}
 use Rattle.reader.proofs.ShapeLaws.{shaped-below}
 

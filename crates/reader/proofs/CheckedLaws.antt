@@ -11,7 +11,8 @@ use Rattle.wire.specs.Kinds.{bucketInRange, runEndInRange, baseInRange, bucketB
 use Rattle.wire.specs.Positions.{bucketIn}
 use Rattle.wire.specs.Fields.{fields, whole}
 use Rattle.calls.specs.Lists.{allOf, inOrder}
-use Rattle.calls.specs.CallList.{shaped, bodies, volumeShapes, requestShapes, tagsAscend, treesOk, headOk, laidOut, callLaidOut}
+use Rattle.calls.specs.CallList.{shaped, bodies, volumeShapes, requestShapes, treesOk, headOk, laidOut, callLaidOut}
+use Rattle.calls.specs.ChangeList.{tagsAscend}
 use Rattle.calls.specs.Limits.{isRun, isSet, countsOk, bucketsOk, volumeWithin, listWithin}
 use Rattle.calls.specs.Answers.{readCall, readVolume}
 use Rattle.calls.proofs.lists.BoolLaws.{parts as and-true}

@@ -10,7 +10,8 @@ use native.Mathlib.Omega.{arith}
 use Rattle.wire.specs.Fields.{Field}
 use Rattle.wire.specs.Bytes.{All, more}
 use Rattle.calls.specs.Lists.{those, inOrder}
-use Rattle.calls.specs.CallList.{bodies, tagsAscend}
+use Rattle.calls.specs.CallList.{bodies}
+use Rattle.calls.specs.ChangeList.{tagsAscend}
 use Rattle.reader.specs.CallFields.{ascends, follows}
 use Rattle.calls.proofs.lists.BoolLaws.{both}
 use Rattle.calls.proofs.lists.OrderLaws.{order-imp, order-tail}

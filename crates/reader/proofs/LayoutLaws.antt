@@ -3,56 +3,65 @@ use Prim.Native.Nat.{ℕ, _+_, _≤_, _<_}
 use mathlib.Core.Path.{_≡_, refl, sym, _∙_, ap}
 use mathlib.Core.Logic.{_⊎_, inl, inr, ⊎-elim}
 use mathlib.Core.List.{List, [], _∷_, _++_, map}
-use mathlib.Core.Bool.{Bool, true, false, _&&_, _||_, and-false, or-true}
+use mathlib.Core.Bool.{Bool, true, false, _&&_, _||_, cond, and-false, or-true, and-assoc}
 use lib.ListN.{length}
 use lib.Dec.{leb, eqb}
-use borrow.Author.Tests.{eq-eqb, ne-eqb, eqb-true, le-leb, lt-leb}
+use borrow.Author.Tests.{eq-eqb, ne-eqb, eqb-true, eqb-false, le-leb, lt-leb}
 use native.Mathlib.Omega.{arith}
-use Rattle.wire.specs.Fields.{Field}
+use Rattle.wire.specs.Fields.{Field, fields, whole}
 use Rattle.wire.specs.Keys.{Key, keyOf}
-use Rattle.wire.specs.Order.{posLess}
-use Rattle.wire.specs.Kinds.{bucketRead, bucketBelow}
 use Rattle.wire.specs.Bytes.{All, none, more}
-use Rattle.calls.specs.Lists.{allOf, those, inOrder}
-use Rattle.calls.specs.CallList.{bodies, firstBody, headOf, headOk, treesOf, callListOf, Shape, shaped, exactly, volumeShapes, requestShapes, tagsAscend, keysOk, treesOk}
+use Rattle.calls.specs.Lists.{allOf, those}
+use Rattle.calls.specs.CallList.{bodies, firstBody, headOf, headOk, keyBelow, keysOf, sortedTrees, callListOf, Shape, shaped, exactly, volumeShapes, requestShapes, allTrees, snapshotsOk, laidOut}
+use Rattle.calls.specs.Sorting.{sortedBy}
 use Rattle.calls.specs.ChangeList.{fieldOk}
-use Rattle.reader.specs.CallFields.{restShapes, callFieldOk, startsOk, ascends, follows}
-use Rattle.calls.proofs.lists.AllLaws.{all-tail, test-all, all-test, all-imp, all-zip}
+use Rattle.reader.specs.CallFields.{restShapes, callFieldOk, headFieldOk, anyFieldOk}
+use Rattle.reader.specs.Readings.{laidAs}
+use Rattle.calls.proofs.lists.AllLaws.{test-all, all-test, all-imp, all-zip}
 use Rattle.calls.proofs.lists.BoolLaws.{both}
-use Rattle.calls.proofs.lists.OrderLaws.{order-map, order-tail, order-same}
-use Rattle.calls.proofs.lists.AllOfLaws.{all-of-map}
+use Rattle.calls.proofs.lists.AllOfLaws.{all-of-map, all-of-sorted}
 use Rattle.reader.proofs.BoolLaws.{apart, and-left, and-right, same}
 use Rattle.reader.proofs.ShapeLaws.{KeyTag, same-or}
-use Rattle.reader.proofs.ListLaws.{bodies-here, bodies-other, bodies-none, bodies-all, all-bodies, none-after}
-use Rattle.reader.proofs.ListedLaws.{Fits, shaped-cases, FieldListed, key, reserved, piece, freed, listed, key-tag-bounds, listed-above, Tagged, listed-tagged}
-use Rattle.reader.proofs.FollowsLaws.{follows-up-all, order-from, follows-more, less, order-to}
+use Rattle.reader.proofs.ListLaws.{bodies-here, bodies-other, bodies-all, all-bodies}
+use Rattle.reader.proofs.ListedLaws.{Fits, shaped-cases, FieldListed, key, reserved, piece, freed, listed, key-tag-bounds, listed-above}
 
--- a tree's keys
+-- the snapshots of a tree
 
 abbrev snapshot0 : List ℕ → Bool
 snapshot0 b = eqb (keyOf b .pos .snapshot) 0
 
-tree-ok :
-    (t : ℕ) → t ≤ 14 → (bs : List (List ℕ)) → keysOk (map keyOf bs) ≡ (inOrder (ascends t) bs && allOf snapshot0 bs)
-unfolding keysOk ascends
-tree-ok t l bs =
-    λ i.
-    (order-map (λ (a b : Key). posLess (a .pos) (b .pos)) keyOf bs
-    ∙ order-same (λ a b. posLess (keyOf a .pos) (keyOf b .pos)) (ascends t) (λ a b. simp (le-leb t 14 l)) bs)
-    i
-    && all-of-map (λ (k : Key). eqb (k .pos .snapshot) 0) keyOf bs i
+-- of its keys in order, and of their bodies
+tree-snapshots : (bs : List (List ℕ)) → snapshotsOk (sortedBy keyBelow (map keyOf bs)) ≡ allOf snapshot0 bs
+tree-snapshots bs =
+    all-of-sorted (λ (k : Key). eqb (k .pos .snapshot) 0) keyBelow (map keyOf bs)
+    ∙ all-of-map (λ (k : Key). eqb (k .pos .snapshot) 0) keyOf bs
 
 abbrev TreeOk : ℕ → List Field → Type 0
-TreeOk t fs = keysOk (map keyOf (bodies t fs)) ≡ true
+TreeOk t fs = allOf snapshot0 (bodies t fs) ≡ true
 
-trees-all : (fs : List Field) → treesOk (treesOf fs) ≡ true → (t : ℕ) → KeyTag t → TreeOk t fs
-unfolding treesOk treesOf
-trees-all fs h t k =
-    let h1 = and-right (keysOk (map keyOf (bodies 4 fs))) _ h in
-    let h2 = and-right (keysOk (map keyOf (bodies 10 fs))) _ h1 in
-    let h3 = and-right (keysOk (map keyOf (bodies 11 fs))) _ h2 in
-    let h4 = and-right (keysOk (map keyOf (bodies 12 fs))) _ h3 in
-    let h5 = and-right (keysOk (map keyOf (bodies 13 fs))) _ h4 in
+snapshots-are :
+    (fs : List Field)
+    → allTrees snapshotsOk (callListOf fs .volume .trees)
+    ≡ (allOf snapshot0 (bodies 4 fs)
+    && (allOf snapshot0 (bodies 10 fs)
+    && (allOf snapshot0 (bodies 11 fs)
+    && (allOf snapshot0 (bodies 12 fs) && (allOf snapshot0 (bodies 13 fs) && allOf snapshot0 (bodies 14 fs))))))
+unfolding callListOf sortedTrees keysOf
+snapshots-are fs =
+    λ i.
+    tree-snapshots (bodies 4 fs) i
+    && (tree-snapshots (bodies 10 fs) i
+    && (tree-snapshots (bodies 11 fs) i
+    && (tree-snapshots (bodies 12 fs) i && (tree-snapshots (bodies 13 fs) i && tree-snapshots (bodies 14 fs) i))))
+
+trees-all : (fs : List Field) → allTrees snapshotsOk (callListOf fs .volume .trees) ≡ true → (t : ℕ) → KeyTag t → TreeOk t fs
+trees-all fs g t k =
+    let h = sym (snapshots-are fs) ∙ g in
+    let h1 = and-right (allOf snapshot0 (bodies 4 fs)) _ h in
+    let h2 = and-right (allOf snapshot0 (bodies 10 fs)) _ h1 in
+    let h3 = and-right (allOf snapshot0 (bodies 11 fs)) _ h2 in
+    let h4 = and-right (allOf snapshot0 (bodies 12 fs)) _ h3 in
+    let h5 = and-right (allOf snapshot0 (bodies 13 fs)) _ h4 in
     by k (and-left _ _ h) (and-left _ _ h1) (and-left _ _ h2) (and-left _ _ h3) (and-left _ _ h4) h5
   where
     by : KeyTag t → TreeOk 4 fs → TreeOk 10 fs → TreeOk 11 fs → TreeOk 12 fs → TreeOk 13 fs → TreeOk 14 fs → TreeOk t fs
@@ -63,10 +72,10 @@ trees-all fs h t k =
     by (inr (inr (inr (inr (inl e))))) a b c d x y = rw e x
     by (inr (inr (inr (inr (inr e))))) a b c d x y = rw e y
 
-all-trees : (fs : List Field) → ((t : ℕ) → KeyTag t → TreeOk t fs) → treesOk (treesOf fs) ≡ true
-unfolding treesOk treesOf
+all-trees : (fs : List Field) → ((t : ℕ) → KeyTag t → TreeOk t fs) → allTrees snapshotsOk (callListOf fs .volume .trees) ≡ true
 all-trees fs h =
-    both (h 4 (inl refl))
+    snapshots-are fs
+    ∙ both (h 4 (inl refl))
     (both (h 10 (inr (inl refl)))
     (both (h 11 (inr (inr (inl refl))))
     (both (h 12 (inr (inr (inr (inl refl)))))
@@ -110,191 +119,138 @@ listed-field f (freed c e l) h = other-field f (omega arith) (λ z. omega arith)
 abbrev pub laidFields : ℕ → Bool → List Field → Bool
 laidFields call any fs =
     (allOf (shaped (volumeShapes ++ requestShapes call)) fs
-    && (tagsAscend fs
     && (eqb (length (bodies 1 fs)) 1
-    && (headOk (callListOf fs .volume .head)
-    && (treesOk (callListOf fs .volume .trees) && inOrder bucketBelow (callListOf fs .volume .reserved))))))
+    && (headOk (callListOf fs .volume .head) && allTrees snapshotsOk (callListOf fs .volume .trees))))
     && (any || eqb (callListOf fs .volume .head .call) call)
 
--- a second field 1 is none after the first
-none-second : (f : Field) (fs : List Field) → f .tag ≡ 1 → eqb (length (bodies 1 (f ∷ fs))) 1 ≡ true → All (λ g. g .tag ≡ 1 → ⊥) fs
-unfolding allOf
-none-second f fs e h =
-    let z : length (bodies 1 fs) ≡ 0 = omega (arith, eqb-true (length (f .body ∷ bodies 1 fs)) 1 (rw (bodies-here 1 f fs e) at h)) in
-    all-imp (λ g k q. apart (sym (k q))) (bodies-all 1 (λ b. false) fs (empty (bodies 1 fs) z))
-  where
-    empty : (bs : List (List ℕ)) → length bs ≡ 0 → allOf (λ (b : List ℕ). false) bs ≡ true
-    empty [] z = refl
-    empty (b ∷ bs) z = absurd (omega arith)
-
--- the keys of a tree and the reserved buckets, when no tag is 1
-reserved-order : (fs : List Field) → inOrder bucketBelow (map bucketRead (bodies 64 fs)) ≡ inOrder (ascends 64) (bodies 64 fs)
-unfolding ascends
-reserved-order fs = order-map bucketBelow bucketRead (bodies 64 fs)
-
-ascends-rest : (t : ℕ) (a b : List ℕ) → 14 < t → (t ≡ 64 → ⊥) → ascends t a b ≡ true
-unfolding ascends
-ascends-rest t a b l n = simp (lt-leb t 14 l, ne-eqb t 64 n)
-
-trivial-order : (t : ℕ) → 14 < t → (t ≡ 64 → ⊥) → (bs : List (List ℕ)) → inOrder (ascends t) bs ≡ true
-unfolding inOrder
-trivial-order t l n [] = refl
-trivial-order t l n (b ∷ []) = refl
-trivial-order t l n (b ∷ d ∷ bs) = both (ascends-rest t b d l n) (trivial-order t l n (d ∷ bs))
-
-module _ (call : ℕ) (any : Bool) (f : Field) (fs : List Field) where
-  laid-first : allOf (shaped (volumeShapes ++ requestShapes call)) (f ∷ fs) ≡ true → tagsAscend (f ∷ fs) ≡ true
-      → eqb (length (bodies 1 (f ∷ fs))) 1 ≡ true → Fits f (exactly 1 39)
-  unfolding volumeShapes restShapes allOf
-  laid-first a b c =
-      ⊎-elim (λ w. w)
-      (λ h.
-      let z : length (bodies 1 (f ∷ fs)) ≡ 0 = ap length (none-after 1 f fs b (listed-above (listed call f h))) in
-      absurd (omega (arith, eqb-true (length (bodies 1 (f ∷ fs))) 1 c)))
-      (shaped-cases (exactly 1 39) (restShapes call) f (and-left _ _ a))
-
-  -- the fields after the first have the other shapes
-  laid-rest :
-      allOf (shaped (volumeShapes ++ requestShapes call)) (f ∷ fs) ≡ true → f .tag ≡ 1
-      → eqb (length (bodies 1 (f ∷ fs))) 1 ≡ true → All (λ g. shaped (restShapes call) g ≡ true) fs
-  unfolding volumeShapes restShapes allOf
-  laid-rest a e c =
-      all-imp
-      (λ g k. ⊎-elim (λ w. absurd (k .1 (w .tag))) (λ h. h) (shaped-cases (exactly 1 39) (restShapes call) g (k .0)))
-      (all-zip (test-all (shaped (volumeShapes ++ requestShapes call)) fs (and-right (shaped (volumeShapes ++ requestShapes call) f) _ a)) (none-second f fs e c))
-
-tags-tail : (f : Field) (fs : List Field) → tagsAscend (f ∷ fs) ≡ true → tagsAscend fs ≡ true
-unfolding tagsAscend
-tags-tail f fs h = order-tail (λ f g. leb (f .tag) (g .tag)) f fs h
-
--- the order of the fields after field 1, with it before them
-first-order : (f : Field) (fs : List Field) → f .tag ≡ 1 → All (λ g. 1 < g .tag) fs → inOrder follows fs ≡ true → inOrder follows (f ∷ fs) ≡ true
-unfolding inOrder
-first-order f [] e r h = refl
-first-order f (g ∷ fs) e (more l r) h = both (follows-more f g (omega arith)) h
+-- the head in a body of field 1
+abbrev headTest : ℕ → Bool → List ℕ → Bool
+headTest call any b = headOk (headOf b) && (any || eqb (headOf b .call) call)
 
 -- the tests of the layout, one by one
-record LaidParts (a b c d e r g : Bool) : Type 0 where
+record LaidParts (a c d e g : Bool) : Type 0 where
   shapes : a ≡ true
-  tags : b ≡ true
   once : c ≡ true
   head : d ≡ true
   trees : e ≡ true
-  buckets : r ≡ true
   named : g ≡ true
 
-apart-laid : (a b c d e r g : Bool) → ((a && (b && (c && (d && (e && r))))) && g) ≡ true → LaidParts a b c d e r g
-apart-laid a b c d e r g h =
-    let x = and-left (a && (b && (c && (d && (e && r))))) g h in
+apart-laid : (a c d e g : Bool) → ((a && (c && (d && e))) && g) ≡ true → LaidParts a c d e g
+apart-laid a c d e g h =
+    let x = and-left (a && (c && (d && e))) g h in
     let x1 = and-right a _ x in
-    let x2 = and-right b _ x1 in
-    let x3 = and-right c _ x2 in
-    let x4 = and-right d _ x3 in
+    let x2 = and-right c _ x1 in
     record {
       shapes = and-left _ _ x;
-      tags = and-left _ _ x1;
-      once = and-left _ _ x2;
-      head = and-left _ _ x3;
-      trees = and-left _ _ x4;
-      buckets = and-right e _ x4;
-      named = and-right (a && (b && (c && (d && (e && r))))) g h;
+      once = and-left _ _ x1;
+      head = and-left _ _ x2;
+      trees = and-right d _ x2;
+      named = and-right (a && (c && (d && e))) g h;
     }
 
-laid-parts :
-    (call : ℕ) (any : Bool) (fs : List Field) → laidFields call any fs ≡ true
-    → LaidParts (allOf (shaped (volumeShapes ++ requestShapes call)) fs) (tagsAscend fs) (eqb (length (bodies 1 fs)) 1)
-    (headOk (callListOf fs .volume .head))
-    (treesOk (callListOf fs .volume .trees))
-    (inOrder bucketBelow (callListOf fs .volume .reserved))
-    (any || eqb (callListOf fs .volume .head .call) call)
-laid-parts call any fs h =
-    apart-laid (allOf (shaped (volumeShapes ++ requestShapes call)) fs) (tagsAscend fs) (eqb (length (bodies 1 fs)) 1)
-    (headOk (callListOf fs .volume .head))
-    (treesOk (callListOf fs .volume .trees))
-    (inOrder bucketBelow (callListOf fs .volume .reserved))
-    (any || eqb (callListOf fs .volume .head .call) call)
-    h
+-- the one body of field 1
+one-body : (p : List ℕ → Bool) (bs : List (List ℕ)) → length bs ≡ 1 → allOf p bs ≡ p (firstBody bs)
+unfolding allOf
+one-body p [] e = absurd (omega arith)
+one-body p (b ∷ []) e = and-one (p b)
+  where
+    and-one : (x : Bool) → (x && true) ≡ x
+    and-one true = refl
+    and-one false = refl
+one-body p (b ∷ c ∷ bs) e = absurd (omega arith)
 
-shaped-first : (ss : List Shape) (f : Field) → f .tag ≡ 1 → length (f .body) ≡ 39 → shaped (exactly 1 39 ∷ ss) f ≡ true
-unfolding shaped
-shaped-first ss f e n = simp (eq-eqb (f .tag) 1 e, n)
+-- a field, by its shape
+shaped-head : (call : ℕ) (f : Field) → f .tag ≡ 1 → shaped (volumeShapes ++ requestShapes call) f ≡ true → length (f .body) ≡ 39
+unfolding volumeShapes restShapes
+shaped-head call f e h =
+    ⊎-elim (λ w. omega (arith, w .least, w .most)) (λ k. absurd (omega (arith, listed-above (listed call f k))))
+    (shaped-cases (exactly 1 39) (restShapes call) f h)
 
-shaped-more : (s : Shape) (ss : List Shape) (f : Field) → shaped ss f ≡ true → shaped (s ∷ ss) f ≡ true
-unfolding shaped
-shaped-more s ss f h = simp (h, or-true)
+shaped-beside : (call : ℕ) (f : Field) → (f .tag ≡ 1 → ⊥) → shaped (volumeShapes ++ requestShapes call) f ≡ true → shaped (restShapes call) f ≡ true
+unfolding volumeShapes restShapes
+shaped-beside call f n h = ⊎-elim (λ w. absurd (n (w .tag))) (λ k. k) (shaped-cases (exactly 1 39) (restShapes call) f h)
 
-module _ (call : ℕ) (any : Bool) (f : Field) (fs : List Field) where
-  laid-from :
-      laidFields call any (f ∷ fs) ≡ true
-      → (startsOk call any (f ∷ fs) && (allOf (callFieldOk call) fs && inOrder follows (f ∷ fs))) ≡ true
-  unfolding startsOk callFieldOk callListOf
+shaped-first : (call : ℕ) (f : Field) → f .tag ≡ 1 → length (f .body) ≡ 39 → shaped (volumeShapes ++ requestShapes call) f ≡ true
+unfolding shaped volumeShapes
+shaped-first call f e n = simp (eq-eqb (f .tag) 1 e, n)
+
+shaped-more : (call : ℕ) (f : Field) → shaped (restShapes call) f ≡ true → shaped (volumeShapes ++ requestShapes call) f ≡ true
+unfolding shaped volumeShapes restShapes
+shaped-more call f h = simp (h, or-true)
+
+-- a field, by its tag
+module _ (call : ℕ) (any : Bool) (f : Field) where
+  pub any-head : f .tag ≡ 1 → anyFieldOk call any f ≡ headFieldOk call any (f .body)
+  unfolding anyFieldOk
+  any-head e = rw (eq-eqb (f .tag) 1 e)
+
+  pub any-beside : (f .tag ≡ 1 → ⊥) → anyFieldOk call any f ≡ callFieldOk call f
+  unfolding anyFieldOk
+  any-beside n = rw (ne-eqb (f .tag) 1 n)
+
+  -- from the shape, the head and the snapshot
+  field-from : shaped (volumeShapes ++ requestShapes call) f ≡ true → (f .tag ≡ 1 → headTest call any (f .body) ≡ true)
+      → (KeyTag (f .tag) → snapshot0 (f .body) ≡ true) → anyFieldOk call any f ≡ true
+  unfolding headFieldOk callFieldOk
+  field-from s h z =
+      ⊎-elim
+      (λ e. any-head e ∙ both (eq-eqb (length (f .body)) 39 (shaped-head call f e s)) (h e))
+      (λ n. let k = shaped-beside call f n s in any-beside n ∙ both k (listed-field f (listed call f k) z))
+      (same-or (f .tag) 1)
+
+  module _ (h : anyFieldOk call any f ≡ true) where
+    field-shaped : shaped (volumeShapes ++ requestShapes call) f ≡ true
+    unfolding headFieldOk callFieldOk
+    field-shaped =
+        ⊎-elim
+        (λ e. shaped-first call f e (eqb-true (length (f .body)) 39 (and-left _ _ (sym (any-head e) ∙ h))))
+        (λ n. shaped-more call f (and-left (shaped (restShapes call) f) _ (sym (any-beside n) ∙ h)))
+        (same-or (f .tag) 1)
+
+    field-head : f .tag ≡ 1 → headTest call any (f .body) ≡ true
+    unfolding headFieldOk
+    field-head e = and-right (eqb (length (f .body)) 39) _ (sym (any-head e) ∙ h)
+
+    field-snapshot : (t : ℕ) → KeyTag t → f .tag ≡ t → snapshot0 (f .body) ≡ true
+    unfolding callFieldOk
+    field-snapshot t k e =
+        let b = key-tag-bounds t k in
+        sym (key-field f (rw e k)) ∙ and-right (shaped (restShapes call) f) _ (sym (any-beside (λ z. omega (arith, b .0))) ∙ h)
+
+module _ (call : ℕ) (any : Bool) (fs : List Field) where
+  laid-from : laidFields call any fs ≡ true → (allOf (anyFieldOk call any) fs && eqb (length (bodies 1 fs)) 1) ≡ true
+  unfolding callListOf
   laid-from h =
-      let p = laid-parts call any (f ∷ fs) h in
-      let w = laid-first call any f fs (p .shapes) (p .tags) (p .once) in
-      let q = laid-rest call any f fs (p .shapes) (w .tag) (p .once) in
-      let hb : firstBody (bodies 1 (f ∷ fs)) ≡ f .body = ap firstBody (bodies-here 1 f fs (w .tag)) in
-      let keysOf : (t : ℕ) → KeyTag t → (inOrder (ascends t) (bodies t (f ∷ fs)) && allOf snapshot0 (bodies t (f ∷ fs))) ≡ true
-      = λ t k. sym (tree-ok t (key-tag-bounds t k .1) (bodies t (f ∷ fs))) ∙ trees-all (f ∷ fs) (p .trees) t k in
-      let zeros = all-tail (snapshots-to (f ∷ fs) (λ t k. and-right (inOrder (ascends t) (bodies t (f ∷ fs))) _ (keysOf t k))) in
-      let ordered : (t : ℕ) → Tagged t → inOrder (ascends t) (bodies t fs) ≡ true
-      = λ t k.
-      less t f fs
-      (⊎-elim (λ k. and-left _ _ (keysOf t k))
-      (λ l.
-      ⊎-elim (λ e. rw e (sym (reserved-order (f ∷ fs)) ∙ p .buckets)) (λ n. trivial-order t l n (bodies t (f ∷ fs))) (same-or t 64))
-      k) in
-      let headed : headOk (headOf (f .body)) ≡ true = rw hb at (p .head) in
-      let named : (any || eqb (headOf (f .body) .call) call) ≡ true = rw hb at (p .named) in
+      let p = apart-laid (allOf (shaped (volumeShapes ++ requestShapes call)) fs) (eqb (length (bodies 1 fs)) 1)
+      (headOk (callListOf fs .volume .head)) (allTrees snapshotsOk (callListOf fs .volume .trees)) (any || eqb (callListOf fs .volume .head .call) call) h in
+      let one = eqb-true (length (bodies 1 fs)) 1 (p .once) in
+      let heads : allOf (headTest call any) (bodies 1 fs) ≡ true = one-body (headTest call any) (bodies 1 fs) one ∙ both (p .head) (p .named) in
       both
-      (both (both (eq-eqb (f .tag) 1 (w .tag)) (eq-eqb (length (f .body)) 39 (omega (arith, w .least, w .most))))
-      (both headed named))
-      (both
-      (all-test (callFieldOk call) (all-imp (λ g k. both (k .0) (listed-field g (listed call g (k .0)) (k .1))) (all-zip q zeros)))
-      (first-order f fs (w .tag) (all-imp (λ g k. listed-above (listed call g k)) q)
-      (order-to fs (all-imp (λ g k. listed-tagged (listed call g k)) q) (tags-tail f fs (p .tags)) ordered)))
+      (all-test (anyFieldOk call any)
+      (all-imp (λ f k. field-from call any f (k .0) (k .1 .0) (k .1 .1))
+      (all-zip (test-all (shaped (volumeShapes ++ requestShapes call)) fs (p .shapes))
+      (all-zip (bodies-all 1 (headTest call any) fs heads) (snapshots-to fs (trees-all fs (p .trees)))))))
+      (p .once)
 
-  laid-to :
-      (startsOk call any (f ∷ fs) && (allOf (callFieldOk call) fs && inOrder follows (f ∷ fs))) ≡ true
-      → laidFields call any (f ∷ fs) ≡ true
-  unfolding startsOk callFieldOk callListOf volumeShapes restShapes allOf
+  laid-to : (allOf (anyFieldOk call any) fs && eqb (length (bodies 1 fs)) 1) ≡ true → laidFields call any fs ≡ true
+  unfolding callListOf
   laid-to h =
-      let s = and-left (startsOk call any (f ∷ fs)) _ h in
-      let x = and-right (startsOk call any (f ∷ fs)) _ h in
-      let ord = and-right (allOf (callFieldOk call) fs) _ x in
-      let s1 = and-left (eqb (f .tag) 1 && eqb (length (f .body)) 39) _ s in
-      let s2 = and-right (eqb (f .tag) 1 && eqb (length (f .body)) 39) _ s in
-      let e : f .tag ≡ 1 = eqb-true (f .tag) 1 (and-left _ _ s1) in
-      let n : length (f .body) ≡ 39 = eqb-true (length (f .body)) 39 (and-right (eqb (f .tag) 1) _ s1) in
-      let q = test-all (callFieldOk call) fs (and-left _ _ x) in
-      let hb : firstBody (bodies 1 (f ∷ fs)) ≡ f .body = ap firstBody (bodies-here 1 f fs e) in
-      let others : bodies 1 fs ≡ []
-      = bodies-none 1 (all-imp (λ g k z. omega (arith, listed-above (listed call g (and-left (shaped (restShapes call) g) _ k)))) q) in
-      let once : bodies 1 (f ∷ fs) ≡ f .body ∷ [] = bodies-here 1 f fs e ∙ ap (λ (bs : List (List ℕ)). f .body ∷ bs) others in
-      let counted : eqb (length (bodies 1 (f ∷ fs))) 1 ≡ true = rw once in
-      let headed : headOk (headOf (firstBody (bodies 1 (f ∷ fs)))) ≡ true = rw hb (and-left _ _ s2) in
-      let named : (any || eqb (headOf (firstBody (bodies 1 (f ∷ fs))) .call) call) ≡ true
-      = rw hb (and-right (headOk (headOf (f .body))) _ s2) in
+      let q = test-all (anyFieldOk call any) fs (and-left _ _ h) in
+      let once = and-right (allOf (anyFieldOk call any) fs) _ h in
+      let one = eqb-true (length (bodies 1 fs)) 1 once in
+      let heads : headTest call any (firstBody (bodies 1 fs)) ≡ true =
+      sym (one-body (headTest call any) (bodies 1 fs) one) ∙ all-bodies 1 (headTest call any) (all-imp (field-head call any) q) in
       both
-      (both (both (shaped-first (restShapes call) f e n) (all-test (shaped (volumeShapes ++ requestShapes call)) (all-imp (λ g k. shaped-more (exactly 1 39) (restShapes call) g (and-left (shaped (restShapes call) g) _ k)) q)))
-      (both (follows-up-all (f ∷ fs) ord)
-      (both counted
-      (both headed
-      (both
-      (all-trees (f ∷ fs)
-      (λ t k.
-      tree-ok t (key-tag-bounds t k .1) (bodies t (f ∷ fs))
-      ∙ both (order-from t (f ∷ fs) ord)
-      (all-bodies t snapshot0
-      (more (λ z. absurd (omega (arith, key-tag-bounds t k .0)))
-      (all-imp (λ g j z. sym (key-field g (rw z k)) ∙ and-right (shaped (restShapes call) g) _ j) q)))))
-      (reserved-order (f ∷ fs) ∙ order-from 64 (f ∷ fs) ord))))))
-      named
+      (both (all-test (shaped (volumeShapes ++ requestShapes call)) (all-imp (field-shaped call any) q))
+      (both once
+      (both (and-left (headOk (headOf (firstBody (bodies 1 fs)))) _ heads)
+      (all-trees fs (λ t k. all-bodies t snapshot0 (all-imp (λ f g. field-snapshot call any f g t k) q))))))
+      (and-right (headOk (headOf (firstBody (bodies 1 fs)))) _ heads)
 
-  pub laid-is :
-      laidFields call any (f ∷ fs)
-      ≡ (startsOk call any (f ∷ fs) && (allOf (callFieldOk call) fs && inOrder follows (f ∷ fs)))
+  pub laid-is : laidFields call any fs ≡ (allOf (anyFieldOk call any) fs && eqb (length (bodies 1 fs)) 1)
   laid-is = same _ _ laid-from laid-to
 
-pub laid-none : (call : ℕ) (any : Bool) → laidFields call any [] ≡ false
-unfolding allOf tagsAscend inOrder bodies those
-laid-none call any = refl
+-- the layout of a list
+pub list-laid : (s : List ℕ) (call : ℕ) (any : Bool) → laidAs call any s ≡ (whole s && (allOf (anyFieldOk call any) (fields s) && eqb (length (bodies 1 (fields s))) 1))
+unfolding laidAs laidOut
+list-laid s call any = and-assoc (whole s) _ _ ∙ ap (λ (b : Bool). whole s && b) (laid-is call any (fields s))

@@ -14,10 +14,10 @@ pub mod OrderingLaws
 pub mod PieceLaws
 pub mod PlaceLaws
 pub mod RankLaws
-pub mod FirstFieldLaws
+pub mod BesideLaws
 pub mod ListRefusalLaws
-pub mod ReadingLaws
-pub mod ReadEndLaws
+pub mod SurveyLaws
+pub mod SurveyEndLaws
 pub mod ShapeLaws
 pub mod FieldRankLaws
 pub mod TableLaws

@@ -1,6 +1,6 @@
 -- The limits of a list, found field by field and rank by rank.
 use Prim.Native.Nat.{ℕ, _≤_}
-use mathlib.Core.Path.{_≡_, sym, _∙_}
+use mathlib.Core.Path.{_≡_, sym, _∙_, ap}
 use mathlib.Core.Logic.{inl, inr, ⊎-elim}
 use mathlib.Core.List.{List, map}
 use mathlib.Core.Bool.{true}
@@ -9,17 +9,20 @@ use lib.Dec.{leb}
 use borrow.Author.Tests.{eq-eqb, ne-eqb, le-leb, leb-true}
 use native.Mathlib.Omega.{arith}
 use Rattle.wire.specs.Fields.{Field}
-use Rattle.wire.specs.Keys.{keyOf}
-use Rattle.wire.specs.Kinds.{bucketRead, bucketInRange}
+use Rattle.wire.specs.Keys.{Key, keyOf}
+use Rattle.wire.specs.Kinds.{bucketRead, bucketBelow, bucketInRange}
+use Rattle.wire.specs.declared.kinds.Bucket.{Bucket}
 use Rattle.wire.specs.Bytes.{All}
 use Rattle.calls.specs.Lists.{allOf}
-use Rattle.calls.specs.CallList.{bodies, firstBody, headOf, treesOf, callListOf, pieceOf, freedOf}
+use Rattle.calls.specs.Sorting.{sortedBy}
+use Rattle.calls.specs.CallList.{CallList, bodies, firstBody, headOf, keysOf, sortedTrees, reservedOf, keyBelow, callListOf, pieceOf, freedOf}
 use Rattle.calls.specs.Limits.{fewKeys, countsOk, bucketsOk, volumeWithin, listWithin}
 use Rattle.reader.specs.CallFields.{headWithin, allocWithin, runWithin, waitingWithin, fieldWithin}
 use Rattle.reader.specs.Table.{rankOf, mostOf}
 use Rattle.calls.proofs.lists.BoolLaws.{both}
 use Rattle.calls.proofs.lists.AllLaws.{test-all, all-test, all-imp, all-zip}
-use Rattle.calls.proofs.lists.AllOfLaws.{all-of-map}
+use Rattle.calls.proofs.lists.AllOfLaws.{all-of-map, all-of-sorted}
+use Rattle.calls.proofs.lists.SortLaws.{length-sorted}
 use Rattle.reader.proofs.BoolLaws.{and-left, and-right}
 use Rattle.reader.proofs.ShapeLaws.{same-or}
 use Rattle.reader.proofs.ListLaws.{bodies-all, all-bodies}
@@ -48,15 +51,51 @@ few-of f n bs h = leb-true (length bs) n (rw length-map at h)
 of-few : {A : Type 0} (f : List ℕ → A) (n : ℕ) (bs : List (List ℕ)) → length bs ≤ n → leb (length (map f bs)) n ≡ true
 of-few f n bs h = rw length-map (le-leb (length bs) n h)
 
+-- what a list is read as, with its fields as they stand
+abbrev asStands : List Field → CallList
+asStands fs =
+    record {
+      volume =
+          record { head = headOf (firstBody (bodies 1 fs)); trees = keysOf fs; reserved = map bucketRead (bodies 64 fs) };
+      pieces = map pieceOf (bodies 65 fs);
+      releases = map freedOf (bodies 66 fs);
+    }
+
+-- its limits are those of what it is read as
+few-sorted : (ks : List Key) → fewKeys (sortedBy keyBelow ks) ≡ fewKeys ks
+unfolding fewKeys
+few-sorted ks = ap (λ (n : ℕ). leb n 4096) (length-sorted keyBelow ks)
+
+few-reserved : (bs : List Bucket) → leb (length (sortedBy bucketBelow bs)) 4096 ≡ leb (length bs) 4096
+few-reserved bs = ap (λ (n : ℕ). leb n 4096) (length-sorted bucketBelow bs)
+
+within-stands : (fs : List Field) → listWithin (callListOf fs) ≡ listWithin (asStands fs)
+unfolding listWithin volumeWithin countsOk bucketsOk callListOf sortedTrees keysOf reservedOf
+within-stands fs =
+    rw (
+      few-sorted (map keyOf (bodies 4 fs)),
+      few-sorted (map keyOf (bodies 10 fs)),
+      few-sorted (map keyOf (bodies 11 fs)),
+      few-sorted (map keyOf (bodies 12 fs)),
+      few-sorted (map keyOf (bodies 13 fs)),
+      few-sorted (map keyOf (bodies 14 fs)),
+      all-of-sorted allocWithin keyBelow (map keyOf (bodies 4 fs)),
+      all-of-sorted waitingWithin keyBelow (map keyOf (bodies 12 fs)),
+      all-of-sorted runWithin keyBelow (map keyOf (bodies 11 fs)),
+      few-reserved (map bucketRead (bodies 64 fs)),
+      all-of-sorted bucketInRange bucketBelow (map bucketRead (bodies 64 fs)),
+    )
+
 pub within-parts : (fs : List Field) → listWithin (callListOf fs) ≡ true → FieldsWithin fs
-unfolding listWithin volumeWithin countsOk fewKeys bucketsOk callListOf treesOf
-within-parts fs h =
-    let v = and-left (volumeWithin (callListOf fs .volume)) _ h in
-    let r = and-right (volumeWithin (callListOf fs .volume)) _ h in
-    let n = and-left (countsOk (treesOf fs)) _ v in
-    let v1 = and-right (countsOk (treesOf fs)) _ v in
-    let b = and-left (bucketsOk (treesOf fs)) _ v1 in
-    let v2 = and-right (bucketsOk (treesOf fs)) _ v1 in
+unfolding listWithin volumeWithin countsOk fewKeys bucketsOk keysOf
+within-parts fs k =
+    let h = sym (within-stands fs) ∙ k in
+    let v = and-left (volumeWithin (asStands fs .volume)) _ h in
+    let r = and-right (volumeWithin (asStands fs .volume)) _ h in
+    let n = and-left (countsOk (keysOf fs)) _ v in
+    let v1 = and-right (countsOk (keysOf fs)) _ v in
+    let b = and-left (bucketsOk (keysOf fs)) _ v1 in
+    let v2 = and-right (bucketsOk (keysOf fs)) _ v1 in
     let v3 = and-right (leb (length (map bucketRead (bodies 64 fs))) 4096) _ v2 in
     let n1 = and-right (leb (length (map keyOf (bodies 4 fs))) 4096) _ n in
     let n2 = and-right (leb (length (map keyOf (bodies 10 fs))) 4096) _ n1 in
@@ -84,9 +123,10 @@ within-parts fs h =
     }
 
 pub parts-within : (fs : List Field) → FieldsWithin fs → listWithin (callListOf fs) ≡ true
-unfolding listWithin volumeWithin countsOk fewKeys bucketsOk callListOf treesOf
+unfolding listWithin volumeWithin countsOk fewKeys bucketsOk keysOf
 parts-within fs w =
-    both
+    within-stands fs
+    ∙ both
     (both
     (both (of-few keyOf 4096 (bodies 4 fs) (w .alloc))
     (both (of-few keyOf 4096 (bodies 10 fs) (w .lru))

@@ -10,7 +10,8 @@ use native.Mathlib.Omega.{arith}
 use Rattle.wire.specs.Fields.{Field}
 use Rattle.wire.specs.Bytes.{All, none, more}
 use Rattle.calls.specs.Lists.{allOf, those, inOrder}
-use Rattle.calls.specs.CallList.{bodies, tagsAscend}
+use Rattle.calls.specs.CallList.{bodies}
+use Rattle.calls.specs.ChangeList.{tagsAscend}
 use Rattle.calls.proofs.lists.BoolLaws.{both}
 use Rattle.calls.proofs.lists.AllLaws.{all-imp}
 use Rattle.reader.proofs.BoolLaws.{and-left, and-right}

@@ -7,4 +7,5 @@ pub mod keys;
 pub mod limits;
 pub mod order;
 pub mod piece;
+pub mod survey;
 pub mod table;

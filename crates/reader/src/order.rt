@@ -1,4 +1,4 @@
-// The fields after field 1: each by itself, and after the one before it.
+// The fields beside field 1: each by itself, and in order after the one before it.
 ghost use mathlib.Core.Path.{_≡_};
 ghost use mathlib.Core.Bool.{_&&_};
 ghost use Prim.Native.Nat.{_+_, _≤_};
@@ -12,7 +12,7 @@ use wire::bpos;
 use wire::keys as wire_keys;
 use wire::kinds;
 
-// Whether a field after field 1 may stand in a call's list. A field's length shows the bound.
+// Whether a field beside field 1 may stand in a call's list. A field's length shows the bound.
 pub fn field_ok(s: &[u8], call: u8, tag: u8, start: usize, len: usize) -> bool
     requires { ⌜ start + len ≤ length (now s) ⌝ }
     ensures { λ r. ⌜ r ≡ callFieldOk call (fieldAt (now (s .entry)) tag start len) ⌝ }
@@ -54,9 +54,9 @@ fn ascends(s: &[u8], tag: u8, before: usize, start: usize) -> bool
     true
 }
 
-// Whether a field may stand after another. Its length, and that of the field before, show the bounds.
-pub fn follows(s: &[u8], last: u8, before: usize, tag: u8, start: usize) -> bool
-    requires { ⌜ (before + leastOf last ≤ length (now s)) × (start + leastOf tag ≤ length (now s)) ⌝ }
+// Whether a field stands in order after another. Its length, and that of a field before with its tag, show the bounds here and below.
+fn follows(s: &[u8], last: u8, before: usize, tag: u8, start: usize) -> bool
+    requires { ⌜ (last ≡ tag → before + leastOf tag ≤ length (now s)) × (start + leastOf tag ≤ length (now s)) ⌝ }
     ensures { λ r. ⌜ r ≡ specs.follows (fieldFrom (now (s .entry)) last before) (fieldFrom (now (s .entry)) tag start) ⌝ }
 {
     if last < tag {
@@ -66,4 +66,22 @@ pub fn follows(s: &[u8], last: u8, before: usize, tag: u8, start: usize) -> bool
         return false;
     }
     ascends(s, tag, before, start)
+}
+
+// Whether fields that were in order stay so with one more.
+pub fn stays_ordered(
+    s: &[u8],
+    ordered: bool,
+    last: u8,
+    before: usize,
+    tag: u8,
+    start: usize,
+) -> bool
+    requires { ⌜ (last ≡ tag → before + leastOf tag ≤ length (now s)) × (start + leastOf tag ≤ length (now s)) ⌝ }
+    ensures { λ r. ⌜ r ≡ (ordered && specs.follows (fieldFrom (now (s .entry)) last before) (fieldFrom (now (s .entry)) tag start)) ⌝ }
+{
+    if !ordered {
+        return false;
+    }
+    follows(s, last, before, tag, start)
 }

@@ -1,10 +1,11 @@
 -- A test of every element of a list, or of some element.
 use mathlib.Core.Path.{_≡_, refl, ap, sym, _∙_}
-use mathlib.Core.Bool.{Bool, true, false, _&&_, _||_}
+use mathlib.Core.Bool.{Bool, true, false, _&&_, _||_, cond}
 use mathlib.Core.List.{List, [], _∷_, _++_, map}
 use Prim.Native.Nat.{ℕ, zero, suc, _≤_}
 use lib.ListN.{length, drop, drop-of-length-le}
 use Rattle.calls.specs.Lists.{allOf, anyOf}
+use Rattle.calls.specs.Sorting.{insert, into, sortedBy}
 use Rattle.calls.proofs.lists.BoolLaws.{both, parts}
 
 -- every element: the first one and the rest
@@ -66,3 +67,25 @@ module _ {A : Type 0} (t : A → Bool) where
   unfolding anyOf
   any-of-fails [] h = refl
   any-of-fails (x ∷ l) h = rw (h x, any-of-fails l h)
+
+-- of a sorted list
+module _ {A : Type 0} (t : A → Bool) (less : A → A → Bool) where
+  all-of-insert : (x : A) (l : List A) → allOf t (insert less x l) ≡ (t x && allOf t l)
+  unfolding allOf insert
+  all-of-insert x [] = refl
+  all-of-insert x (y ∷ l) = go (less y x) (all-of-insert x l)
+    where
+      go : (b : Bool) → allOf t (insert less x l) ≡ (t x && allOf t l)
+          → allOf t (cond b (y ∷ insert less x l) (x ∷ y ∷ l)) ≡ (t x && (t y && allOf t l))
+      go true ih = ap (λ (b : Bool). t y && b) ih ∙ swap (t y) (t x)
+        where
+          swap : (a b : Bool) → (a && (b && allOf t l)) ≡ (b && (a && allOf t l))
+          swap true b = refl
+          swap false true = refl
+          swap false false = refl
+      go false ih = refl
+
+  pub all-of-sorted : (xs : List A) → allOf t (sortedBy less xs) ≡ allOf t xs
+  unfolding allOf into
+  all-of-sorted [] = refl
+  all-of-sorted (x ∷ xs) = all-of-insert x (sortedBy less xs) ∙ ap (λ (b : Bool). t x && b) (all-of-sorted xs)

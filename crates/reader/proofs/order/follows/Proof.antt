@@ -1,8 +1,7 @@
 -- `follows` meets its contract.
 use native.Mathlib.Omega.{arith}
-use mathlib.Core.Path.{_≡_, sym, _∙_, ap}
+use mathlib.Core.Path.{_≡_, sym, _∙_}
 use denote.Ref.{now}
-use Rattle.reader.specs.CallFields.{leastOf}
 use Rattle.reader.proofs.OrderingLaws.{follows-more, follows-less, follows-same}
 use Rattle.reader.proofs.order.follows.Statement.{statement}
 use Rattle.reader.proofs.order.follows.Tie as tie
@@ -24,7 +23,7 @@ tags c = omega (arith, c .if2 .left, c .before .if1 .left)
 ascends-requires : tie.Need-ascends-requires
 ascends-requires c κs =
     let p = c .before .before .before .pre in
-    (rw (ap leastOf (tags c)) at (p .0), p .1)
+    (p .0 (tags c), p .1)
 
 returns-3 : tie.Need-returns-3
 returns-3 c =

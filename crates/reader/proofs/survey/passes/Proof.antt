@@ -5,8 +5,8 @@ use borrow.Author.Needs.{needs}
 use borrow.Author.Tests.{not-true, not-false}
 use Rattle.reader.proofs.FieldRankLaws.{rank-below}
 use Rattle.reader.proofs.TableLaws.{passed-limit, passed-noted}
-use Rattle.reader.proofs.call.passes.Statement.{statement}
-use Rattle.reader.proofs.call.passes.Tie as tie
+use Rattle.reader.proofs.survey.passes.Statement.{statement}
+use Rattle.reader.proofs.survey.passes.Tie as tie
 
 -- the call's start
 abbrev start : tie.After-field-within → tie.Start

@@ -1,0 +1,36 @@
+-- What one pass over a list finds: that it breaks the layout; or where field 1 stands, whether a limit is passed, and whether its fields are in order.
+use Prim.Native.Nat.{ℕ, _+_, _≤_}
+use mathlib.Core.Path.{_≡_}
+use mathlib.Core.Bool.{Bool, true, false}
+use mathlib.Core.List.{List}
+use lib.ListN.{length, take, drop}
+use Rattle.calls.specs.CallList.{headOf, noneTwice}
+use Rattle.calls.specs.Limits.{listWithin}
+use Rattle.calls.specs.Answers.{readCall, readVolume}
+use Rattle.reader.specs.CallFields.{headWithin}
+use Rattle.reader.specs.Table.{rankEnd, endsIn, Indexed, Ended}
+use Rattle.reader.specs.Readings.{laidAs}
+use Rattle.reader.specs.declared.survey.Pass.{Pass}
+use Rattle.reader.specs.declared.survey.Pass.the-variants.{Broken, Laid}
+
+-- fields within the limits, but for the head's: they are counted, and where they are in order the table has their places
+pub record Counted (call : ℕ) (s counts index : List ℕ) : Type 0 where
+  pub within : headWithin (readVolume s .head) ≡ true → listWithin (readCall s) ≡ true
+  pub ends : Ended call s index (endsIn counts)
+  pub fits : rankEnd counts 8 ≤ 29696
+  pub short : length s ≤ 0xffff_ffff
+
+-- a list that is laid out: the body of field 1 starts at `head`; `over` tells that a limit beside the head's is passed, `ordered` that the fields
+-- beside field 1 ascend
+pub record LaidFound (call : ℕ) (any : Bool) (s counts index : List ℕ) (head : ℕ) (over ordered : Bool) : Type 0 where
+  pub laid : laidAs call any s ≡ true
+  pub inside : head + 39 ≤ length s
+  pub first : headOf (take 39 (drop head s)) ≡ readVolume s .head
+  pub past : over ≡ true → listWithin (readCall s) ≡ false
+  pub counted : over ≡ false → Counted call s counts index
+  pub once : ordered ≡ true → noneTwice (readVolume s) ≡ true
+  pub table : ordered ≡ true → over ≡ false → Indexed call s index (endsIn counts)
+
+abbrev pub Surveyed : ℕ → Bool → List ℕ → List ℕ → List ℕ → Pass → Type 0
+Surveyed call any s counts index Broken = laidAs call any s ≡ false
+Surveyed call any s counts index (Laid head over ordered) = LaidFound call any s counts index head over ordered

@@ -1,0 +1,114 @@
+// One pass over a call list or a volume: its layout, its limits, whether its fields are in order, and where they stand.
+ghost use mathlib.Core.Path.{_≡_};
+ghost use mathlib.Core.List.{[], _∷_};
+ghost use mathlib.Core.Bool.{false};
+ghost use Prim.Native.Nat.{_+_, _≤_};
+ghost use lib.ListN.{length, take, drop};
+ghost use Rattle.reader.specs.CallFields.{headFieldOk, leastOf};
+ghost use Rattle.reader.specs.Table.{rankOf, Free, FieldNoted, Fits};
+ghost use Rattle.reader.specs.Surveyed.{Surveyed};
+use crate::head;
+use crate::limits;
+use crate::order;
+use crate::table;
+use wire::fields;
+use wire::fields::NextField;
+
+// What the pass finds.
+pub enum Pass {
+    // The list breaks the layout.
+    Broken,
+    // It keeps it: where the body of field 1 starts, whether a limit beside the head's is passed, whether the other fields are in order.
+    Laid {
+        head: usize,
+        over: bool,
+        ordered: bool,
+    },
+}
+
+// Whether a field 1 is one of this call, or of any. A field's length shows the bound.
+fn head_field_ok(s: &[u8], call: u8, any: bool, start: usize, len: usize) -> bool
+    requires { ⌜ start + len ≤ length (now s) ⌝ }
+    ensures { λ r. ⌜ r ≡ headFieldOk call any (take len (drop start (now (s .entry)))) ⌝ }
+{
+    if len != 39 {
+        return false;
+    }
+    let first = head::read_head(s, start);
+    if !head::head_ok(first) {
+        return false;
+    }
+    if any {
+        return true;
+    }
+    first.call == call
+}
+
+// Whether a limit is passed, now or before: else the field's place is noted behind n others. The length that its tag asks shows the bound.
+fn passes(
+    s: &[u8],
+    over: bool,
+    tag: u8,
+    start: usize,
+    n: usize,
+    counts: &mut [usize; 8],
+    index: &mut [u32],
+) -> bool
+    requires { ⌜ (start + leastOf tag ≤ length (now s)) × (over ≡ false → Free (now counts) (rankOf tag) n (now index)) ⌝ }
+    ensures { λ r. ⌜ FieldNoted (now (s .entry)) over tag start n (now (counts .entry)) (now (counts .exit)) (now (index .entry)) (now (index .exit)) r ⌝ }
+{
+    if over {
+        return true;
+    }
+    if !limits::field_within(s, tag, start) {
+        return true;
+    }
+    let noted = table::note(counts, index, table::rank_of(tag), n, start);
+    !noted
+}
+
+// The pass over a list of a call, or with `any` of whatever call its head names. Counts of 0 and the table that is lent show the bounds.
+pub fn survey(s: &[u8], call: u8, any: bool, counts: &mut [usize; 8], index: &mut [u32]) -> Pass
+    requires { ⌜ Fits (now s) (now index) × (now counts ≡ 0 ∷ 0 ∷ 0 ∷ 0 ∷ 0 ∷ 0 ∷ 0 ∷ 0 ∷ []) ⌝ }
+    ensures { λ r. ⌜ Surveyed call any (now (s .entry)) (now (counts .exit)) (now (index .exit)) r ⌝ }
+{
+    let mut head: usize = 0;
+    let mut over = false;
+    let mut ordered = true;
+    let mut last: u8 = 0;
+    let mut before: usize = 0;
+    let mut at: usize = 0;
+    let mut n: usize = 0;
+    while at < s.len() {
+        let NextField::Found { tag, start, len } = fields::next_field(s, at) else {
+            return Pass::Broken;
+        };
+        at = start + len;
+        if tag == 1 {
+            if head != 0 {
+                return Pass::Broken;
+            }
+            if !head_field_ok(s, call, any, start, len) {
+                return Pass::Broken;
+            }
+            head = start;
+        } else {
+            if !order::field_ok(s, call, tag, start, len) {
+                return Pass::Broken;
+            }
+            ordered = order::stays_ordered(s, ordered, last, before, tag, start);
+            over = passes(s, over, tag, start, n, counts, index);
+            last = tag;
+            before = start;
+            n += 1;
+        }
+    }
+    if head == 0 {
+        return Pass::Broken;
+    }
+    Pass::Laid {
+        head,
+        over,
+        ordered,
+    }
+}
