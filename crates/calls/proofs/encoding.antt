@@ -2,7 +2,9 @@
 pub mod Blocks
 pub mod FieldBytes
 pub mod TreeFields
+pub mod OftenLaws
 pub mod KeyFitsLaws
+pub mod HeadTrip
 pub mod VolumeTrip
 pub mod ChangeTrip
 pub mod ApplyLaws

@@ -1,7 +1,7 @@
 -- Fields in blocks, one for each tag: the bodies by tag, the order, and any list in order of tags as its blocks.
 use mathlib.Core.Path.{_≡_, refl, ap, sym, _∙_}
 use mathlib.Core.Bool.{Bool, true, false, not, _&&_, _||_, cond, false≢true, or-true}
-use mathlib.Core.List.{List, [], _∷_, _++_, map}
+use mathlib.Core.List.{List, [], _∷_, _++_, map, append-assoc}
 use Prim.Native.Nat.{ℕ, _≤_, _<_}
 use native.Mathlib.Omega.{arith}
 use lib.Dec.{leb, ltb, eqb}
@@ -15,7 +15,7 @@ use Rattle.calls.specs.Lists.{allOf, those, inOrder}
 use Rattle.calls.specs.CallList.{Shape, shaped, bodies}
 use Rattle.calls.specs.ChangeList.{tagsAscend}
 use Rattle.calls.proofs.lists.AllLaws.{all-imp, all-each, all-map, test-all}
-use Rattle.calls.proofs.lists.BoolLaws.{both, parts, or-map, cond-same}
+use Rattle.calls.proofs.lists.BoolLaws.{clash, both, parts, or-map, cond-same}
 
 -- blocks
 
@@ -38,6 +38,13 @@ pub flat-all : {P : Field → Type 0} {ks : List Block} → All (InBlock P) ks �
 unfolding flat
 flat-all none = none
 flat-all (more {a = k} h r) = all-append (all-map (field (k .tag)) h) (flat-all r)
+
+pub flat-append : (ks js : List Block) → flat (ks ++ js) ≡ flat ks ++ flat js
+unfolding flat
+flat-append [] js = refl
+flat-append (k ∷ ks) js =
+    ap (λ (l : List Field). map (field (k .tag)) (k .has) ++ l) (flat-append ks js)
+    ∙ sym (append-assoc (map (field (k .tag)) (k .has)) (flat ks) (flat js))
 
 -- a test of the tags: at numerals it computes
 pub flat-tags : (p : ℕ → Bool) (ks : List Block) → allOf (λ k. p (k .tag)) ks ≡ true → All (λ f. p (f .tag) ≡ true) (flat ks)
@@ -114,6 +121,21 @@ bodies-all {P} t (more {a = f} {s = fs} h r) = rw (bodies-cons t f fs) (go (eqb 
         → All (λ x. P (field t x)) (cond b (f .body ∷ bodies t fs) (bodies t fs))
     go true e q = more {a = f .body} (rw (← eqb-true (f .tag) t e) h) q
     go false e q = q
+
+-- a choice that takes every field with a tag keeps their bodies
+pub bodies-those : (keep : Field → Bool) (t : ℕ) → ((f : Field) → f .tag ≡ t → keep f ≡ true) → (fs : List Field) → bodies t (those keep fs) ≡ bodies t fs
+unfolding bodies those
+bodies-those keep t h [] = refl
+bodies-those keep t h (f ∷ fs) = go (eqb (f .tag) t) refl (keep f) refl (bodies-those keep t h fs)
+  where
+    go : (b : Bool) → eqb (f .tag) t ≡ b → (k : Bool) → keep f ≡ k
+        → map (λ g. g .body) (those (λ g. eqb (g .tag) t) (those keep fs)) ≡ map (λ g. g .body) (those (λ g. eqb (g .tag) t) fs)
+        → map (λ g. g .body) (those (λ g. eqb (g .tag) t) (cond k (f ∷ those keep fs) (those keep fs)))
+        ≡ map (λ g. g .body) (cond b (f ∷ those (λ g. eqb (g .tag) t) fs) (those (λ g. eqb (g .tag) t) fs))
+    go true e true d ih = rw e (ap (λ (l : List (List ℕ)). f .body ∷ l) ih)
+    go true e false d ih = absurd (clash (h f (eqb-true (f .tag) t e)) d)
+    go false e true d ih = rw e ih
+    go false e false d ih = ih
 
 -- order
 

@@ -9,7 +9,7 @@ use Rattle.wire.specs.Keys.{Key, keyOf}
 use Rattle.wire.specs.Encode.{keyBody}
 use Rattle.wire.specs.Bytes.{All, none, more}
 use Rattle.wire.proofs.RoundTrip.{key-back, body-again}
-use Rattle.calls.specs.CallList.{Trees, Shape, bodies, treesOf}
+use Rattle.calls.specs.CallList.{Trees, Shape, bodies, keysOf}
 use Rattle.calls.proofs.lists.AllLaws.{all-imp, all-map, map-back}
 use Rattle.calls.proofs.encoding.Blocks.{Block, field, flat, InBlock, hasOf, bodies-flat, bodies-all, gather, FieldSound, takes, shaped-in, keeps, shaped-out}
 use Rattle.calls.proofs.encoding.FieldBytes.{Storable, key-length, key-bytes, key-storable}
@@ -73,8 +73,8 @@ pub trees-back :
     → hasOf 12 ks ≡ map keyBody (t .needDiscard) ++ []
     → hasOf 13 ks ≡ map keyBody (t .backpointers) ++ []
     → hasOf 14 ks ≡ map keyBody (t .gens) ++ []
-    → treesOf (flat ks) ≡ t
-unfolding treesOf
+    → keysOf (flat ks) ≡ t
+unfolding keysOf
 trees-back ks h a b c d e f =
     λ i.
     record {
@@ -98,8 +98,8 @@ module _ {ss : List Shape} {fs : List Field} (h : All (FieldSound ss) fs) where
       map-back keyOf keyBody
       (all-imp (λ b s. body-again (s .bytes) (shaped-out t 37 293 ss b e (s .shape) .0)) (bodies-all t h))
 
-  pub trees-read : All (λ t. keeps t 37 293 ss ≡ true) treeTags → TreesFit (treesOf fs)
-  unfolding treesOf
+  pub trees-read : All (λ t. keeps t 37 293 ss ≡ true) treeTags → TreesFit (keysOf fs)
+  unfolding keysOf
   trees-read (more a (more b (more c (more d (more e (more f none)))))) =
       record {
         alloc = keys-read 4 a;
@@ -110,8 +110,8 @@ module _ {ss : List Shape} {fs : List Field} (h : All (FieldSound ss) fs) where
         gens = keys-read 14 f;
       }
 
-  pub trees-again : (ts : List ℕ) → All (λ t. keeps t 37 293 ss ≡ true) treeTags → gather (treeTags ++ ts) fs ≡ treeBlocks (treesOf fs) ++ gather ts fs
-  unfolding treesOf
+  pub trees-again : (ts : List ℕ) → All (λ t. keeps t 37 293 ss ≡ true) treeTags → gather (treeTags ++ ts) fs ≡ treeBlocks (keysOf fs) ++ gather ts fs
+  unfolding keysOf
   trees-again ts (more a (more b (more c (more d (more e (more f none)))))) =
       λ i.
       record { tag = 4; has = sym (keys-again 4 a) i }

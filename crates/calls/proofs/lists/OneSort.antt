@@ -16,18 +16,20 @@ use Rattle.calls.proofs.lists.ThoseLaws.{those-never}
 use Rattle.calls.proofs.lists.TwiceLaws.{asc-below, twice-ascends}
 use Rattle.calls.proofs.lists.WeakLaws.{lt-le}
 
+-- what holds of each element holds of one that is counted
+module _ {A : Type 0} {eq : A → A → Bool} (q : Equality eq) where
+  pub counted : {P : A → Type 0} (z : A) {xs : List A} → All P xs → 0 < count (eq z) xs → P z
+  unfolding total
+  counted z none h = absurd (omega arith)
+  counted {P} z (more {a = x} {s = xs} p r) h = go (eq z x) refl h (counted z r)
+    where
+      go : (t : Bool) → eq z x ≡ t → 0 < one t + count (eq z) xs → (0 < count (eq z) xs → P z) → P z
+      go true e h ih = rw (q .sound z x e) p
+      go false e h ih = ih (omega arith)
+
 module _ {A : Type 0} {less : A → A → Bool} (w : Weak less) where
   -- lists in which every element stands as often, no position twice, have one sort
   module _ {eq : A → A → Bool} (q : Equality eq) where
-    counted : {P : A → Type 0} (z : A) {xs : List A} → All P xs → 0 < count (eq z) xs → P z
-    unfolding total
-    counted z none h = absurd (omega arith)
-    counted {P} z (more {a = x} {s = xs} p r) h = go (eq z x) refl h (counted z r)
-      where
-        go : (t : Bool) → eq z x ≡ t → 0 < one t + count (eq z) xs → (0 < count (eq z) xs → P z) → P z
-        go true e h ih = rw (q .sound z x e) p
-        go false e h ih = ih (omega arith)
-
     counts-first : (x : A) (xs : List A) → 0 < count (eq x) (x ∷ xs)
     unfolding total
     counts-first x xs = rw (q .whole x) (omega arith)
@@ -44,7 +46,7 @@ module _ {A : Type 0} {less : A → A → Bool} (w : Weak less) where
         go false e false f =
             let first : 0 < count (eq y) xs = omega (arith, rw f at (c y), counts-first y ys) in
             let second : 0 < count (eq x) ys = omega (arith, rw e at (c x), counts-first x xs) in
-            absurd (clash (counted y up first) (counted x down second))
+            absurd (clash (counted q y up first) (counted q x down second))
 
     -- an ascending list and an ordered one
     pub one-order : (xs ys : List A) → inOrder less xs ≡ true → Rising less ys → ((z : A) → count (eq z) xs ≡ count (eq z) ys) → xs ≡ ys

@@ -7,18 +7,19 @@ use Prim.Native.Nat.{ℕ, _^_, _<_}
 use native.Mathlib.Omega.{arith}
 use lib.Dec.{ltb, eqb}
 use lib.ListN.{length, getD}
-use Rattle.wire.specs.Keys.{Key}
+use Rattle.wire.specs.Keys.{Key, keyOf}
 use Rattle.wire.specs.Positions.{gensAt, gensByte}
 use Rattle.wire.specs.declared.kinds.Bucket.{Bucket}
 use Rattle.wire.specs.Bytes.{All, Bytes}
 use Rattle.wire.proofs.NumberLaws.{all-drop, bytes-at, le-bound}
 use Rattle.format.specs.Gens.{genIn}
 use Rattle.calls.specs.Lists.{fromOption}
-use Rattle.calls.specs.CallList.{Piece, pieceOf, headOf, treesOf, firstBody, callListOf}
+use Rattle.calls.specs.CallList.{Piece, pieceOf, headOf, keysOf, keyBelow, sortedTrees, firstBody, callListOf}
 use Rattle.calls.specs.Trees.{lookup}
 use Rattle.calls.specs.Generations.{found, tooShort, ofType30, genRecord, foundIn, genLookup, orZero, genOf}
 use Rattle.calls.specs.Answers.{readCall}
 use Rattle.calls.proofs.lists.AllLaws.{all-imp, all-map}
+use Rattle.calls.proofs.lists.SortLaws.{all-sorted}
 use Rattle.calls.proofs.encoding.KeyFitsLaws.{bodies-bytes}
 use Rattle.calls.proofs.trees.TreeLaws.{lookup-all}
 
@@ -61,8 +62,8 @@ module _ {s : List ℕ} (r : Bytes s) where
   pieces-fit = all-map pieceOf (all-imp (λ b k. piece-fits k) (bodies-bytes 65 r))
 
   gens-bytes : All (λ k. Bytes (k .value)) (readCall s .volume .trees .gens)
-  unfolding callListOf treesOf
-  gens-bytes = all-map _ (all-imp (λ b k. all-drop 37 k) (bodies-bytes 14 r))
+  unfolding callListOf keysOf sortedTrees
+  gens-bytes = all-sorted keyBelow (all-map keyOf (all-imp (λ b k. all-drop 37 k) (bodies-bytes 14 r)))
 
   pub gens-small : (b : Bucket) → genOf (readCall s .volume .trees .gens) b < 256
   unfolding genOf genLookup genRecord

@@ -23,7 +23,7 @@ use Rattle.format.specs.AllocV4.{flags, gen, oldestGen, dataType, stripeRedunda
 use Rattle.format.specs.Gens.{withGen, noGens}
 use Rattle.format.proofs.AllocLaws.{next-low}
 use Rattle.calls.specs.Lists.{those, total, fromOption, isEmpty}
-use Rattle.calls.specs.CallList.{Volume, Freed, freedOf, callLaidOut, callListOf}
+use Rattle.calls.specs.CallList.{Volume, Freed, freedOf, callLaidOut, callListOf, noneTwice}
 use Rattle.calls.specs.Limits.{listWithin}
 use Rattle.calls.specs.Trees.{lookup, newKey}
 use Rattle.calls.specs.Generations.{genRecord, genKey, genQueued}
@@ -32,7 +32,7 @@ use Rattle.calls.specs.Accounting.{countedRows}
 use Rattle.calls.specs.Refusals.{verdict}
 use Rattle.calls.specs.Place.{rootMissing}
 use Rattle.calls.specs.Release.{freedOk, freedBuckets, freedIn, allocValue, dirtyAt, isEmptied, releaseTests, releasedKey, releasedLru, emptiedGen, gensQueued, unusedChange, releaseRows, releaseBatch}
-use Rattle.calls.specs.Answers.{readCall}
+use Rattle.calls.specs.Answers.{readCall, readVolume}
 use Rattle.calls.proofs.lists.AllLaws.{all-imp, all-each, all-map, all-those, test-all, all-flat}
 use Rattle.calls.proofs.lists.ThoseLaws.{those-length}
 use Rattle.calls.proofs.lists.BoolLaws.{parts, cond-most}
@@ -287,11 +287,11 @@ module _ (v : Volume) (rs : List Freed) (f : VolumeFits v) (ok : VolumeOk v) (fi
   )
 
 pub release-fits :
-    {s : List ℕ} → Bytes s → callLaidOut 2 s ≡ true → listWithin (readCall s) ≡ true
+    {s : List ℕ} → Bytes s → callLaidOut 2 s ≡ true → noneTwice (readVolume s) ≡ true → listWithin (readCall s) ≡ true
     → let c = readCall s in
     verdict (releaseTests (c .volume) (c .releases)) ≡ 0
     → BatchFits (releaseBatch (c .volume) (c .releases)) × BatchOk (releaseBatch (c .volume) (c .releases))
-release-fits {s} r h l p =
+release-fits {s} r h o l p =
     let c = readCall s in
-    let f = call-fits 2 r h in
+    let f = call-fits 2 r h o in
     volume-release-fits (c .volume) (c .releases) (f .0) (f .1) (releases-fit r) (list-within c l .2) p
