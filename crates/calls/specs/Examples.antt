@@ -159,16 +159,16 @@ holding tree ks reserved =
       reserved = reserved;
     }
 
--- two pieces of descending size on forty free buckets, of which two are reserved
-abbrev pub twoPieces : List ℕ
-twoPieces = placing (volumeFor (headFor 1 1) (elsewhere 9 ∷ []) (run 40 40 ∷ []) [] (bucket 3 ∷ bucket 4 ∷ [])) (plain 96 ∷ plain 64 ∷ [])
+-- forty free buckets, of which two are reserved, and an alloc key
+abbrev pub twoReserved : Volume
+twoReserved = volumeFor (headFor 1 1) (elsewhere 9 ∷ []) (run 40 40 ∷ []) [] (bucket 3 ∷ bucket 4 ∷ [])
 
--- the same with the alloc key, both pieces, reserved buckets and run in the opposite order, and field 1 last
+-- two pieces of descending size on it; and the same behind both pieces and in the opposite order, with field 1 last
+abbrev pub twoPieces : List ℕ
+twoPieces = placing twoReserved (plain 96 ∷ plain 64 ∷ [])
+
 abbrev pub twoPiecesShuffled : List ℕ
-twoPiecesShuffled =
-    encode
-    (pieceField (plain 96) ∷ pieceField (plain 64)
-    ∷ backwards (volumeFields (volumeFor (headFor 1 1) (elsewhere 9 ∷ []) (run 40 40 ∷ []) [] (bucket 3 ∷ bucket 4 ∷ []))))
+twoPiecesShuffled = encode (map pieceField (plain 96 ∷ plain 64 ∷ []) ++ backwards (volumeFields twoReserved))
 
 -- the placement of P case 1: forty free buckets of 128 sectors, stored 96, 96 and 64
 abbrev pub threePieces : Answer
