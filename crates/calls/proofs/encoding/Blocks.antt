@@ -1,7 +1,7 @@
--- Fields in blocks, one for each tag: the bodies by tag, the order, and any list in order of tags as its blocks.
+-- Fields in blocks, one for each tag: the bodies by tag, the order and the shapes.
 use mathlib.Core.Path.{_≡_, refl, ap, sym, _∙_}
 use mathlib.Core.Bool.{Bool, true, false, not, _&&_, _||_, cond, false≢true, or-true}
-use mathlib.Core.List.{List, [], _∷_, _++_, map, append-assoc}
+use mathlib.Core.List.{List, [], _∷_, _++_, map, append-assoc, append-nil}
 use Prim.Native.Nat.{ℕ, _≤_, _<_}
 use native.Mathlib.Omega.{arith}
 use lib.Dec.{leb, ltb, eqb}
@@ -75,15 +75,6 @@ module _ (p : ℕ → Bool) where
       go : (e : Bool) (x y : List Field) → cond e (field s b ∷ cond e x y) (cond e x y) ≡ cond e (field s b ∷ x) y
       go true x y = refl
       go false x y = refl
-
-  pub chosen-flat : (ks : List Block) → chosen (flat ks) ≡ flat (those (λ k. p (k .tag)) ks)
-  unfolding those flat
-  chosen-flat [] = refl
-  chosen-flat (k ∷ ks) = rw (chosen-block (k .tag) (k .has) (flat ks), chosen-flat ks) (go (p (k .tag)) (those (λ j. p (j .tag)) ks))
-    where
-      go : (e : Bool) (js : List Block) → cond e (map (field (k .tag)) (k .has) ++ flat js) (flat js) ≡ flat (cond e (k ∷ js) js)
-      go true js = refl
-      go false js = refl
 
 body-block : (s : ℕ) (bs : List (List ℕ)) (r : List Field) → map (λ f. f .body) (map (field s) bs ++ r) ≡ bs ++ map (λ f. f .body) r
 body-block s [] r = refl
@@ -183,33 +174,7 @@ ascend-flat t (k ∷ ks) h =
 pub flat-order : (ks : List Block) → tagsUp 0 ks ≡ true → tagsAscend (flat ks) ≡ true
 flat-order ks h = ascend-order 0 (flat ks) (ascend-flat 0 ks h)
 
--- a list in order of its tags is its blocks
-
--- a block for each tag of some
-abbrev pub gather : List ℕ → List Field → List Block
-gather [] fs = []
-gather (t ∷ ts) fs = record { tag = t; has = bodies t fs } ∷ gather ts fs
-
-abbrev pub isOf : List ℕ → ℕ → Bool
-isOf [] n = false
-isOf (t ∷ ts) n = eqb n t || isOf ts n
-
--- the tags ascend strictly: at numerals it computes
-abbrev pub tagsAbove : ℕ → List ℕ → Bool
-tagsAbove t [] = true
-tagsAbove t (u ∷ us) = ltb t u && tagsAbove u us
-
-of-above : (t n : ℕ) (ts : List ℕ) → tagsAbove t ts ≡ true → isOf ts n ≡ true → t < n
-of-above t n [] h e = absurd (false≢true e)
-of-above t n (u ∷ us) h e = go (eqb n u) refl e (of-above u n us (p .1))
-  where
-    p : (ltb t u ≡ true) × (tagsAbove u us ≡ true)
-    p = parts (ltb t u) (tagsAbove u us) h
-
-    go : (b : Bool) → eqb n u ≡ b → (b || isOf us n) ≡ true → (isOf us n ≡ true → u < n) → t < n
-    go true q e f = omega (arith, eqb-true n u q, ltb-true t u (p .0))
-    go false q e f = omega (arith, f e, ltb-true t u (p .0))
-
+-- no field has a tag below those of a list that ascends from a tag on
 pub bodies-none : (t n : ℕ) (fs : List Field) → t < n → Ascend n fs → bodies t fs ≡ []
 unfolding bodies those
 bodies-none t n [] l h = refl
@@ -217,47 +182,12 @@ bodies-none t n (f ∷ fs) l h =
     let d : eqb (f .tag) t ≡ false = ne-eqb (f .tag) t (λ z. omega (arith, h .0)) in
     bodies-cons t f fs ∙ rw d (bodies-none t (f .tag) fs (omega (arith, h .0)) (h .1))
 
-module _ (f : Field) (fs : List Field) where
-  gather-past : (t : ℕ) (ts : List ℕ) → f .tag ≤ t → tagsAbove t ts ≡ true → gather ts (f ∷ fs) ≡ gather ts fs
-  gather-past t [] l h = refl
-  gather-past t (u ∷ us) l h =
-      let p = parts (ltb t u) (tagsAbove u us) h in
-      let m : t < u = ltb-true t u (p .0) in
-      let d : eqb (f .tag) u ≡ false = ne-eqb (f .tag) u (λ z. omega arith) in
-      let e : bodies u (f ∷ fs) ≡ bodies u fs = bodies-cons u f fs ∙ rw d in
-      λ i. record { tag = u; has = e i } ∷ gather-past u us (omega arith) (p .1) i
-
-  gather-front : (t : ℕ) (ts : List ℕ) → tagsAbove t ts ≡ true → Ascend (f .tag) fs → isOf ts (f .tag) ≡ true → flat (gather ts (f ∷ fs)) ≡ f ∷ flat (gather ts fs)
-  unfolding flat
-  gather-front t [] h a e = absurd (false≢true e)
-  gather-front t (u ∷ us) h a e = go (eqb (f .tag) u) refl e (gather-front u us (p .1) a)
-    where
-      p : (ltb t u ≡ true) × (tagsAbove u us ≡ true)
-      p = parts (ltb t u) (tagsAbove u us) h
-
-      go : (b : Bool) → eqb (f .tag) u ≡ b → (b || isOf us (f .tag)) ≡ true
-          → (isOf us (f .tag) ≡ true → flat (gather us (f ∷ fs)) ≡ f ∷ flat (gather us fs))
-          → map (field u) (bodies u (f ∷ fs)) ++ flat (gather us (f ∷ fs)) ≡ f ∷ (map (field u) (bodies u fs) ++ flat (gather us fs))
-      go true q e r =
-          let z : f .tag ≡ u = eqb-true (f .tag) u q in
-          rw (bodies-cons u f fs, q, gather-past u us (omega arith) (p .1)) (λ i. field (sym z i) (f .body) ∷ (map (field u) (bodies u fs) ++ flat (gather us fs)))
-      go false q e r =
-          let l : u < f .tag = of-above u (f .tag) us (p .1) e in
-          rw (bodies-cons u f fs, q, bodies-none u (f .tag) fs l a) (r e)
-
-gather-nil : (ts : List ℕ) → flat (gather ts []) ≡ []
-unfolding flat bodies those
-gather-nil [] = refl
-gather-nil (t ∷ ts) = gather-nil ts
-
-pub gathered :
-    (ts : List ℕ) (n : ℕ) {fs : List Field} → tagsAbove 0 ts ≡ true → Ascend n fs → All (λ f. isOf ts (f .tag) ≡ true) fs
-    → flat (gather ts fs) ≡ fs
-gathered ts n h a none = gather-nil ts
-gathered ts n h a (more {a = f} {s = fs} e r) =
-    gather-front f fs 0 ts h (a .1) e ∙ ap (λ (l : List Field). f ∷ l) (gathered ts (f .tag) h (a .1) r)
-
 -- shapes
+
+-- a tag is one of some
+abbrev pub isOf : List ℕ → ℕ → Bool
+isOf [] n = false
+isOf (t ∷ ts) n = eqb n t || isOf ts n
 
 -- the test of one shape
 abbrev ofShape : Shape → Field → Bool
@@ -368,3 +298,7 @@ pub shaped-after : (ss ts : List Shape) (f : Field) → shaped ts f ≡ true →
 unfolding shaped
 shaped-after [] ts f h = h
 shaped-after (s ∷ ss) ts f h = rw (shaped-after ss ts f h) (or-true (ofShape s f))
+
+pub shaped-front : (ss ts : List Shape) (f : Field) → shaped ss f ≡ true → shaped (ss ++ ts) f ≡ true
+unfolding shaped
+shaped-front ss ts f h = shaped-widen ss [] ts f (λ e. absurd (false≢true e)) (rw (append-nil ss) h)

@@ -3,8 +3,10 @@ use mathlib.Core.Path.{_≡_, refl, ap, sym, _∙_}
 use mathlib.Core.Bool.{Bool, true, false, not, _&&_, cond, false≢true}
 use mathlib.Core.List.{List, [], _∷_, map}
 use Prim.Native.Nat.{ℕ, _+_}
+use native.Mathlib.Omega.{arith}
 use native.Mathlib.Nat.{zero-add}
 use lib.Dec.{eqb}
+use lib.ListN.{length}
 use borrow.Author.Tests.{eqb-true, eqb-false, eq-eqb, ne-eqb}
 use Rattle.wire.specs.Fields.{Field}
 use Rattle.wire.specs.Keys.{keyOf}
@@ -13,14 +15,15 @@ use Rattle.wire.specs.Bytes.{All, none, more}
 use Rattle.calls.specs.Lists.{those, inOrder, total, one, count}
 use Rattle.calls.specs.Sorting.{Weak, Equality, sortedBy, twice}
 use Rattle.calls.specs.SameFields.{sameBytes, sameField, AsOften}
-use Rattle.calls.specs.CallList.{bodies, keyBelow, keysOf, sortedTrees, reservedOf, allTrees, keysAscend}
+use Rattle.calls.specs.CallList.{headOf, Volume, bodies, firstBody, keysOf, sortedTrees, reservedOf, callListOf, allTrees, keysAscend, noneTwice}
+use Rattle.calls.proofs.lists.AllLaws.{all-each}
 use Rattle.calls.proofs.lists.BoolLaws.{both, parts}
-use Rattle.calls.proofs.lists.OneSort.{one-sort}
+use Rattle.calls.proofs.lists.OneSort.{one-sort, one-element}
 use Rattle.calls.proofs.lists.SortLaws.{map-sorted}
 use Rattle.calls.proofs.lists.TwiceLaws.{twice-ascends, twice-map}
 use Rattle.calls.proofs.lists.WeakLaws.{weak-by}
 use Rattle.calls.proofs.trees.KeyOrder.{key-weak, bucket-weak}
-use Rattle.calls.proofs.trees.SixTrees.{all-each}
+use Rattle.calls.proofs.trees.SixTrees.{all-each as tested-each}
 use Rattle.calls.proofs.encoding.Blocks.{field, bodies-cons}
 use Rattle.calls.proofs.encoding.TreeFields.{treeTags}
 
@@ -87,13 +90,19 @@ module _ {A : Type 0} (read : List ℕ → A) {less : A → A → Bool} (w : Wea
       once : twice (λ a b. less (read a) (read b)) bs ≡ false
       once = twice-map read less bs ∙ twice-ascends w (map read bs) ∙ ap not h
 
+-- a body that stands alone
+pub one-body : (bs cs : List (List ℕ)) → length bs ≡ 1 → ((b : List ℕ) → count (sameBytes b) bs ≡ count (sameBytes b) cs) → bs ≡ cs
+one-body [] cs e c = absurd (omega arith)
+one-body (b ∷ []) cs e c = one-element bytes-equality b cs c
+one-body (b ∷ d ∷ bs) cs e c = absurd (omega arith)
+
 -- the trees, and the reserved buckets
 module _ (fs gs : List Field) where
   pub often-trees : All (λ t. BodiesOften t fs gs) treeTags → allTrees keysAscend (sortedTrees (keysOf fs)) ≡ true
       → sortedTrees (keysOf fs) ≡ sortedTrees (keysOf gs)
   unfolding sortedTrees keysOf
   often-trees (more a (more b (more c (more d (more e (more f none)))))) o =
-      let up = all-each keysAscend (sortedTrees (keysOf fs)) o in
+      let up = tested-each keysAscend (sortedTrees (keysOf fs)) o in
       λ i.
       record {
         alloc = one-reading keyOf key-weak (bodies 4 fs) (bodies 4 gs) (up .alloc) a i;
@@ -107,3 +116,15 @@ module _ (fs gs : List Field) where
   pub often-reserved : BodiesOften 64 fs gs → inOrder bucketBelow (reservedOf fs) ≡ true → reservedOf fs ≡ reservedOf gs
   unfolding reservedOf
   often-reserved h o = one-reading bucketRead bucket-weak (bodies 64 fs) (bodies 64 gs) o h
+
+  -- the whole volume, where field 1 stands once in the first list
+  pub often-volume : AsOften fs gs → length (bodies 1 fs) ≡ 1 → noneTwice (callListOf fs .volume) ≡ true
+      → callListOf fs .volume ≡ callListOf gs .volume
+  unfolding callListOf noneTwice
+  often-volume h n o =
+      let v : Volume = callListOf fs .volume in
+      let p = parts (allTrees keysAscend (v .trees)) (inOrder bucketBelow (v .reserved)) o in
+      let head = one-body (bodies 1 fs) (bodies 1 gs) n (often-bodies fs gs h 1) in
+      let trees = often-trees (all-each (λ t. often-bodies fs gs h t) treeTags) (p .0) in
+      let reserved = often-reserved (often-bodies fs gs h 64) (p .1) in
+      λ i. record { head = headOf (firstBody (head i)); trees = trees i; reserved = reserved i }

@@ -11,7 +11,7 @@ use Rattle.wire.specs.Bytes.{All, none, more}
 use Rattle.wire.proofs.RoundTrip.{key-back, body-again}
 use Rattle.calls.specs.CallList.{Trees, Shape, bodies, keysOf}
 use Rattle.calls.proofs.lists.AllLaws.{all-imp, all-map, map-back}
-use Rattle.calls.proofs.encoding.Blocks.{Block, field, flat, InBlock, hasOf, bodies-flat, bodies-all, gather, FieldSound, takes, shaped-in, keeps, shaped-out}
+use Rattle.calls.proofs.encoding.Blocks.{Block, field, flat, InBlock, hasOf, bodies-flat, bodies-all, FieldSound, takes, shaped-in, keeps, shaped-out}
 use Rattle.calls.proofs.encoding.FieldBytes.{Storable, key-length, key-bytes, key-storable}
 use Rattle.calls.proofs.trees.SixTrees.{EachTree}
 
@@ -93,7 +93,7 @@ module _ {ss : List Shape} {fs : List Field} (h : All (FieldSound ss) fs) where
   keys-read t e =
       all-map keyOf (all-imp (λ b s. key-storable (s .bytes) (shaped-out t 37 293 ss b e (s .shape) .1)) (bodies-all t h))
 
-  keys-again : (t : ℕ) → keeps t 37 293 ss ≡ true → map keyBody (map keyOf (bodies t fs)) ≡ bodies t fs
+  pub keys-again : (t : ℕ) → keeps t 37 293 ss ≡ true → map keyBody (map keyOf (bodies t fs)) ≡ bodies t fs
   keys-again t e =
       map-back keyOf keyBody
       (all-imp (λ b s. body-again (s .bytes) (shaped-out t 37 293 ss b e (s .shape) .0)) (bodies-all t h))
@@ -109,15 +109,3 @@ module _ {ss : List Shape} {fs : List Field} (h : All (FieldSound ss) fs) where
         backpointers = keys-read 13 e;
         gens = keys-read 14 f;
       }
-
-  pub trees-again : (ts : List ℕ) → All (λ t. keeps t 37 293 ss ≡ true) treeTags → gather (treeTags ++ ts) fs ≡ treeBlocks (keysOf fs) ++ gather ts fs
-  unfolding keysOf
-  trees-again ts (more a (more b (more c (more d (more e (more f none)))))) =
-      λ i.
-      record { tag = 4; has = sym (keys-again 4 a) i }
-      ∷ record { tag = 10; has = sym (keys-again 10 b) i }
-      ∷ record { tag = 11; has = sym (keys-again 11 c) i }
-      ∷ record { tag = 12; has = sym (keys-again 12 d) i }
-      ∷ record { tag = 13; has = sym (keys-again 13 e) i }
-      ∷ record { tag = 14; has = sym (keys-again 14 f) i }
-      ∷ gather ts fs

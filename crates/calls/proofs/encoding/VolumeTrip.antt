@@ -26,8 +26,8 @@ use Rattle.calls.proofs.lists.BoolLaws.{both, parts}
 use Rattle.calls.proofs.lists.SortLaws.{all-sorted}
 use Rattle.calls.proofs.lists.TwiceLaws.{asc-sorted}
 use Rattle.calls.proofs.trees.KeyOrder.{bucket-weak}
-use Rattle.calls.proofs.trees.SixTrees.{each-all, each-sorted, own-trees, trees-ok, trees-ascend, trees-snapshots}
-use Rattle.calls.proofs.encoding.Blocks.{Block, field, flat, InBlock, flat-all, hasOf, bodies-flat, bodies-all, bodies-those, FieldSound, takes, shaped-in, shaped-out, shaped-fits, shaped-widen, shaped-after}
+use Rattle.calls.proofs.trees.SixTrees.{all-each, each-all, each-sorted, own-trees, trees-ok, trees-ascend, trees-snapshots}
+use Rattle.calls.proofs.encoding.Blocks.{Block, field, flat, InBlock, flat-all, hasOf, bodies-flat, bodies-all, bodies-those, FieldSound, takes, shaped-in, shaped-out, shaped-fits, shaped-widen, shaped-after, shaped-front}
 use Rattle.calls.proofs.encoding.FieldBytes.{number-back, fields-bytes}
 use Rattle.calls.proofs.encoding.HeadTrip.{HeadFits, head-back, head-length, head-bytes, head-fits, head-again}
 use Rattle.calls.proofs.encoding.TreeFields.{TreesFit, treeTags, treeBlocks, map-block, trees-sound, part-back, trees-back, trees-read}
@@ -94,7 +94,7 @@ buckets-back t ks e h = part-back bucketBytes bucketRead t ks e (all-imp bucket-
 
 -- read back
 
-module _ {v : Volume} (h : VolumeFits v) (ok : VolumeOk v) where
+module _ {v : Volume} (h : VolumeFits v) (once : noneTwice v ≡ true) where
   -- of blocks that have a volume's bodies by tag, whatever else they have
   pub blocks-back :
       (ks : List Block) → hasOf 1 ks ≡ headBody (v .head) ∷ [] → hasOf 4 ks ≡ map keyBody (v .trees .alloc) ++ []
@@ -105,14 +105,15 @@ module _ {v : Volume} (h : VolumeFits v) (ok : VolumeOk v) where
       → hasOf 14 ks ≡ map keyBody (v .trees .gens) ++ []
       → hasOf 64 ks ≡ map bucketBytes (v .reserved) ++ []
       → callListOf (flat ks) .volume ≡ v
-  unfolding callListOf reservedOf
+  unfolding callListOf reservedOf noneTwice
   blocks-back ks a b c d e f g k =
+      let o = parts (allTrees keysAscend (v .trees)) (inOrder bucketBelow (v .reserved)) once in
       let one : headOf (firstBody (bodies 1 (flat ks))) ≡ v .head = rw (bodies-flat 1 ks, a) (head-back (h .head)) in
       let keys : keysOf (flat ks) ≡ v .trees = trees-back ks (h .trees) b c d e f g in
       let buckets : map bucketRead (bodies 64 (flat ks)) ≡ v .reserved = buckets-back 64 ks k (h .reserved) in
-      let trees : sortedTrees (keysOf (flat ks)) ≡ v .trees = ap sortedTrees keys ∙ own-trees (trees-ascend (ok .trees)) in
+      let trees : sortedTrees (keysOf (flat ks)) ≡ v .trees = ap sortedTrees keys ∙ own-trees (all-each keysAscend (v .trees) (o .0)) in
       let reserved : sortedBy bucketBelow (map bucketRead (bodies 64 (flat ks))) ≡ v .reserved =
-      ap (sortedBy bucketBelow) buckets ∙ asc-sorted bucket-weak (v .reserved) (ok .reserved)
+      ap (sortedBy bucketBelow) buckets ∙ asc-sorted bucket-weak (v .reserved) (o .1)
       in
       λ i. record { head = one i; trees = trees i; reserved = reserved i }
 
@@ -140,7 +141,7 @@ module _ {v : Volume} (h : VolumeFits v) where
     unfolding callListOf
     volume-back =
         let ks : List Block = volumeBlocks v in
-        let e : callListOf (flat ks) .volume ≡ v = blocks-back h ok ks refl refl refl refl refl refl refl refl in
+        let e : callListOf (flat ks) .volume ≡ v = blocks-back h (ok-once ok) ks refl refl refl refl refl refl refl refl in
         ap callListOf volume-fields
         ∙ (λ i. record { volume = e i; pieces = map pieceOf (bodies-flat 65 ks i); releases = map freedOf (bodies-flat 66 ks i) })
 
@@ -223,10 +224,30 @@ unfolding listLaidOut
 list-laid {s} r h = requested-laid (readVolume s .head .call) r h
 
 pub volume-laid : {s : List ℕ} → Bytes s → volumeLaidOut s ≡ true → ListLaid s
-unfolding volumeLaidOut shaped
+unfolding volumeLaidOut
 volume-laid r h =
-    laid volumeShapes
-    (λ f e. shaped-widen volumeShapes [] requests f (λ z. absurd (false≢true z)) (rw (append-nil volumeShapes) e)) r h
+    laid volumeShapes (shaped-front volumeShapes requests) r h
+
+-- what a call reads, or apply, is laid out right for the call that its head names
+
+laid-widen : (ss ts : List Shape) (s : List ℕ) → ((f : Field) → shaped ss f ≡ true → shaped ts f ≡ true) → laidOut ss s ≡ true → laidOut ts s ≡ true
+unfolding laidOut
+laid-widen ss ts s w h =
+    let a = parts (whole s) _ h in
+    let b = parts (allOf (shaped ss) (fields s)) _ (a .1) in
+    both (a .0) (both (all-test (shaped ts) (all-imp w (test-all (shaped ss) (fields s) (b .0)))) (b .1))
+
+pub call-listed : (call : ℕ) (s : List ℕ) → callLaidOut call s ≡ true → listLaidOut s ≡ true
+unfolding callLaidOut listLaidOut
+call-listed call s h =
+    let p = parts (laidOut (volumeShapes ++ requestShapes call) s) (eqb (readVolume s .head .call) call) h in
+    ap (λ (n : ℕ). laidOut (volumeShapes ++ requestShapes n) s) (eqb-true (readVolume s .head .call) call (p .1)) ∙ p .0
+
+pub volume-listed : (s : List ℕ) → volumeLaidOut s ≡ true → listLaidOut s ≡ true
+unfolding volumeLaidOut listLaidOut
+volume-listed s h =
+    let ts : List Shape = requestShapes (readVolume s .head .call) in
+    laid-widen volumeShapes (volumeShapes ++ ts) s (λ f e. shaped-front volumeShapes ts f e) h
 
 -- field 1 that stands once is read, and written again
 pub head-read :

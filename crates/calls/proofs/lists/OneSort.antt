@@ -8,7 +8,7 @@ use native.Mathlib.Omega.{arith}
 use Rattle.wire.specs.Bytes.{All, none, more}
 use Rattle.calls.specs.Lists.{those, inOrder, total, one, count}
 use Rattle.calls.specs.Sorting.{Weak, Equality, sortedBy, same, twice, Rising}
-use Rattle.calls.proofs.lists.AllLaws.{all-imp}
+use Rattle.calls.proofs.lists.AllLaws.{all-imp, all-each}
 use Rattle.calls.proofs.lists.BoolLaws.{clash}
 use Rattle.calls.proofs.lists.OrderLaws.{order-tail}
 use Rattle.calls.proofs.lists.SortLaws.{count-sorted, those-sorted, rising-sorted, tails, rest}
@@ -130,3 +130,20 @@ module _ {A : Type 0} {less : A → A → Bool} (w : Weak less) where
   one-stable xs ys c =
       rising-classes (sortedBy less xs) (sortedBy less ys) (rising-sorted w xs) (rising-sorted w ys)
       (λ z. those-sorted w (same less z) xs ∙ ap (sortedBy less) (c z) ∙ sym (those-sorted w (same less z) ys))
+
+-- a list of one element, and one in which every element stands as often
+module _ {A : Type 0} {eq : A → A → Bool} (q : Equality eq) where
+  -- an order in which none is less: every list is in order
+  abbrev unordered : A → A → Bool
+  unordered a b = false
+
+  unordered-weak : Weak unordered
+  unordered-weak = record { asym = λ a b h. refl; trans = λ a b c h k. refl }
+
+  unordered-rising : (xs : List A) → Rising unordered xs
+  unordered-rising [] = Rising.none
+  unordered-rising (x ∷ xs) = Rising.more (all-each (λ y. refl) xs) (unordered-rising xs)
+
+  pub one-element : (x : A) (ys : List A) → ((z : A) → count (eq z) (x ∷ []) ≡ count (eq z) ys) → x ∷ [] ≡ ys
+  unfolding inOrder
+  one-element x ys c = one-order unordered-weak q (x ∷ []) ys refl (unordered-rising ys) c

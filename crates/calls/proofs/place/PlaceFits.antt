@@ -44,7 +44,8 @@ use Rattle.calls.proofs.freespace.CoverLaws.{length-from}
 use Rattle.calls.proofs.encoding.FieldBytes.{Storable}
 use Rattle.calls.proofs.encoding.KeyFitsLaws.{ValueFits, struct-fits, bucket-pos, Queued, queued-pos, queued-value, new-queued, deletion-queued, changed-queued, trees-fit, trees-zero, volume-queued, lru-keys, roots-if, plus-fits, less-fits, differ-fits, buckets-row, VolumeLimits, within, list-within, words-fit}
 use Rattle.calls.proofs.place.PlaceLaws.{PlacedIn, sectorsIn, gensIn, takenBy, place-enough, placed-bounds, taken-bound}
-use Rattle.calls.proofs.place.ReadFits.{PieceFits, pieces-fit, gens-small}
+use Rattle.calls.proofs.encoding.RequestTrip.{PieceFits, pieces-fit}
+use Rattle.calls.proofs.place.ReadFits.{gens-small}
 use Rattle.calls.proofs.trees.SixTrees.{trees-order, EachTree}
 use Rattle.calls.proofs.trees.SortedLaws.{Sorted}
 use Rattle.calls.proofs.lists.TotalLaws.{total-most, total-small}

@@ -44,21 +44,8 @@ use Rattle.calls.proofs.release.ReleaseLaws.{release-accepted, named-ra
 use Rattle.calls.proofs.trees.SixTrees.{EachTree}
 use Rattle.calls.proofs.lists.TotalLaws.{total-most, total-le, total-small}
 use Rattle.calls.proofs.trees.TreeLaws.{lookup-all}
+use Rattle.calls.proofs.encoding.RequestTrip.{FreedFits, releases-fit}
 use Rattle.calls.proofs.encoding.VolumeTrip.{VolumeFits, VolumeOk, call-fits}
-
--- what is read of bytes
-
-pub record FreedFits (r : Freed) : Type 0 where
-  pub first : r .first .0 < 2 ^ 64
-  pub sectors : r .sectors < 2 ^ 16
-
-freed-fits : {b : List ℕ} → Bytes b → FreedFits (freedOf b)
-unfolding freedOf
-freed-fits r = record { first = le-bound 8 r; sectors = le-bound 2 (all-drop 8 r) }
-
-pub releases-fit : {s : List ℕ} → Bytes s → All FreedFits (readCall s .releases)
-unfolding callListOf
-releases-fit r = all-map freedOf (all-imp (λ b k. freed-fits k) (bodies-bytes 66 r))
 
 -- the buckets that are named
 
