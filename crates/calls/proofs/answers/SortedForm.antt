@@ -1,5 +1,5 @@
 -- The sorted form of a list that passes refusals 2 and 22: it is read as the list is, it has the same fields, and every call answers it alike.
-use mathlib.Core.Path.{_≡_, refl, ap, sym, _∙_}
+use mathlib.Core.Path.{_≡_, ap, sym, _∙_}
 use mathlib.Core.Bool.{Bool, true, not, _&&_}
 use mathlib.Core.List.{List, [], _∷_, _++_}
 use Prim.Native.Nat.{ℕ, _+_}
@@ -8,7 +8,7 @@ use lib.Dec.{leb, eqb}
 use lib.ListN.{length}
 use borrow.Author.Tests.{eqb-true}
 use Rattle.wire.specs.Fields.{Field, fields, size, whole}
-use Rattle.wire.specs.Bytes.{All, none, more, Bytes}
+use Rattle.wire.specs.Bytes.{Bytes}
 use Rattle.calls.specs.Lists.{allOf, one}
 use Rattle.calls.specs.SameFields.{sameField, AsOften}
 use Rattle.calls.specs.CallList.{CallList, allTrees, snapshotsOk, headOk, bodies, Shape, shaped, volumeShapes, requestShapes, laidOut, callLaidOut, volumeLaidOut, listLaidOut, noneTwice, volumeBytes, callBytes}
@@ -19,7 +19,7 @@ use Rattle.calls.specs.Place.{placeTests, placeBatch, placedOf, walkOf}
 use Rattle.calls.specs.Release.{releaseTests, releaseBatch}
 use Rattle.calls.specs.Discard.{discardBatches}
 use Rattle.calls.specs.Apply.{applyBatches}
-use Rattle.calls.specs.Answers.{Answer, answer, readCall, readVolume, nextVolume, sortedForm, place, release, discard, apply, sort}
+use Rattle.calls.specs.Answers.{answer, readCall, readVolume, sortedForm, sort}
 use Rattle.calls.specs.ListCalls.{ListCall, placing, releasing, discarding, applying, sorting, answerOf}
 use Rattle.calls.proofs.lists.TotalLaws.{all-count}
 use Rattle.calls.proofs.encoding.CallTrip.{call-back, call-whole, call-bytes, laid-call}

@@ -4,7 +4,7 @@ use mathlib.Core.Bool.{true}
 use mathlib.Core.List.{List, [], _∷_, _++_, map, append-nil, append-assoc}
 use Prim.Native.Nat.{ℕ}
 use native.Mathlib.Omega.{arith}
-use Rattle.wire.specs.Fields.{Field, fields, whole}
+use Rattle.wire.specs.Fields.{fields, whole}
 use Rattle.wire.specs.Encode.{encode}
 use Rattle.wire.specs.Bytes.{All, none, more, Bytes}
 use Rattle.wire.proofs.NumberLaws.{all-append}
@@ -13,7 +13,7 @@ use Rattle.calls.specs.Lists.{allOf}
 use Rattle.calls.specs.CallList.{Piece, Freed, Volume, CallList, pieceOf, freedOf, pieceBody, freedBody, pieceField, freedField, bodies, callListOf, volumeShapes, noneTwice, volumeFields, callBytes}
 use Rattle.calls.specs.Answers.{readCall}
 use Rattle.calls.proofs.lists.AllLaws.{all-imp, all-map, all-each, test-all}
-use Rattle.calls.proofs.encoding.Blocks.{Block, field, flat, InBlock, flat-all, flat-append, FieldSound, shaped-in, shaped-fits}
+use Rattle.calls.proofs.encoding.Blocks.{Block, field, flat, flat-all, flat-append, FieldSound, shaped-in, shaped-fits}
 use Rattle.calls.proofs.encoding.FieldBytes.{encode-bytes}
 use Rattle.calls.proofs.encoding.RequestTrip.{PieceFits, FreedFits, piece-back, freed-back, piece-length, piece-bytes, freed-length, freed-bytes, pieces-fit, releases-fit}
 use Rattle.calls.proofs.encoding.TreeFields.{treeTags, map-block, part-back}

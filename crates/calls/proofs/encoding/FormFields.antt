@@ -1,7 +1,7 @@
 -- The fields of the sorted form of a list that is laid out right are those of the list: every total over them is the same.
 use mathlib.Core.Path.{_≡_, refl, ap, sym, _∙_}
 use mathlib.Core.Bool.{Bool, true}
-use mathlib.Core.List.{List, [], _∷_, map}
+use mathlib.Core.List.{List, map}
 use Prim.Native.Nat.{ℕ, _+_}
 use native.Mathlib.Omega.{arith}
 use lib.ListN.{length}
@@ -10,7 +10,7 @@ use Rattle.wire.specs.Fields.{Field, fields}
 use Rattle.wire.specs.Keys.{keyOf}
 use Rattle.wire.specs.Encode.{keyBody}
 use Rattle.wire.specs.Kinds.{bucketRead, bucketBytes, bucketBelow}
-use Rattle.wire.specs.Bytes.{All, Bytes}
+use Rattle.wire.specs.Bytes.{Bytes}
 use Rattle.wire.proofs.NumberLaws.{leBytes-le}
 use Rattle.calls.specs.Lists.{total}
 use Rattle.calls.specs.Sorting.{sortedBy}

@@ -1,5 +1,5 @@
 -- The keys of the six trees as blocks of fields: what is written is read back, and what is read is written again.
-use mathlib.Core.Path.{_≡_, ap, sym, _∙_}
+use mathlib.Core.Path.{_≡_, ap, _∙_}
 use mathlib.Core.Bool.{true}
 use mathlib.Core.List.{List, [], _∷_, _++_, map, append-nil, map-map}
 use Prim.Native.Nat.{ℕ}

@@ -1,7 +1,7 @@
 -- What a list that differs from a volume only in field 1, in requests and in the order of fields has in common with it.
 use mathlib.Core.Path.{_≡_, refl, sym, ap, _∙_}
 use mathlib.Core.Bool.{Bool, true, not, _||_}
-use mathlib.Core.List.{List, [], _∷_}
+use mathlib.Core.List.{List}
 use Prim.Native.Nat.{ℕ}
 use lib.Dec.{eqb}
 use Rattle.wire.specs.Fields.{Field, fields}

@@ -1,12 +1,11 @@
 -- A computed test that every element stands as often in two lists.
 use mathlib.Core.Path.{_≡_, refl}
 use mathlib.Core.Bool.{Bool, true, false, _&&_}
-use mathlib.Core.List.{List, [], _∷_, _++_}
-use Prim.Native.Nat.{ℕ}
+use mathlib.Core.List.{List}
 use native.Mathlib.Omega.{arith}
 use lib.Dec.{ltb, eqb}
 use borrow.Author.Tests.{ltb-true, ltb-false, eqb-true}
-use Rattle.wire.specs.Bytes.{All, none, more}
+use Rattle.wire.specs.Bytes.{All}
 use Rattle.calls.specs.Lists.{allOf, count}
 use Rattle.calls.specs.Sorting.{Equality}
 use Rattle.calls.proofs.lists.AllLaws.{all-imp, test-all}

@@ -16,14 +16,14 @@ use Rattle.wire.specs.Kinds.{sameBucket, bucketInRange, bucketOf, offsetIn}
 use Rattle.wire.specs.Positions.{allocAt, gensAt, gensByte}
 use Rattle.wire.specs.declared.kinds.Bucket.{Bucket}
 use Rattle.wire.specs.Bytes.{All, Bytes}
-use Rattle.wire.proofs.NumberLaws.{all-append, all-drop, le-bound}
+use Rattle.wire.proofs.NumberLaws.{all-append}
 use Rattle.wire.proofs.RowLaws.{RowFits, one}
 use Rattle.format.specs.Packing.{get}
 use Rattle.format.specs.AllocV4.{flags, gen, oldestGen, dataType, stripeRedundancy, dirtySectors, journalSeqEmpty, needDiscardType, emptiedFlags, withDirty, nextGen, emptied}
 use Rattle.format.specs.Gens.{withGen, noGens}
 use Rattle.format.proofs.AllocLaws.{next-low}
 use Rattle.calls.specs.Lists.{those, total, fromOption, isEmpty}
-use Rattle.calls.specs.CallList.{Volume, Freed, freedOf, callLaidOut, callListOf, noneTwice}
+use Rattle.calls.specs.CallList.{Volume, Freed, callLaidOut, noneTwice}
 use Rattle.calls.specs.Limits.{listWithin}
 use Rattle.calls.specs.Trees.{lookup, newKey}
 use Rattle.calls.specs.Generations.{genRecord, genKey, genQueued}
@@ -39,7 +39,7 @@ use Rattle.calls.proofs.lists.BoolLaws.{parts, cond-most}
 use Rattle.calls.proofs.freespace.BucketLaws.{in-all, inserts-length}
 use Rattle.calls.proofs.encoding.ChangeTrip.{BatchFits, isRoot, BatchOk}
 use Rattle.calls.proofs.release.GensLaws.{type-30}
-use Rattle.calls.proofs.encoding.KeyFitsLaws.{bodies-bytes, ValueFits, no-value, put-fits, store-fits, Queued, queued-value, new-queued, deletion-queued, with-queued, bucket-pos, trees-fit, trees-zero, volume-queued, lru-keys, lru-deletions, roots-if, plus-fits, less-fits, differ-fits, buckets-row, list-within}
+use Rattle.calls.proofs.encoding.KeyFitsLaws.{ValueFits, no-value, put-fits, store-fits, Queued, queued-value, new-queued, deletion-queued, with-queued, bucket-pos, trees-fit, trees-zero, volume-queued, lru-keys, lru-deletions, roots-if, plus-fits, less-fits, differ-fits, buckets-row, list-within}
 use Rattle.calls.proofs.release.ReleaseLaws.{release-accepted, named-range}
 use Rattle.calls.proofs.trees.SixTrees.{EachTree}
 use Rattle.calls.proofs.lists.TotalLaws.{total-most, total-le, total-small}
