@@ -3,3 +3,4 @@ pub mod RefusalLaws
 pub mod OutcomeLaws
 pub mod AnswerLaws
 pub mod AnswersReadBack
+pub mod SortedForm

@@ -5,6 +5,7 @@ pub mod AnyLaws
 pub mod AscendLaws
 pub mod BoolLaws
 pub mod MapLaws
+pub mod OftenTest
 pub mod OneSort
 pub mod OrderLaws
 pub mod SortLaws

@@ -1,17 +1,17 @@
 -- Small volumes and lists that the worked cases are about.
 use mathlib.Core.List.{List, [], _∷_, _++_, map}
+use mathlib.Core.Bool.{cond}
 use Prim.Native.Nat.{ℕ, _^_}
-use Rattle.wire.specs.Numbers.{leBytes}
+use lib.Dec.{eqb}
 use Rattle.wire.specs.Fields.{Field}
 use Rattle.wire.specs.Encode.{encode}
 use Rattle.wire.specs.Keys.{Key}
-use Rattle.wire.specs.Kinds.{sectorBytes}
 use Rattle.wire.specs.Positions.{allocAt, runAt, needDiscardAt}
 use Rattle.wire.specs.declared.kinds.Bucket.{Bucket}
 use Rattle.wire.specs.declared.kinds.DeviceSector.{DeviceSector}
 use Rattle.format.specs.Packing.{store}
 use Rattle.format.specs.AllocV4.{dataType, needDiscardType, newAlloc}
-use Rattle.calls.specs.CallList.{Head, Volume, Piece, Freed, volumeBytes}
+use Rattle.calls.specs.CallList.{Head, Volume, Piece, Freed, volumeFields, volumeBytes, pieceField, freedField}
 use Rattle.calls.specs.Trees.{newKey, withValue}
 use Rattle.calls.specs.Pieces.{Slot}
 use Rattle.calls.specs.ChangeList.{Spot, Batch, changesOf}
@@ -77,12 +77,19 @@ emptiedAt b generation = withValue (usedBucket b generation 0) (store dataType n
 abbrev pub runEnds : Batch → List (ℕ × ℕ)
 runEnds b = map (λ k. (k .pos .offset, k .size)) (b .trees .freespace)
 
-abbrev pub pieceField : Piece → Field
-pieceField p =
-    record { tag = 65; body = leBytes 2 (p .file) ++ leBytes 2 (p .stored) ++ leBytes 1 (p .kind) ++ leBytes 8 (p .checksum) }
+-- fields in their order, in the opposite order, and with the first behind the next two
+abbrev pub ascending : List Field → List Field
+ascending fs = fs
 
-abbrev pub freedField : Freed → Field
-freedField r = record { tag = 66; body = sectorBytes (r .first) ++ leBytes 2 (r .sectors) }
+abbrev pub backwards : List Field → List Field
+backwards [] = []
+backwards (f ∷ fs) = backwards fs ++ (f ∷ [])
+
+abbrev pub headInside : List Field → List Field
+headInside [] = []
+headInside (f ∷ []) = f ∷ []
+headInside (f ∷ g ∷ []) = g ∷ f ∷ []
+headInside (f ∷ g ∷ h ∷ fs) = g ∷ h ∷ f ∷ fs
 
 -- a plain piece of so many sectors
 abbrev pub plain : ℕ → Piece
@@ -130,6 +137,38 @@ pastBase = volumeBytes (volumeFor (headAt (2 ^ 40) 1 1) [] [] [] [])
 -- an alloc key of inode 1 with a clock
 abbrev pub elsewhere : ℕ → Key
 elsewhere clock = newKey 27 0 (record { inode = 1; offset = 0; snapshot = 0 }) (newAlloc 1 0 0 clock)
+
+-- a key at a position
+abbrev pub keyAt : ℕ → ℕ → Key
+keyAt inode offset = newKey 1 0 (record { inode = inode; offset = offset; snapshot = 0 }) []
+
+-- a volume with these keys in one tree and these reserved buckets, and nothing else
+abbrev pub holding : ℕ → List Key → List Bucket → Volume
+holding tree ks reserved =
+    record {
+      head = headFor 3 1;
+      trees =
+          record {
+            alloc = cond (eqb tree 4) ks [];
+            lru = cond (eqb tree 10) ks [];
+            freespace = cond (eqb tree 11) ks [];
+            needDiscard = cond (eqb tree 12) ks [];
+            backpointers = cond (eqb tree 13) ks [];
+            gens = cond (eqb tree 14) ks [];
+          };
+      reserved = reserved;
+    }
+
+-- forty free buckets, of which two are reserved, and an alloc key
+abbrev pub twoReserved : Volume
+twoReserved = volumeFor (headFor 1 1) (elsewhere 9 ∷ []) (run 40 40 ∷ []) [] (bucket 3 ∷ bucket 4 ∷ [])
+
+-- two pieces of descending size on it; and the same behind both pieces and in the opposite order, with field 1 last
+abbrev pub twoPieces : List ℕ
+twoPieces = placing twoReserved (plain 96 ∷ plain 64 ∷ [])
+
+abbrev pub twoPiecesShuffled : List ℕ
+twoPiecesShuffled = encode (map pieceField (plain 96 ∷ plain 64 ∷ []) ++ backwards (volumeFields twoReserved))
 
 -- the placement of P case 1: forty free buckets of 128 sectors, stored 96, 96 and 64
 abbrev pub threePieces : Answer

@@ -8,7 +8,7 @@ use lib.Dec.{leb}
 use lib.ListN.{length}
 use borrow.Author.Tests.{leb-true}
 use Rattle.wire.specs.Bytes.{All, none, more, Bytes}
-use Rattle.calls.specs.CallList.{volumeLaidOut}
+use Rattle.calls.specs.CallList.{volumeLaidOut, noneTwice}
 use Rattle.calls.specs.ChangeList.{Batch, changeBytes, changeLaidOut, changesOf}
 use Rattle.calls.specs.Place.{placeBatch, placedOf, walkOf}
 use Rattle.calls.specs.Release.{releaseBatch}
@@ -22,7 +22,7 @@ use Rattle.calls.proofs.discard.DiscardFits.{discard-fits}
 use Rattle.calls.proofs.place.PlaceFits.{place-fits}
 use Rattle.calls.proofs.answers.RefusalLaws.{verdict-ok, verdict-last, test-ok}
 use Rattle.calls.proofs.release.ReleaseFits.{release-fits}
-use Rattle.calls.proofs.encoding.VolumeTrip.{volume-fits, read-back, volume-laid-out}
+use Rattle.calls.proofs.encoding.VolumeTrip.{volume-fits, read-back, volume-laid-out, volume-once}
 
 -- a change list of batches, in an output of so many bytes
 pub record Written (a : Answer) (bs : List Batch) (room : ℕ) : Type 0 where
@@ -50,7 +50,7 @@ module _ (s : List ℕ) (r : Bytes s) (room : ℕ) where
       → Written (place s room) (placeBatch (readVolume s) (placedOf (readCall s)) (walkOf (readCall s)) ∷ []) room
   place-written h =
       let p = placement s room h in
-      let f = place-fits r (p .laid-out) (p .within) (p .tests-held) in
+      let f = place-fits r (p .laid-out) (p .once) (p .within) (p .tests-held) in
       let e = place-is s room in
       written-by room (p .written) (more (f .0) none) (more (f .1) none) (rw e (room-enough _ _ room (number-of e h)))
 
@@ -58,25 +58,27 @@ module _ (s : List ℕ) (r : Bytes s) (room : ℕ) where
       → Written (release s scratch room) (releaseBatch (readVolume s) (readCall s .releases) ∷ []) room
   release-written scratch h =
       let p = released s scratch room h in
-      let f = release-fits r (p .laid-out) (p .within) (p .tests-held) in
+      let f = release-fits r (p .laid-out) (p .once) (p .within) (p .tests-held) in
       let e = release-is s scratch room in
       written-by room (p .written) (more (f .0) none) (more (f .1) none) (rw e (room-enough _ _ room (number-of e h)))
 
   pub discard-written : discard s room .number ≡ 0 → Written (discard s room) (discardBatches (readVolume s)) room
   discard-written h =
       let p = discarded s room h in
-      let f = discard-fits r (p .laid-out) (p .within) in
+      let f = discard-fits r (p .laid-out) (p .once) (p .within) in
       let e = discard-is s room in
       written-by room (p .written) (f .0) (f .1) (rw e (room-enough _ _ room (number-of e h)))
 
--- apply's is a volume
+-- apply's is a volume, in which no position stands twice
 pub apply-written : (s change : List ℕ) (room : ℕ) → Bytes s → Bytes change → apply s change room .number ≡ 0
-    → (volumeLaidOut (apply s change room .written) ≡ true) × (readVolume (apply s change room .written) ≡ nextVolume s change)
+    → (volumeLaidOut (apply s change room .written) ≡ true) × (noneTwice (readVolume (apply s change room .written)) ≡ true)
+    × (readVolume (apply s change room .written) ≡ nextVolume s change)
 apply-written s change room r q h =
     let a = accepted _ _ room (number-of (apply-is s change room) h) in
-    let t = test-ok 2 (volumeLaidOut s && changeLaidOut change) (omega arith) (verdict-ok _ _ (a .tests-held) .0) in
-    let p = parts (volumeLaidOut s) (changeLaidOut change) t in
-    let v = volume-fits r (p .0) in
+    let two = verdict-ok _ _ (a .tests-held) in
+    let once = verdict-ok _ _ (two .1) in
+    let p = parts (volumeLaidOut s) (changeLaidOut change) (test-ok 2 (volumeLaidOut s && changeLaidOut change) (omega arith) (two .0)) in
+    let v = volume-fits r (p .0) (test-ok 22 (noneTwice (readVolume s)) (omega arith) (once .0)) in
     let c = change-fits q (p .1) in
     let f = apply-fits (c .0) (c .1) (v .0) (v .1) in
-    rw (applied s change room h) (volume-laid-out (f .0) (f .1), read-back (f .0))
+    rw (applied s change room h) (volume-laid-out (f .0) (f .1), volume-once (f .0) (f .1), read-back (f .0) (f .1))

@@ -6,8 +6,8 @@ use Rattle.format.specs.Packing.{get}
 use Rattle.format.specs.AllocV4.{ioTimeWrite}
 use Rattle.calls.specs.CallList.{volumeBytes}
 use Rattle.calls.specs.Computing.{computing}
-use Rattle.calls.specs.Answers.{place, release, discard}
-use Rattle.calls.specs.Examples.{bucket, headFor, volumeFor, run, usedBucket, waitsSince, emptiedAt, runEnds, plain, placing, releasing, spot, freeing, ofBatches, pastBase, elsewhere, threePieces}
+use Rattle.calls.specs.Answers.{place, release, discard, sort}
+use Rattle.calls.specs.Examples.{bucket, headFor, volumeFor, run, usedBucket, waitsSince, emptiedAt, runEnds, plain, placing, releasing, spot, freeing, ofBatches, pastBase, elsewhere, keyAt, holding, twoPieces, twoPiecesShuffled, threePieces}
 
 pub record WorkedAnswers : Type 0 where
   -- P case 1 of the whole answer: fields 71, 72 and 70
@@ -41,9 +41,28 @@ pub record WorkedAnswers : Type 0 where
       ofBatches (λ b. map (λ k. k .pos .inode) (b .trees .needDiscard))
       (discard (volumeBytes (volumeFor (headFor 3 1) (emptiedAt 3 0 ∷ []) [] (waitsSince 7 3 ∷ waitsSince 8 3 ∷ []) [])) 1000)
       ≡ (8 ∷ []) ∷ []
+  -- bucket 70,000 passes its limit, which is 3; where it stands twice it is 22
+  pub once-passed : place (placing (volumeFor (headFor 1 1) [] [] [] (bucket 70000 ∷ [])) []) 14 .number ≡ 3
+  pub twice-passed : place (placing (volumeFor (headFor 1 1) [] [] [] (bucket 70000 ∷ bucket 70000 ∷ [])) []) 14 .number ≡ 22
+  -- two keys at one position, and a reserved bucket twice, also apart
+  pub keys-twice : sort (volumeBytes (holding 14 (keyAt 1 5 ∷ keyAt 1 5 ∷ []) [])) 400 .number ≡ 22
+  pub bucket-twice : sort (volumeBytes (holding 14 [] (bucket 4 ∷ bucket 3 ∷ bucket 4 ∷ []))) 400 .number ≡ 22
+  -- in each tree, 4, 10, 11, 12, 13 and 14, two keys that descend, and two reserved buckets that descend, are accepted
+  pub keys-descend :
+      map (λ tree. sort (volumeBytes (holding tree (keyAt 0 6 ∷ keyAt 0 5 ∷ []) [])) 400 .number) (4 ∷ 10 ∷ 11 ∷ 12 ∷ 13 ∷ 14 ∷ [])
+      ≡ 0 ∷ 0 ∷ 0 ∷ 0 ∷ 0 ∷ 0 ∷ []
+  pub buckets-descend : sort (volumeBytes (holding 14 [] (bucket 4 ∷ bucket 3 ∷ []))) 400 .number ≡ 0
+  -- the inode goes before the offset
+  pub inode-first :
+      sort (volumeBytes (holding 10 (keyAt 2 3 ∷ keyAt 1 5 ∷ []) [])) 400 .written
+      ≡ volumeBytes (holding 10 (keyAt 1 5 ∷ keyAt 2 3 ∷ []) [])
+  -- two pieces of descending size keep their order
+  pub requests-kept : sort twoPieces 400 .written ≡ twoPieces
+  -- fields in another order, with field 1 last
+  pub shuffled-sorted : sort twoPiecesShuffled 400 .written ≡ twoPieces
 
 pub worked-answers : WorkedAnswers
-unfolding computing place release discard
+unfolding computing place release discard sort
 worked-answers =
     record {
       three-accepted = refl;
@@ -58,4 +77,13 @@ worked-answers =
       lowest-decides = refl;
       not-joined = refl;
       last-deleted = refl;
+      once-passed = refl;
+      twice-passed = refl;
+      keys-twice = refl;
+      bucket-twice = refl;
+      keys-descend = refl;
+      buckets-descend = refl;
+      inode-first = refl;
+      requests-kept = refl;
+      shuffled-sorted = refl;
     }

@@ -7,10 +7,10 @@ use mathlib.Core.Option.{Option, none, some}
 use Prim.Native.Nat.{ℕ, zero, suc, _+_}
 use lib.Dec.{leb, ltb, eqb}
 use borrow.Author.Tests.{ltb-true, eqb-true}
-use Rattle.wire.specs.Fields.{Field}
 use Rattle.wire.specs.Bytes.{Bytes}
 use Rattle.wire.specs.Kinds.{sameBucket, bucketOf, offsetIn, sectorWithin}
 use Rattle.calls.specs.Lists.{allOf, total, isNone, fromOption, one}
+use Rattle.calls.specs.SameFields.{sameBytes, sameField}
 use Rattle.calls.specs.Generations.{genOf}
 use Rattle.calls.specs.Computing.{computing}
 use Rattle.calls.specs.Answers.{readCall, readVolume, place, release, discard, apply}
@@ -19,6 +19,8 @@ use Rattle.calls.specs.Examples.{bucket, sector}
 use Rattle.calls.specs.ExampleHistory.{clean, ran, steps, reached, piece}
 use Rattle.calls.proofs.lists.AllLaws.{all-imp, test-all}
 use Rattle.calls.proofs.lists.BoolLaws.{parts}
+use Rattle.calls.proofs.lists.OftenTest.{oftenTest, often-tested}
+use Rattle.calls.proofs.encoding.OftenLaws.{field-equality}
 use Rattle.calls.proofs.history.Demand3.{demand3}
 
 -- numbers below n
@@ -70,47 +72,22 @@ live-pieces = refl
 bytes-tested : (s : List ℕ) → allOf (λ b. ltb b 256) s ≡ true → Bytes s
 bytes-tested s h = all-imp (λ b e. ltb-true b 256 e) (test-all (λ b. ltb b 256) s h)
 
--- two lists are the same where a test says so of their elements
-abbrev sameList : {A : Type 0} → (A → A → Bool) → List A → List A → Bool
-sameList t [] [] = true
-sameList t [] (y ∷ ys) = false
-sameList t (x ∷ xs) [] = false
-sameList t (x ∷ xs) (y ∷ ys) = t x y && sameList t xs ys
-
-same-list : {A : Type 0} (t : A → A → Bool) → ((x y : A) → t x y ≡ true → x ≡ y) → (xs ys : List A) → sameList t xs ys ≡ true → xs ≡ ys
-same-list t f [] [] h = refl
-same-list t f [] (y ∷ ys) h = absurd (false≢true h)
-same-list t f (x ∷ xs) [] h = absurd (false≢true h)
-same-list t f (x ∷ xs) (y ∷ ys) h =
-    let a = parts (t x y) (sameList t xs ys) h in
-    let d = f x y (a .0) in
-    let e = same-list t f xs ys (a .1) in λ i. d i ∷ e i
-
-abbrev sameField : Field → Field → Bool
-sameField f g = eqb (f .tag) (g .tag) && sameList eqb (f .body) (g .body)
-
-same-field : (f g : Field) → sameField f g ≡ true → f ≡ g
-same-field f g h =
-    let a = parts (eqb (f .tag) (g .tag)) (sameList eqb (f .body) (g .body)) h in
-    let d = eqb-true (f .tag) (g .tag) (a .0) in
-    let e = same-list eqb eqb-true (f .body) (g .body) (a .1) in λ i. record { tag = d i; body = e i }
-
 -- what a history asks of a step
 abbrev allowedTest : State → Step → Bool
 allowedTest st s =
     allOf (λ b. ltb b 256) (s .list)
-    && (sameList sameField (carried (s .list)) (carried (st .volume))
+    && (oftenTest sameField (carried (s .list)) (carried (st .volume))
     && (eqb (readCall (s .list) .volume .head .bucketSectors) (sectorsOf st)
     && (not (eqb (answerTo s .number) 0) || not (isNone (takeAll (readCall (s .list) .releases) (st .live))))))
 
 allowed : (st : State) (s : Step) → allowedTest st s ≡ true → Allowed st s
 allowed st s h =
     let a = parts (allOf (λ b. ltb b 256) (s .list)) _ h in
-    let b = parts (sameList sameField (carried (s .list)) (carried (st .volume))) _ (a .1) in
+    let b = parts (oftenTest sameField (carried (s .list)) (carried (st .volume))) _ (a .1) in
     let c = parts (eqb (readCall (s .list) .volume .head .bucketSectors) (sectorsOf st)) _ (b .1) in
     record {
       bytes = bytes-tested (s .list) (a .0);
-      same = same-list sameField same-field (carried (s .list)) (carried (st .volume)) (b .0);
+      same = often-tested field-equality (carried (s .list)) (carried (st .volume)) (b .0);
       sectors = eqb-true (readCall (s .list) .volume .head .bucketSectors) (sectorsOf st) (c .0);
       named = λ e n. go (takeAll (readCall (s .list) .releases) (st .live)) (rw n at (c .1));
     }
@@ -147,7 +124,7 @@ clean-volume =
     }
 
 pub worked-tests : workedTest (start clean) steps ≡ true
-unfolding computing place release discard apply answerTo withoutRequests appliedTo placedPieces takeOut takeAll advance carried allocOf generationOf dirtyOf isFree isInUse isWaiting zipWith
+unfolding computing place release discard apply answerTo withoutRequests appliedTo placedPieces takeOut takeAll advance carried sameBytes sameField allocOf generationOf dirtyOf isFree isInUse isWaiting zipWith
 worked-tests = refl
 
 pub worked : History (start clean) (ran (start clean) steps)

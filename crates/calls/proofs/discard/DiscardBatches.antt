@@ -19,7 +19,7 @@ use Rattle.calls.proofs.history.HistoryKeeps.{history-keeps, found}
 use Rattle.calls.proofs.history.Phases.{Good}
 use Rattle.calls.proofs.trees.SixTrees.{trees-order}
 use Rattle.calls.proofs.history.View.{view, GensHeld}
-use Rattle.calls.proofs.encoding.VolumeTrip.{call-laid, laid-fits, read-back}
+use Rattle.calls.proofs.encoding.VolumeTrip.{call-laid, laid-fits, laid-ok, read-back}
 
 -- the state after the first n batches of a discard of a list
 abbrev pub batchesApplied : ℕ → List ℕ → State → State
@@ -42,14 +42,16 @@ discard-batches clean c steps h s room a e n =
     let st = after (start clean) steps in
     let step : Step = record { call = discarding; list = s; scratch = 0; room = room; applyRoom = 0 } in
     let keeps = keeps-demand (offeredBy clean) in
-    let k = found keeps st step (history-keeps keeps steps (start clean) (kept-clean clean c) h) a in
     let d = discarded s room e in
+    let k = found keeps st step (history-keeps keeps steps (start clean) (kept-clean clean c) h) a (d .once) in
     let l = call-laid 3 (a .bytes) (d .laid-out) in
-    let o = trees-order (l .ok .trees) in
-    let f = discard-fits (a .bytes) (d .laid-out) (d .within) in
+    let ok = laid-ok l (d .once) in
+    let o = trees-order (ok .trees) in
+    let f = discard-fits (a .bytes) (d .laid-out) (d .once) (d .within) in
     let v = readVolume s in
     let w = applyBatches (take n (discardBatches v)) v in
-    let back : readVolume (volumeBytes w) ≡ w = read-back (apply-fits (all-take n (f .0)) (all-take n (f .1)) (laid-fits l) (l .ok) .0) in
+    let fit = apply-fits (all-take n (f .0)) (all-take n (f .1)) (laid-fits l) ok in
+    let back : readVolume (volumeBytes w) ≡ w = read-back (fit .0) (fit .1) in
     let g = discard-sound (v .head .bucketSectors) (offeredBy clean) (st .live) v
     (record { good = k .good; alloc = o .alloc .0; freespace = o .freespace .0; needDiscard = o .needDiscard .0 }) (o .alloc .1) n in
     let good : Good (w .head .bucketSectors) (offeredBy clean) (view w (st .live)) = rw (sectors-same (take n (discardBatches v)) v) (g .good) in

@@ -16,12 +16,12 @@ use Rattle.wire.proofs.NumberLaws.{all-take, all-drop}
 use Rattle.format.specs.Packing.{get}
 use Rattle.format.specs.AllocV4.{journalSeq, flags, dataType, journalSeqEmpty, discardedFlags, discarded}
 use Rattle.calls.specs.Lists.{isNone, fromOption}
-use Rattle.calls.specs.CallList.{Trees, Volume, callLaidOut}
+use Rattle.calls.specs.CallList.{Trees, Volume, callLaidOut, noneTwice}
 use Rattle.calls.specs.Limits.{isSet, atInode0, volumeWithin, listWithin}
 use Rattle.calls.specs.Trees.{deletion}
 use Rattle.calls.specs.Accounting.{countedRows}
 use Rattle.calls.specs.Discard.{Run, waitingKey, isDiscarded, discardedKeys, chunks, joinRun, joinedRuns, runKey, waitingDeletions, discardBatch, discardBatches}
-use Rattle.calls.specs.Answers.{readCall}
+use Rattle.calls.specs.Answers.{readCall, readVolume}
 use Rattle.calls.proofs.lists.AllLaws.{all-imp, all-each, all-join, all-map, all-those, all-flat, all-chosen}
 use Rattle.calls.proofs.lists.ThoseLaws.{those-length}
 use Rattle.calls.proofs.lists.BoolLaws.{parts}
@@ -159,9 +159,9 @@ volume-discard-fits v f ok h =
     )
 
 pub discard-fits :
-    {s : List ℕ} → Bytes s → callLaidOut 3 s ≡ true → listWithin (readCall s) ≡ true
+    {s : List ℕ} → Bytes s → callLaidOut 3 s ≡ true → noneTwice (readVolume s) ≡ true → listWithin (readCall s) ≡ true
     → All BatchFits (discardBatches (readCall s .volume)) × All BatchOk (discardBatches (readCall s .volume))
-discard-fits {s} r h l =
+discard-fits {s} r h o l =
     let c = readCall s in
-    let f = call-fits 3 r h in
+    let f = call-fits 3 r h o in
     volume-discard-fits (c .volume) (f .0) (f .1) (list-within c l .0)

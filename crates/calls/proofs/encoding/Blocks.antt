@@ -1,7 +1,7 @@
--- Fields in blocks, one for each tag: the bodies by tag, the order, and any list in order of tags as its blocks.
+-- Fields in blocks, one for each tag: the bodies by tag, the order and the shapes.
 use mathlib.Core.Path.{_≡_, refl, ap, sym, _∙_}
 use mathlib.Core.Bool.{Bool, true, false, not, _&&_, _||_, cond, false≢true, or-true}
-use mathlib.Core.List.{List, [], _∷_, _++_, map}
+use mathlib.Core.List.{List, [], _∷_, _++_, map, append-assoc, append-nil}
 use Prim.Native.Nat.{ℕ, _≤_, _<_}
 use native.Mathlib.Omega.{arith}
 use lib.Dec.{leb, ltb, eqb}
@@ -15,7 +15,7 @@ use Rattle.calls.specs.Lists.{allOf, those, inOrder}
 use Rattle.calls.specs.CallList.{Shape, shaped, bodies}
 use Rattle.calls.specs.ChangeList.{tagsAscend}
 use Rattle.calls.proofs.lists.AllLaws.{all-imp, all-each, all-map, test-all}
-use Rattle.calls.proofs.lists.BoolLaws.{both, parts, or-map, cond-same}
+use Rattle.calls.proofs.lists.BoolLaws.{clash, both, parts, or-map, cond-same}
 
 -- blocks
 
@@ -38,6 +38,13 @@ pub flat-all : {P : Field → Type 0} {ks : List Block} → All (InBlock P) ks �
 unfolding flat
 flat-all none = none
 flat-all (more {a = k} h r) = all-append (all-map (field (k .tag)) h) (flat-all r)
+
+pub flat-append : (ks js : List Block) → flat (ks ++ js) ≡ flat ks ++ flat js
+unfolding flat
+flat-append [] js = refl
+flat-append (k ∷ ks) js =
+    ap (λ (l : List Field). map (field (k .tag)) (k .has) ++ l) (flat-append ks js)
+    ∙ sym (append-assoc (map (field (k .tag)) (k .has)) (flat ks) (flat js))
 
 -- a test of the tags: at numerals it computes
 pub flat-tags : (p : ℕ → Bool) (ks : List Block) → allOf (λ k. p (k .tag)) ks ≡ true → All (λ f. p (f .tag) ≡ true) (flat ks)
@@ -68,15 +75,6 @@ module _ (p : ℕ → Bool) where
       go : (e : Bool) (x y : List Field) → cond e (field s b ∷ cond e x y) (cond e x y) ≡ cond e (field s b ∷ x) y
       go true x y = refl
       go false x y = refl
-
-  pub chosen-flat : (ks : List Block) → chosen (flat ks) ≡ flat (those (λ k. p (k .tag)) ks)
-  unfolding those flat
-  chosen-flat [] = refl
-  chosen-flat (k ∷ ks) = rw (chosen-block (k .tag) (k .has) (flat ks), chosen-flat ks) (go (p (k .tag)) (those (λ j. p (j .tag)) ks))
-    where
-      go : (e : Bool) (js : List Block) → cond e (map (field (k .tag)) (k .has) ++ flat js) (flat js) ≡ flat (cond e (k ∷ js) js)
-      go true js = refl
-      go false js = refl
 
 body-block : (s : ℕ) (bs : List (List ℕ)) (r : List Field) → map (λ f. f .body) (map (field s) bs ++ r) ≡ bs ++ map (λ f. f .body) r
 body-block s [] r = refl
@@ -114,6 +112,21 @@ bodies-all {P} t (more {a = f} {s = fs} h r) = rw (bodies-cons t f fs) (go (eqb 
         → All (λ x. P (field t x)) (cond b (f .body ∷ bodies t fs) (bodies t fs))
     go true e q = more {a = f .body} (rw (← eqb-true (f .tag) t e) h) q
     go false e q = q
+
+-- a choice that takes every field with a tag keeps their bodies
+pub bodies-those : (keep : Field → Bool) (t : ℕ) → ((f : Field) → f .tag ≡ t → keep f ≡ true) → (fs : List Field) → bodies t (those keep fs) ≡ bodies t fs
+unfolding bodies those
+bodies-those keep t h [] = refl
+bodies-those keep t h (f ∷ fs) = go (eqb (f .tag) t) refl (keep f) refl (bodies-those keep t h fs)
+  where
+    go : (b : Bool) → eqb (f .tag) t ≡ b → (k : Bool) → keep f ≡ k
+        → map (λ g. g .body) (those (λ g. eqb (g .tag) t) (those keep fs)) ≡ map (λ g. g .body) (those (λ g. eqb (g .tag) t) fs)
+        → map (λ g. g .body) (those (λ g. eqb (g .tag) t) (cond k (f ∷ those keep fs) (those keep fs)))
+        ≡ map (λ g. g .body) (cond b (f ∷ those (λ g. eqb (g .tag) t) fs) (those (λ g. eqb (g .tag) t) fs))
+    go true e true d ih = rw e (ap (λ (l : List (List ℕ)). f .body ∷ l) ih)
+    go true e false d ih = absurd (clash (h f (eqb-true (f .tag) t e)) d)
+    go false e true d ih = rw e ih
+    go false e false d ih = ih
 
 -- order
 
@@ -161,33 +174,7 @@ ascend-flat t (k ∷ ks) h =
 pub flat-order : (ks : List Block) → tagsUp 0 ks ≡ true → tagsAscend (flat ks) ≡ true
 flat-order ks h = ascend-order 0 (flat ks) (ascend-flat 0 ks h)
 
--- a list in order of its tags is its blocks
-
--- a block for each tag of some
-abbrev pub gather : List ℕ → List Field → List Block
-gather [] fs = []
-gather (t ∷ ts) fs = record { tag = t; has = bodies t fs } ∷ gather ts fs
-
-abbrev pub isOf : List ℕ → ℕ → Bool
-isOf [] n = false
-isOf (t ∷ ts) n = eqb n t || isOf ts n
-
--- the tags ascend strictly: at numerals it computes
-abbrev pub tagsAbove : ℕ → List ℕ → Bool
-tagsAbove t [] = true
-tagsAbove t (u ∷ us) = ltb t u && tagsAbove u us
-
-of-above : (t n : ℕ) (ts : List ℕ) → tagsAbove t ts ≡ true → isOf ts n ≡ true → t < n
-of-above t n [] h e = absurd (false≢true e)
-of-above t n (u ∷ us) h e = go (eqb n u) refl e (of-above u n us (p .1))
-  where
-    p : (ltb t u ≡ true) × (tagsAbove u us ≡ true)
-    p = parts (ltb t u) (tagsAbove u us) h
-
-    go : (b : Bool) → eqb n u ≡ b → (b || isOf us n) ≡ true → (isOf us n ≡ true → u < n) → t < n
-    go true q e f = omega (arith, eqb-true n u q, ltb-true t u (p .0))
-    go false q e f = omega (arith, f e, ltb-true t u (p .0))
-
+-- no field has a tag below those of a list that ascends from a tag on
 pub bodies-none : (t n : ℕ) (fs : List Field) → t < n → Ascend n fs → bodies t fs ≡ []
 unfolding bodies those
 bodies-none t n [] l h = refl
@@ -195,47 +182,12 @@ bodies-none t n (f ∷ fs) l h =
     let d : eqb (f .tag) t ≡ false = ne-eqb (f .tag) t (λ z. omega (arith, h .0)) in
     bodies-cons t f fs ∙ rw d (bodies-none t (f .tag) fs (omega (arith, h .0)) (h .1))
 
-module _ (f : Field) (fs : List Field) where
-  gather-past : (t : ℕ) (ts : List ℕ) → f .tag ≤ t → tagsAbove t ts ≡ true → gather ts (f ∷ fs) ≡ gather ts fs
-  gather-past t [] l h = refl
-  gather-past t (u ∷ us) l h =
-      let p = parts (ltb t u) (tagsAbove u us) h in
-      let m : t < u = ltb-true t u (p .0) in
-      let d : eqb (f .tag) u ≡ false = ne-eqb (f .tag) u (λ z. omega arith) in
-      let e : bodies u (f ∷ fs) ≡ bodies u fs = bodies-cons u f fs ∙ rw d in
-      λ i. record { tag = u; has = e i } ∷ gather-past u us (omega arith) (p .1) i
-
-  gather-front : (t : ℕ) (ts : List ℕ) → tagsAbove t ts ≡ true → Ascend (f .tag) fs → isOf ts (f .tag) ≡ true → flat (gather ts (f ∷ fs)) ≡ f ∷ flat (gather ts fs)
-  unfolding flat
-  gather-front t [] h a e = absurd (false≢true e)
-  gather-front t (u ∷ us) h a e = go (eqb (f .tag) u) refl e (gather-front u us (p .1) a)
-    where
-      p : (ltb t u ≡ true) × (tagsAbove u us ≡ true)
-      p = parts (ltb t u) (tagsAbove u us) h
-
-      go : (b : Bool) → eqb (f .tag) u ≡ b → (b || isOf us (f .tag)) ≡ true
-          → (isOf us (f .tag) ≡ true → flat (gather us (f ∷ fs)) ≡ f ∷ flat (gather us fs))
-          → map (field u) (bodies u (f ∷ fs)) ++ flat (gather us (f ∷ fs)) ≡ f ∷ (map (field u) (bodies u fs) ++ flat (gather us fs))
-      go true q e r =
-          let z : f .tag ≡ u = eqb-true (f .tag) u q in
-          rw (bodies-cons u f fs, q, gather-past u us (omega arith) (p .1)) (λ i. field (sym z i) (f .body) ∷ (map (field u) (bodies u fs) ++ flat (gather us fs)))
-      go false q e r =
-          let l : u < f .tag = of-above u (f .tag) us (p .1) e in
-          rw (bodies-cons u f fs, q, bodies-none u (f .tag) fs l a) (r e)
-
-gather-nil : (ts : List ℕ) → flat (gather ts []) ≡ []
-unfolding flat bodies those
-gather-nil [] = refl
-gather-nil (t ∷ ts) = gather-nil ts
-
-pub gathered :
-    (ts : List ℕ) (n : ℕ) {fs : List Field} → tagsAbove 0 ts ≡ true → Ascend n fs → All (λ f. isOf ts (f .tag) ≡ true) fs
-    → flat (gather ts fs) ≡ fs
-gathered ts n h a none = gather-nil ts
-gathered ts n h a (more {a = f} {s = fs} e r) =
-    gather-front f fs 0 ts h (a .1) e ∙ ap (λ (l : List Field). f ∷ l) (gathered ts (f .tag) h (a .1) r)
-
 -- shapes
+
+-- a tag is one of some
+abbrev pub isOf : List ℕ → ℕ → Bool
+isOf [] n = false
+isOf (t ∷ ts) n = eqb n t || isOf ts n
 
 -- the test of one shape
 abbrev ofShape : Shape → Field → Bool
@@ -346,3 +298,7 @@ pub shaped-after : (ss ts : List Shape) (f : Field) → shaped ts f ≡ true →
 unfolding shaped
 shaped-after [] ts f h = h
 shaped-after (s ∷ ss) ts f h = rw (shaped-after ss ts f h) (or-true (ofShape s f))
+
+pub shaped-front : (ss ts : List Shape) (f : Field) → shaped ss f ≡ true → shaped (ss ++ ts) f ≡ true
+unfolding shaped
+shaped-front ss ts f h = shaped-widen ss [] ts f (λ e. absurd (false≢true e)) (rw (append-nil ss) h)

@@ -18,8 +18,8 @@ use Rattle.wire.proofs.NumberLaws.{all-append, all-drop, bytes-le, le-bound, le
 use Rattle.wire.proofs.RoundTrip.{FieldFits, fields-back, whole-back, key-back}
 use Rattle.wire.proofs.RowLaws.{RowFits, RowLength, short, long, row-back, row-length, row-bytes, row-fits}
 use Rattle.calls.specs.Lists.{allOf}
-use Rattle.calls.specs.CallList.{treesOf, treeFields, bodies, shaped, tagsAscend}
-use Rattle.calls.specs.ChangeList.{Spot, Batch, spotBody, spotOf, endField, batchFields, changeFields, changeBytes, intoFirst, splitBatches, changeShapes, rootListed, fieldOk, closed, changeLaidOut, batchOf, changesOf}
+use Rattle.calls.specs.CallList.{keysOf, treeFields, bodies, shaped}
+use Rattle.calls.specs.ChangeList.{Spot, Batch, spotBody, spotOf, endField, batchFields, changeFields, changeBytes, intoFirst, splitBatches, changeShapes, rootListed, fieldOk, closed, tagsAscend, changeLaidOut, batchOf, changesOf}
 use Rattle.calls.proofs.lists.AllLaws.{all-imp, all-join, all-each, all-map, all-test, test-all, map-back}
 use Rattle.calls.proofs.encoding.Blocks.{Block, field, flat, InBlock, flat-all, flat-tags, hasOf, bodies-all, flat-order, FieldSound, takes, shaped-in, shaped-fits}
 use Rattle.calls.proofs.lists.BoolLaws.{both, parts}
@@ -172,7 +172,7 @@ unfolding batchOf
 batch-back b h =
     let ks : List Block = batchBlocks b in
     let e : map keyOf (bodies 0 (flat ks)) ≡ b .extents = keys-back 0 ks refl (h .extents) in
-    let t : treesOf (flat ks) ≡ b .trees = trees-back ks (h .trees) refl refl refl refl refl refl in
+    let t : keysOf (flat ks) ≡ b .trees = trees-back ks (h .trees) refl refl refl refl refl refl in
     let r : map (le 1) (bodies 70 (flat ks)) ≡ b .roots = numbers-back 70 1 ks refl (h .roots) in
     let k : map bucketRead (bodies 71 (flat ks)) ≡ b .taken = buckets-back 71 ks refl (h .taken) in
     let s : map spotOf (bodies 72 (flat ks)) ≡ b .spots = part-back spotBody spotOf 72 ks refl (all-imp spot-back (h .spots)) in
@@ -291,7 +291,7 @@ zeros-read : {bs : List (List ℕ)} → All (λ b. eqb (keyOf b .pos .snapshot) 
 zeros-read h = all-map keyOf (all-imp (λ b e. eqb-true (keyOf b .pos .snapshot) 0 e) h)
 
 ok-read : {fs : List Field} → All (λ f. fieldOk f ≡ true) fs → BatchOk (batchOf fs)
-unfolding batchOf treesOf fieldOk rootListed
+unfolding batchOf keysOf fieldOk rootListed
 ok-read h =
     record {
       trees =

@@ -1,5 +1,5 @@
 -- The keys of the six trees as blocks of fields: what is written is read back, and what is read is written again.
-use mathlib.Core.Path.{_≡_, ap, sym, _∙_}
+use mathlib.Core.Path.{_≡_, ap, _∙_}
 use mathlib.Core.Bool.{true}
 use mathlib.Core.List.{List, [], _∷_, _++_, map, append-nil, map-map}
 use Prim.Native.Nat.{ℕ}
@@ -9,9 +9,9 @@ use Rattle.wire.specs.Keys.{Key, keyOf}
 use Rattle.wire.specs.Encode.{keyBody}
 use Rattle.wire.specs.Bytes.{All, none, more}
 use Rattle.wire.proofs.RoundTrip.{key-back, body-again}
-use Rattle.calls.specs.CallList.{Trees, Shape, bodies, treesOf}
+use Rattle.calls.specs.CallList.{Trees, Shape, bodies, keysOf}
 use Rattle.calls.proofs.lists.AllLaws.{all-imp, all-map, map-back}
-use Rattle.calls.proofs.encoding.Blocks.{Block, field, flat, InBlock, hasOf, bodies-flat, bodies-all, gather, FieldSound, takes, shaped-in, keeps, shaped-out}
+use Rattle.calls.proofs.encoding.Blocks.{Block, field, flat, InBlock, hasOf, bodies-flat, bodies-all, FieldSound, takes, shaped-in, keeps, shaped-out}
 use Rattle.calls.proofs.encoding.FieldBytes.{Storable, key-length, key-bytes, key-storable}
 use Rattle.calls.proofs.trees.SixTrees.{EachTree}
 
@@ -73,8 +73,8 @@ pub trees-back :
     → hasOf 12 ks ≡ map keyBody (t .needDiscard) ++ []
     → hasOf 13 ks ≡ map keyBody (t .backpointers) ++ []
     → hasOf 14 ks ≡ map keyBody (t .gens) ++ []
-    → treesOf (flat ks) ≡ t
-unfolding treesOf
+    → keysOf (flat ks) ≡ t
+unfolding keysOf
 trees-back ks h a b c d e f =
     λ i.
     record {
@@ -93,13 +93,13 @@ module _ {ss : List Shape} {fs : List Field} (h : All (FieldSound ss) fs) where
   keys-read t e =
       all-map keyOf (all-imp (λ b s. key-storable (s .bytes) (shaped-out t 37 293 ss b e (s .shape) .1)) (bodies-all t h))
 
-  keys-again : (t : ℕ) → keeps t 37 293 ss ≡ true → map keyBody (map keyOf (bodies t fs)) ≡ bodies t fs
+  pub keys-again : (t : ℕ) → keeps t 37 293 ss ≡ true → map keyBody (map keyOf (bodies t fs)) ≡ bodies t fs
   keys-again t e =
       map-back keyOf keyBody
       (all-imp (λ b s. body-again (s .bytes) (shaped-out t 37 293 ss b e (s .shape) .0)) (bodies-all t h))
 
-  pub trees-read : All (λ t. keeps t 37 293 ss ≡ true) treeTags → TreesFit (treesOf fs)
-  unfolding treesOf
+  pub trees-read : All (λ t. keeps t 37 293 ss ≡ true) treeTags → TreesFit (keysOf fs)
+  unfolding keysOf
   trees-read (more a (more b (more c (more d (more e (more f none)))))) =
       record {
         alloc = keys-read 4 a;
@@ -109,15 +109,3 @@ module _ {ss : List Shape} {fs : List Field} (h : All (FieldSound ss) fs) where
         backpointers = keys-read 13 e;
         gens = keys-read 14 f;
       }
-
-  pub trees-again : (ts : List ℕ) → All (λ t. keeps t 37 293 ss ≡ true) treeTags → gather (treeTags ++ ts) fs ≡ treeBlocks (treesOf fs) ++ gather ts fs
-  unfolding treesOf
-  trees-again ts (more a (more b (more c (more d (more e (more f none)))))) =
-      λ i.
-      record { tag = 4; has = sym (keys-again 4 a) i }
-      ∷ record { tag = 10; has = sym (keys-again 10 b) i }
-      ∷ record { tag = 11; has = sym (keys-again 11 c) i }
-      ∷ record { tag = 12; has = sym (keys-again 12 d) i }
-      ∷ record { tag = 13; has = sym (keys-again 13 e) i }
-      ∷ record { tag = 14; has = sym (keys-again 14 f) i }
-      ∷ gather ts fs

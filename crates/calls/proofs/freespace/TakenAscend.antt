@@ -16,7 +16,7 @@ use Rattle.wire.specs.declared.bpos.Bpos.{Bpos}
 use Rattle.wire.specs.Bytes.{All, none, more}
 use Rattle.wire.proofs.OrderLaws.{cmp-less, offset-more}
 use Rattle.calls.specs.Lists.{allOf, anyOf, inOrder}
-use Rattle.calls.specs.CallList.{Volume, CallList, Shape, shaped, volumeShapes, requestShapes, bodies, tagsAscend, headOk, treesOk, laidOut, callLaidOut}
+use Rattle.calls.specs.CallList.{Volume, CallList, Shape, shaped, volumeShapes, requestShapes, bodies, allTrees, snapshotsOk, keysAscend, headOk, treesOk, laidOut, callLaidOut, noneTwice}
 use Rattle.calls.specs.Limits.{isSet, isRun, atInode0}
 use Rattle.calls.specs.Freespace.{isIn, runsOf, startOf, endOf, bucketsOf, overlap, overlaps, isUsed, pass, walk}
 use Rattle.calls.specs.Pieces.{bucketsNeeded}
@@ -25,7 +25,7 @@ use Rattle.calls.specs.Answers.{readCall, readVolume}
 use Rattle.calls.proofs.lists.AllLaws.{all-imp, all-each, all-chosen}
 use Rattle.calls.proofs.encoding.ApplyLaws.{Up, up-order, up-weak}
 use Rattle.calls.proofs.lists.BoolLaws.{clash, parts, neither}
-use Rattle.calls.proofs.trees.SixTrees.{trees-order}
+use Rattle.calls.proofs.trees.SixTrees.{trees-order, trees-ok}
 use Rattle.calls.proofs.trees.SortedLaws.{Chain, Sorted, chain-weak, chain-sorted, lookup-own, sorted-those}
 use Rattle.calls.proofs.history.View.{bucket}
 
@@ -143,19 +143,18 @@ module _ (reserved used : Bucket → Bool) where
       (walk-up 0 need (runsOf l) (sorted-those isRun l c) inodes o (all-each (λ k e. omega arith) (runsOf l)))
 
 -- ---- a placement
--- the trees of a call list that is laid out right
-call-trees : (call : ℕ) (s : List ℕ) → callLaidOut call s ≡ true → treesOk (readVolume s .trees) ≡ true
-unfolding callLaidOut laidOut
-call-trees call s h =
+-- the trees of a call list that is laid out right and has no position twice
+call-trees : (call : ℕ) (s : List ℕ) → callLaidOut call s ≡ true → noneTwice (readVolume s) ≡ true → treesOk (readVolume s .trees) ≡ true
+unfolding callLaidOut laidOut noneTwice
+call-trees call s h o =
     let fs : List Field = fields s in
     let v : Volume = readVolume s in
     let ss : List Shape = volumeShapes ++ requestShapes call in
     let a = parts (whole s) _ (parts (laidOut ss s) (eqb (v .head .call) call) h .0) in
     let b = parts (allOf (shaped ss) fs) _ (a .1) in
-    let c = parts (tagsAscend fs) _ (b .1) in
-    let d = parts (eqb (length (bodies 1 fs)) 1) _ (c .1) in
-    let e = parts (headOk (v .head)) _ (d .1) in
-    parts (treesOk (v .trees)) (inOrder bucketBelow (v .reserved)) (e .1) .0
+    let c = parts (eqb (length (bodies 1 fs)) 1) _ (b .1) in
+    let d = parts (headOk (v .head)) (allTrees snapshotsOk (v .trees)) (c .1) in
+    trees-ok (v .trees) (parts (allTrees keysAscend (v .trees)) (inOrder bucketBelow (v .reserved)) o .0) (d .1)
 
 -- those that a placement takes, where the trees are in order and refusal 10 does not come
 pub place-taken-ascend : (c : CallList) → treesOk (c .volume .trees) ≡ true → overlaps (runsOf (c .volume .trees .freespace)) ≡ false
@@ -165,7 +164,7 @@ place-taken-ascend c h o =
     walk-taken-ascend (isIn (c .volume .reserved)) (isUsed (c .volume .trees .alloc)) (bucketsNeeded (slotsOf c)) (c .volume .trees .freespace)
     (trees-order h .freespace .0) o
 
--- and of a list that passes place's tests 2 and 10
-pub laid-taken-ascend : (s : List ℕ) → callLaidOut 1 s ≡ true → overlaps (runsOf (readVolume s .trees .freespace)) ≡ false
+-- and of a list that passes place's tests 2, 22 and 10
+pub laid-taken-ascend : (s : List ℕ) → callLaidOut 1 s ≡ true → noneTwice (readVolume s) ≡ true → overlaps (runsOf (readVolume s .trees .freespace)) ≡ false
     → inOrder bucketBelow (walkOf (readCall s) .taken) ≡ true
-laid-taken-ascend s h o = place-taken-ascend (readCall s) (call-trees 1 s h) o
+laid-taken-ascend s h n o = place-taken-ascend (readCall s) (call-trees 1 s h n) o

@@ -7,7 +7,7 @@ use Prim.Native.Nat.{ℕ}
 use lib.Dec.{eqb}
 use borrow.Author.Tests.{eqb-true}
 use Rattle.wire.specs.Bytes.{All, none as nothing, more, Bytes}
-use Rattle.calls.specs.CallList.{Volume, treesOk, volumeBytes}
+use Rattle.calls.specs.CallList.{Volume, treesOk, noneTwice, volumeBytes}
 use Rattle.calls.specs.ChangeList.{Batch, changeBytes}
 use Rattle.calls.specs.Refusals.{verdict}
 use Rattle.calls.specs.Place.{placeTests, placeBatch, placedOf, walkOf}
@@ -25,7 +25,7 @@ use Rattle.calls.proofs.place.PlaceFits.{place-fits}
 use Rattle.calls.proofs.place.PlaceLaws.{newPieces, placedVolume, placed-spots}
 use Rattle.calls.proofs.release.ReleaseFits.{release-fits}
 use Rattle.calls.proofs.release.ReleaseLaws.{released}
-use Rattle.calls.proofs.encoding.VolumeTrip.{ListLaid, call-laid, laid-fits, without-read, read-back}
+use Rattle.calls.proofs.encoding.VolumeTrip.{ListLaid, call-laid, laid-fits, laid-ok, without-read, read-back}
 
 -- what a call finds: bytes whose trees are laid out right
 pub record Read (s : List ℕ) : Type 0 where
@@ -45,26 +45,26 @@ pub record Keeps (P : Volume → List Live → Type 0) : Type 0 where
 
 -- ---- what apply writes
 -- its volume reads as the batches make it
-batched : (s written volume : List ℕ) (bs : List Batch) → ListLaid s → All BatchFits bs → All BatchOk bs → written ≡ changeBytes bs
+batched : (s written volume : List ℕ) (bs : List Batch) → ListLaid s → noneTwice (readVolume s) ≡ true → All BatchFits bs → All BatchOk bs → written ≡ changeBytes bs
     → volume ≡ volumeBytes (nextVolume (withoutRequests s) written) → readVolume volume ≡ applyBatches bs (readVolume s)
-batched s written volume bs l f o w v =
-    let n : nextVolume (withoutRequests s) written ≡ applyBatches bs (readVolume s) = rw (w, changes-back f, without-read l) in
-    let h = apply-fits f o (laid-fits l) (l .ok) in
-    let e : volume ≡ volumeBytes (applyBatches bs (readVolume s)) = v ∙ ap volumeBytes n in
-    rw e (read-back (h .0))
+batched s written volume bs l n f o w v =
+    let m : nextVolume (withoutRequests s) written ≡ applyBatches bs (readVolume s) = rw (w, changes-back f, without-read l) in
+    let h = apply-fits f o (laid-fits l) (laid-ok l n) in
+    let e : volume ≡ volumeBytes (applyBatches bs (readVolume s)) = v ∙ ap volumeBytes m in
+    rw e (read-back (h .0) (h .1))
 
 one-batch : (b : Batch) (v : Volume) → applyBatches (b ∷ []) v ≡ applyBatch b v
 unfolding applyBatches
 one-batch b v = refl
 
-read-laid : {s : List ℕ} → Bytes s → ListLaid s → Read s
-read-laid r l = record { bytes = r; trees = l .ok .trees }
+read-laid : {s : List ℕ} → ListLaid s → noneTwice (readVolume s) ≡ true → Read s
+read-laid l n = record { bytes = l .bytes; trees = laid-ok l n .trees }
 
 -- the pieces of an accepted placement's answer are those that it placed
 pieces-read : (s : List ℕ) (a : Answer) → Bytes s → Placement s a → placedPieces (a .written) (readCall s .pieces) ≡ newPieces (readCall s)
 unfolding placedPieces placeBatch flatMap
 pieces-read s a r p =
-    let f = place-fits r (p .laid-out) (p .within) (p .tests-held) in
+    let f = place-fits r (p .laid-out) (p .once) (p .within) (p .tests-held) in
     rw (p .written, changes-back (more (f .0) nothing), append-nil) (placed-spots (readCall s))
 
 -- the answer to a step, by its call
@@ -87,53 +87,53 @@ module _ {P : Volume → List Live → Type 0} (keeps : Keeps P) where
       → P (readVolume volume) (live ++ placedPieces (a .written) (readCall s .pieces))
   after-place s live a volume r p h v =
       let c = readCall s in
-      let f = place-fits r (p .laid-out) (p .within) (p .tests-held) in
+      let f = place-fits r (p .laid-out) (p .once) (p .within) (p .tests-held) in
       let b = placeBatch (readVolume s) (placedOf c) (walkOf c) in
       let l = call-laid 1 r (p .laid-out) in
-      let t = batched s (a .written) volume (b ∷ []) l (more (f .0) nothing) (more (f .1) nothing) (p .written) v in
-      rw (t, one-batch, pieces-read s a r p) (keeps .place s live (read-laid r l) (p .tests-held) h)
+      let t = batched s (a .written) volume (b ∷ []) l (p .once) (more (f .0) nothing) (more (f .1) nothing) (p .written) v in
+      rw (t, one-batch, pieces-read s a r p) (keeps .place s live (read-laid l (p .once)) (p .tests-held) h)
 
   after-release : (s : List ℕ) (live left : List Live) (a : Answer) (volume : List ℕ) → Bytes s → Released s a
       → takeAll (readCall s .releases) live ≡ some left → P (readVolume s) live
       → volume ≡ volumeBytes (nextVolume (withoutRequests s) (a .written)) → P (readVolume volume) left
   after-release s live left a volume r p named h v =
-      let f = release-fits r (p .laid-out) (p .within) (p .tests-held) in
+      let f = release-fits r (p .laid-out) (p .once) (p .within) (p .tests-held) in
       let b = releaseBatch (readVolume s) (readCall s .releases) in
       let l = call-laid 2 r (p .laid-out) in
-      let t = batched s (a .written) volume (b ∷ []) l (more (f .0) nothing) (more (f .1) nothing) (p .written) v in
-      rw (t, one-batch) (keeps .release s live left (read-laid r l) (p .tests-held) named h)
+      let t = batched s (a .written) volume (b ∷ []) l (p .once) (more (f .0) nothing) (more (f .1) nothing) (p .written) v in
+      rw (t, one-batch) (keeps .release s live left (read-laid l (p .once)) (p .tests-held) named h)
 
   after-discard : (s : List ℕ) (live : List Live) (a : Answer) (volume : List ℕ) → Bytes s → Discarded s a → P (readVolume s) live
       → volume ≡ volumeBytes (nextVolume (withoutRequests s) (a .written)) → P (readVolume volume) live
   after-discard s live a volume r p h v =
-      let f = discard-fits r (p .laid-out) (p .within) in
+      let f = discard-fits r (p .laid-out) (p .once) (p .within) in
       let l = call-laid 3 r (p .laid-out) in
-      let t = batched s (a .written) volume (discardBatches (readVolume s)) l (f .0) (f .1) (p .written) v in
-      rw t (keeps .discard s live (read-laid r l) h)
+      let t = batched s (a .written) volume (discardBatches (readVolume s)) l (p .once) (f .0) (f .1) (p .written) v in
+      rw t (keeps .discard s live (read-laid l (p .once)) h)
 
-  -- the state's facts, of a step's list
-  pub found : (st : State) (s : Step) → Has st → Allowed st s → P (readVolume (s .list)) (st .live)
-  found st s k a =
-      keeps .same (readVolume (st .volume)) (readVolume (s .list)) (st .live) (same-trees (s .list) (st .volume) (a .same))
-      (same-reserved (s .list) (st .volume) (a .same)) (a .sectors) k
+  -- the state's facts, of a step's list that has no position twice
+  pub found : (st : State) (s : Step) → Has st → Allowed st s → noneTwice (readVolume (s .list)) ≡ true → P (readVolume (s .list)) (st .live)
+  found st s k a n =
+      keeps .same (readVolume (st .volume)) (readVolume (s .list)) (st .live) (same-trees (s .list) (st .volume) (a .same) n)
+      (same-reserved (s .list) (st .volume) (a .same) n) (a .sectors) k
 
   -- a step, by its call
   keeps-call : (st : State) (s : Step) → Has st → Allowed st s → (c : Call) → s .call ≡ c → answerTo s .number ≡ 0 → appliedTo s .number ≡ 0
       → Has (record { volume = appliedTo s .written; live = liveBy c s (st .live) })
   keeps-call st s k a placing e n m =
       let w = answer-by s placing e in
-      after-place (s .list) (st .live) (answerTo s) (appliedTo s .written) (a .bytes)
-      (rw w (placement (s .list) (s .room) (ap (λ (x : Answer). x .number) (sym w) ∙ n))) (found st s k a) (next-bytes s m)
+      let p = placement (s .list) (s .room) (ap (λ (x : Answer). x .number) (sym w) ∙ n) in
+      after-place (s .list) (st .live) (answerTo s) (appliedTo s .written) (a .bytes) (rw w p) (found st s k a (p .once)) (next-bytes s m)
   keeps-call st s k a releasing e n m =
       let w = answer-by s releasing e in
+      let p = release-answered (s .list) (s .scratch) (s .room) (ap (λ (x : Answer). x .number) (sym w) ∙ n) in
       let l = a .named e n in
       rw (l .1)
-      (after-release (s .list) (st .live) (l .0) (answerTo s) (appliedTo s .written) (a .bytes)
-      (rw w (release-answered (s .list) (s .scratch) (s .room) (ap (λ (x : Answer). x .number) (sym w) ∙ n))) (l .1) (found st s k a) (next-bytes s m))
+      (after-release (s .list) (st .live) (l .0) (answerTo s) (appliedTo s .written) (a .bytes) (rw w p) (l .1) (found st s k a (p .once)) (next-bytes s m))
   keeps-call st s k a discarding e n m =
       let w = answer-by s discarding e in
-      after-discard (s .list) (st .live) (answerTo s) (appliedTo s .written) (a .bytes)
-      (rw w (discarded (s .list) (s .room) (ap (λ (x : Answer). x .number) (sym w) ∙ n))) (found st s k a) (next-bytes s m)
+      let p = discarded (s .list) (s .room) (ap (λ (x : Answer). x .number) (sym w) ∙ n) in
+      after-discard (s .list) (st .live) (answerTo s) (appliedTo s .written) (a .bytes) (rw w p) (found st s k a (p .once)) (next-bytes s m)
 
   keeps-step : (st : State) (s : Step) → Has st → Allowed st s → Has (advance st s)
   unfolding advance

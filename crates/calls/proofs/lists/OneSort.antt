@@ -8,7 +8,7 @@ use native.Mathlib.Omega.{arith}
 use Rattle.wire.specs.Bytes.{All, none, more}
 use Rattle.calls.specs.Lists.{those, inOrder, total, one, count}
 use Rattle.calls.specs.Sorting.{Weak, Equality, sortedBy, same, twice, Rising}
-use Rattle.calls.proofs.lists.AllLaws.{all-imp}
+use Rattle.calls.proofs.lists.AllLaws.{all-imp, all-each}
 use Rattle.calls.proofs.lists.BoolLaws.{clash}
 use Rattle.calls.proofs.lists.OrderLaws.{order-tail}
 use Rattle.calls.proofs.lists.SortLaws.{count-sorted, those-sorted, rising-sorted, tails, rest}
@@ -16,18 +16,20 @@ use Rattle.calls.proofs.lists.ThoseLaws.{those-never}
 use Rattle.calls.proofs.lists.TwiceLaws.{asc-below, twice-ascends}
 use Rattle.calls.proofs.lists.WeakLaws.{lt-le}
 
+-- what holds of each element holds of one that is counted
+module _ {A : Type 0} {eq : A → A → Bool} (q : Equality eq) where
+  pub counted : {P : A → Type 0} (z : A) {xs : List A} → All P xs → 0 < count (eq z) xs → P z
+  unfolding total
+  counted z none h = absurd (omega arith)
+  counted {P} z (more {a = x} {s = xs} p r) h = go (eq z x) refl h (counted z r)
+    where
+      go : (t : Bool) → eq z x ≡ t → 0 < one t + count (eq z) xs → (0 < count (eq z) xs → P z) → P z
+      go true e h ih = rw (q .sound z x e) p
+      go false e h ih = ih (omega arith)
+
 module _ {A : Type 0} {less : A → A → Bool} (w : Weak less) where
   -- lists in which every element stands as often, no position twice, have one sort
   module _ {eq : A → A → Bool} (q : Equality eq) where
-    counted : {P : A → Type 0} (z : A) {xs : List A} → All P xs → 0 < count (eq z) xs → P z
-    unfolding total
-    counted z none h = absurd (omega arith)
-    counted {P} z (more {a = x} {s = xs} p r) h = go (eq z x) refl h (counted z r)
-      where
-        go : (t : Bool) → eq z x ≡ t → 0 < one t + count (eq z) xs → (0 < count (eq z) xs → P z) → P z
-        go true e h ih = rw (q .sound z x e) p
-        go false e h ih = ih (omega arith)
-
     counts-first : (x : A) (xs : List A) → 0 < count (eq x) (x ∷ xs)
     unfolding total
     counts-first x xs = rw (q .whole x) (omega arith)
@@ -44,7 +46,7 @@ module _ {A : Type 0} {less : A → A → Bool} (w : Weak less) where
         go false e false f =
             let first : 0 < count (eq y) xs = omega (arith, rw f at (c y), counts-first y ys) in
             let second : 0 < count (eq x) ys = omega (arith, rw e at (c x), counts-first x xs) in
-            absurd (clash (counted y up first) (counted x down second))
+            absurd (clash (counted q y up first) (counted q x down second))
 
     -- an ascending list and an ordered one
     pub one-order : (xs ys : List A) → inOrder less xs ≡ true → Rising less ys → ((z : A) → count (eq z) xs ≡ count (eq z) ys) → xs ≡ ys
@@ -128,3 +130,20 @@ module _ {A : Type 0} {less : A → A → Bool} (w : Weak less) where
   one-stable xs ys c =
       rising-classes (sortedBy less xs) (sortedBy less ys) (rising-sorted w xs) (rising-sorted w ys)
       (λ z. those-sorted w (same less z) xs ∙ ap (sortedBy less) (c z) ∙ sym (those-sorted w (same less z) ys))
+
+-- a list of one element, and one in which every element stands as often
+module _ {A : Type 0} {eq : A → A → Bool} (q : Equality eq) where
+  -- an order in which none is less: every list is in order
+  abbrev unordered : A → A → Bool
+  unordered a b = false
+
+  unordered-weak : Weak unordered
+  unordered-weak = record { asym = λ a b h. refl; trans = λ a b c h k. refl }
+
+  unordered-rising : (xs : List A) → Rising unordered xs
+  unordered-rising [] = Rising.none
+  unordered-rising (x ∷ xs) = Rising.more (all-each (λ y. refl) xs) (unordered-rising xs)
+
+  pub one-element : (x : A) (ys : List A) → ((z : A) → count (eq z) (x ∷ []) ≡ count (eq z) ys) → x ∷ [] ≡ ys
+  unfolding inOrder
+  one-element x ys c = one-order unordered-weak q (x ∷ []) ys refl (unordered-rising ys) c

@@ -1,11 +1,15 @@
 -- Totals over a list.
-use mathlib.Core.Path.{_≡_, refl, ap}
+use mathlib.Core.Path.{_≡_, refl, ap, sym}
+use mathlib.Core.Bool.{Bool, true, false, not, _&&_}
 use mathlib.Core.List.{List, [], _∷_, _++_, map, List·Memᴰ, List·Memᴰ·head, List·Memᴰ·tail}
 use Prim.Native.Nat.{ℕ, _+_, _*_, _^_, _≤_, _<_}
 use native.Mathlib.Omega.{arith}
+use native.Mathlib.Nat.{zero-add}
+use lib.Dec.{eqb}
 use lib.ListN.{length}
+use borrow.Author.Tests.{ne-eqb}
 use Rattle.wire.specs.Bytes.{All, none, more}
-use Rattle.calls.specs.Lists.{total}
+use Rattle.calls.specs.Lists.{allOf, total, one, count}
 use Rattle.calls.proofs.lists.AllLaws.{all-imp}
 
 -- the first element and the rest
@@ -58,3 +62,13 @@ total-most f m (more h r) = omega (arith, total-most f m r)
 -- a sum over 1,024 requests
 pub total-small : {A : Type 0} (f : A → ℕ) {l : List A} → All (λ a. f a < 2 ^ 16) l → length l ≤ 1024 → total f l < 2 ^ 26
 total-small f h n = omega (arith, total-most f 65535 (all-imp (λ a k. omega arith) h))
+
+-- a test holds of all where it fails of none
+pub all-count : {A : Type 0} (t : A → Bool) (l : List A) → allOf t l ≡ eqb (count (λ a. not (t a)) l) 0
+unfolding allOf total
+all-count t [] = refl
+all-count t (x ∷ xs) = go (t x) (all-count t xs)
+  where
+    go : (b : Bool) → allOf t xs ≡ eqb (count (λ a. not (t a)) xs) 0 → (b && allOf t xs) ≡ eqb (one (not b) + count (λ a. not (t a)) xs) 0
+    go true e = rw zero-add e
+    go false e = sym (ne-eqb (1 + count (λ a. not (t a)) xs) 0 (λ z. omega arith))

@@ -23,7 +23,7 @@ use Rattle.format.specs.AllocV4.{newAlloc}
 use Rattle.format.specs.Backpointer.{backpointer}
 use Rattle.format.specs.Entries.{pointer, checksumEntry, extentWords}
 use Rattle.calls.specs.Lists.{those, total}
-use Rattle.calls.specs.CallList.{Volume, Piece, CallList, callLaidOut}
+use Rattle.calls.specs.CallList.{Volume, Piece, CallList, callLaidOut, noneTwice}
 use Rattle.calls.specs.Limits.{isRun, listWithin}
 use Rattle.calls.specs.Trees.{deletion}
 use Rattle.calls.specs.Freespace.{runsOf, bucketsOf, startOf, endOf, pass, shortened, Walked, walk}
@@ -35,7 +35,7 @@ use Rattle.calls.specs.Lru.{lruWanted}
 use Rattle.calls.specs.Accounting.{countedRows, kindRow, extentsRow, swapped, ownerRow}
 use Rattle.calls.specs.Refusals.{verdict}
 use Rattle.calls.specs.Place.{rootMissing, slotsOf, walkOf, placedOf, dirtyIn, newAllocKey, spotAt, placeRows, placeBatch, placeTests}
-use Rattle.calls.specs.Answers.{readCall}
+use Rattle.calls.specs.Answers.{readCall, readVolume}
 use Rattle.calls.proofs.lists.AllLaws.{all-imp, all-join, all-map, all-those, all-flat}
 use Rattle.calls.proofs.lists.ThoseLaws.{those-length}
 use Rattle.calls.proofs.freespace.BucketLaws.{in-all}
@@ -44,11 +44,13 @@ use Rattle.calls.proofs.freespace.CoverLaws.{length-from}
 use Rattle.calls.proofs.encoding.FieldBytes.{Storable}
 use Rattle.calls.proofs.encoding.KeyFitsLaws.{ValueFits, struct-fits, bucket-pos, Queued, queued-pos, queued-value, new-queued, deletion-queued, changed-queued, trees-fit, trees-zero, volume-queued, lru-keys, roots-if, plus-fits, less-fits, differ-fits, buckets-row, VolumeLimits, within, list-within, words-fit}
 use Rattle.calls.proofs.place.PlaceLaws.{PlacedIn, sectorsIn, gensIn, takenBy, place-enough, placed-bounds, taken-bound}
-use Rattle.calls.proofs.place.ReadFits.{PieceFits, pieces-fit, gens-small}
+use Rattle.calls.proofs.encoding.RequestTrip.{PieceFits, pieces-fit}
+use Rattle.calls.proofs.place.ReadFits.{gens-small}
 use Rattle.calls.proofs.trees.SixTrees.{trees-order, EachTree}
 use Rattle.calls.proofs.trees.SortedLaws.{Sorted}
 use Rattle.calls.proofs.lists.TotalLaws.{total-most, total-small}
-use Rattle.calls.proofs.encoding.VolumeTrip.{HeadFits, VolumeFits, VolumeOk, call-fits}
+use Rattle.calls.proofs.encoding.HeadTrip.{HeadFits}
+use Rattle.calls.proofs.encoding.VolumeTrip.{VolumeFits, VolumeOk, call-fits}
 
 -- the walk
 
@@ -329,12 +331,12 @@ module _ (c : CallList) (f : VolumeFits (c .volume)) (ok : VolumeOk (c .volume))
 
 -- the same of a list of bytes
 
-module _ {s : List ℕ} (r : Bytes s) (laid-out : callLaidOut 1 s ≡ true) (fits : listWithin (readCall s) ≡ true)
-    (passed : verdict (placeTests (readCall s)) ≡ 0) where
+module _ {s : List ℕ} (r : Bytes s) (laid-out : callLaidOut 1 s ≡ true) (once : noneTwice (readVolume s) ≡ true)
+    (fits : listWithin (readCall s) ≡ true) (passed : verdict (placeTests (readCall s)) ≡ 0) where
   -- each piece is placed within the sectors and generations there are
   pub place-placed : All PlacedFits (placedOf (readCall s))
   place-placed =
-      let f = call-fits 1 r laid-out in
+      let f = call-fits 1 r laid-out once in
       let w = list-within (readCall s) fits in
       all-placed (readCall s) (f .0) (f .1) (within (w .0)) (pieces-fit r) (w .1) (gens-small r) passed
 
@@ -342,6 +344,6 @@ module _ {s : List ℕ} (r : Bytes s) (laid-out : callLaidOut 1 s ≡ true) (fit
       let c = readCall s in
       BatchFits (placeBatch (c .volume) (placedOf c) (walkOf c)) × BatchOk (placeBatch (c .volume) (placedOf c) (walkOf c))
   place-fits =
-      let f = call-fits 1 r laid-out in
+      let f = call-fits 1 r laid-out once in
       let w = list-within (readCall s) fits in
       call-place-fits (readCall s) (f .0) (f .1) (within (w .0)) (pieces-fit r) (w .1) (gens-small r) passed

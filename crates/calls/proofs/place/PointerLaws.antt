@@ -67,8 +67,8 @@ unfolding placeBatch
 pointers-agree s room r h =
     let c = readCall s in
     let p = placement s room h in
-    let f = place-fits r (p .laid-out) (p .within) (p .tests-held) in
-    let m = place-placed r (p .laid-out) (p .within) (p .tests-held) in (
+    let f = place-fits r (p .laid-out) (p .once) (p .within) (p .tests-held) in
+    let m = place-placed r (p .laid-out) (p .once) (p .within) (p .tests-held) in (
       placeBatch (c .volume) (placedOf c) (walkOf c),
       ap changesOf (p .written) ∙ changes-back (more (f .0) none),
       record {

@@ -1,42 +1,27 @@
--- What is read of a list of bytes fits: pieces, generations and bucket sectors.
+-- What is read of a list of bytes fits: generations and bucket sectors.
 use mathlib.Core.Path.{_≡_, refl}
 use mathlib.Core.Bool.{Bool, true, false, cond}
 use mathlib.Core.List.{List}
 use mathlib.Core.Option.{Option, none, some}
-use Prim.Native.Nat.{ℕ, _^_, _<_}
+use Prim.Native.Nat.{ℕ, _<_}
 use native.Mathlib.Omega.{arith}
 use lib.Dec.{ltb, eqb}
 use lib.ListN.{length, getD}
-use Rattle.wire.specs.Keys.{Key}
+use Rattle.wire.specs.Keys.{Key, keyOf}
 use Rattle.wire.specs.Positions.{gensAt, gensByte}
 use Rattle.wire.specs.declared.kinds.Bucket.{Bucket}
 use Rattle.wire.specs.Bytes.{All, Bytes}
 use Rattle.wire.proofs.NumberLaws.{all-drop, bytes-at, le-bound}
 use Rattle.format.specs.Gens.{genIn}
 use Rattle.calls.specs.Lists.{fromOption}
-use Rattle.calls.specs.CallList.{Piece, pieceOf, headOf, treesOf, firstBody, callListOf}
+use Rattle.calls.specs.CallList.{headOf, keysOf, keyBelow, sortedTrees, firstBody, callListOf}
 use Rattle.calls.specs.Trees.{lookup}
 use Rattle.calls.specs.Generations.{found, tooShort, ofType30, genRecord, foundIn, genLookup, orZero, genOf}
 use Rattle.calls.specs.Answers.{readCall}
 use Rattle.calls.proofs.lists.AllLaws.{all-imp, all-map}
+use Rattle.calls.proofs.lists.SortLaws.{all-sorted}
 use Rattle.calls.proofs.encoding.KeyFitsLaws.{bodies-bytes}
 use Rattle.calls.proofs.trees.TreeLaws.{lookup-all}
-
-pub record PieceFits (p : Piece) : Type 0 where
-  pub file : p .file < 2 ^ 16
-  pub stored : p .stored < 2 ^ 16
-  pub kind : p .kind < 2 ^ 8
-  pub checksum : p .checksum < 2 ^ 64
-
-piece-fits : {b : List ℕ} → Bytes b → PieceFits (pieceOf b)
-unfolding pieceOf
-piece-fits r =
-    record {
-      file = le-bound 2 r;
-      stored = le-bound 2 (all-drop 2 r);
-      kind = le-bound 1 (all-drop 4 r);
-      checksum = le-bound 8 (all-drop 5 r);
-    }
 
 record-small : (b : Bucket) (o : Option Key) → ((k : Key) → o ≡ some k → Bytes (k .value)) → orZero (foundIn b (ofType30 o)) < 256
 unfolding genIn
@@ -56,13 +41,9 @@ first-bytes All.none = All.none
 first-bytes (All.more h r) = h
 
 module _ {s : List ℕ} (r : Bytes s) where
-  pub pieces-fit : All PieceFits (readCall s .pieces)
-  unfolding callListOf
-  pieces-fit = all-map pieceOf (all-imp (λ b k. piece-fits k) (bodies-bytes 65 r))
-
   gens-bytes : All (λ k. Bytes (k .value)) (readCall s .volume .trees .gens)
-  unfolding callListOf treesOf
-  gens-bytes = all-map _ (all-imp (λ b k. all-drop 37 k) (bodies-bytes 14 r))
+  unfolding callListOf keysOf sortedTrees
+  gens-bytes = all-sorted keyBelow (all-map keyOf (all-imp (λ b k. all-drop 37 k) (bodies-bytes 14 r)))
 
   pub gens-small : (b : Bucket) → genOf (readCall s .volume .trees .gens) b < 256
   unfolding genOf genLookup genRecord

@@ -16,14 +16,14 @@ use Rattle.wire.specs.Kinds.{sameBucket, bucketInRange, bucketOf, offsetIn}
 use Rattle.wire.specs.Positions.{allocAt, gensAt, gensByte}
 use Rattle.wire.specs.declared.kinds.Bucket.{Bucket}
 use Rattle.wire.specs.Bytes.{All, Bytes}
-use Rattle.wire.proofs.NumberLaws.{all-append, all-drop, le-bound}
+use Rattle.wire.proofs.NumberLaws.{all-append}
 use Rattle.wire.proofs.RowLaws.{RowFits, one}
 use Rattle.format.specs.Packing.{get}
 use Rattle.format.specs.AllocV4.{flags, gen, oldestGen, dataType, stripeRedundancy, dirtySectors, journalSeqEmpty, needDiscardType, emptiedFlags, withDirty, nextGen, emptied}
 use Rattle.format.specs.Gens.{withGen, noGens}
 use Rattle.format.proofs.AllocLaws.{next-low}
 use Rattle.calls.specs.Lists.{those, total, fromOption, isEmpty}
-use Rattle.calls.specs.CallList.{Volume, Freed, freedOf, callLaidOut, callListOf}
+use Rattle.calls.specs.CallList.{Volume, Freed, callLaidOut, noneTwice}
 use Rattle.calls.specs.Limits.{listWithin}
 use Rattle.calls.specs.Trees.{lookup, newKey}
 use Rattle.calls.specs.Generations.{genRecord, genKey, genQueued}
@@ -32,33 +32,20 @@ use Rattle.calls.specs.Accounting.{countedRows}
 use Rattle.calls.specs.Refusals.{verdict}
 use Rattle.calls.specs.Place.{rootMissing}
 use Rattle.calls.specs.Release.{freedOk, freedBuckets, freedIn, allocValue, dirtyAt, isEmptied, releaseTests, releasedKey, releasedLru, emptiedGen, gensQueued, unusedChange, releaseRows, releaseBatch}
-use Rattle.calls.specs.Answers.{readCall}
+use Rattle.calls.specs.Answers.{readCall, readVolume}
 use Rattle.calls.proofs.lists.AllLaws.{all-imp, all-each, all-map, all-those, test-all, all-flat}
 use Rattle.calls.proofs.lists.ThoseLaws.{those-length}
 use Rattle.calls.proofs.lists.BoolLaws.{parts, cond-most}
 use Rattle.calls.proofs.freespace.BucketLaws.{in-all, inserts-length}
 use Rattle.calls.proofs.encoding.ChangeTrip.{BatchFits, isRoot, BatchOk}
 use Rattle.calls.proofs.release.GensLaws.{type-30}
-use Rattle.calls.proofs.encoding.KeyFitsLaws.{bodies-bytes, ValueFits, no-value, put-fits, store-fits, Queued, queued-value, new-queued, deletion-queued, with-queued, bucket-pos, trees-fit, trees-zero, volume-queued, lru-keys, lru-deletions, roots-if, plus-fits, less-fits, differ-fits, buckets-row, list-within}
+use Rattle.calls.proofs.encoding.KeyFitsLaws.{ValueFits, no-value, put-fits, store-fits, Queued, queued-value, new-queued, deletion-queued, with-queued, bucket-pos, trees-fit, trees-zero, volume-queued, lru-keys, lru-deletions, roots-if, plus-fits, less-fits, differ-fits, buckets-row, list-within}
 use Rattle.calls.proofs.release.ReleaseLaws.{release-accepted, named-range}
 use Rattle.calls.proofs.trees.SixTrees.{EachTree}
 use Rattle.calls.proofs.lists.TotalLaws.{total-most, total-le, total-small}
 use Rattle.calls.proofs.trees.TreeLaws.{lookup-all}
+use Rattle.calls.proofs.encoding.RequestTrip.{FreedFits, releases-fit}
 use Rattle.calls.proofs.encoding.VolumeTrip.{VolumeFits, VolumeOk, call-fits}
-
--- what is read of bytes
-
-pub record FreedFits (r : Freed) : Type 0 where
-  pub first : r .first .0 < 2 ^ 64
-  pub sectors : r .sectors < 2 ^ 16
-
-freed-fits : {b : List ℕ} → Bytes b → FreedFits (freedOf b)
-unfolding freedOf
-freed-fits r = record { first = le-bound 8 r; sectors = le-bound 2 (all-drop 8 r) }
-
-pub releases-fit : {s : List ℕ} → Bytes s → All FreedFits (readCall s .releases)
-unfolding callListOf
-releases-fit r = all-map freedOf (all-imp (λ b k. freed-fits k) (bodies-bytes 66 r))
 
 -- the buckets that are named
 
@@ -287,11 +274,11 @@ module _ (v : Volume) (rs : List Freed) (f : VolumeFits v) (ok : VolumeOk v) (fi
   )
 
 pub release-fits :
-    {s : List ℕ} → Bytes s → callLaidOut 2 s ≡ true → listWithin (readCall s) ≡ true
+    {s : List ℕ} → Bytes s → callLaidOut 2 s ≡ true → noneTwice (readVolume s) ≡ true → listWithin (readCall s) ≡ true
     → let c = readCall s in
     verdict (releaseTests (c .volume) (c .releases)) ≡ 0
     → BatchFits (releaseBatch (c .volume) (c .releases)) × BatchOk (releaseBatch (c .volume) (c .releases))
-release-fits {s} r h l p =
+release-fits {s} r h o l p =
     let c = readCall s in
-    let f = call-fits 2 r h in
+    let f = call-fits 2 r h o in
     volume-release-fits (c .volume) (c .releases) (f .0) (f .1) (releases-fit r) (list-within c l .2) p
