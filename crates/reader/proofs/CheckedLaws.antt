@@ -9,15 +9,14 @@ use borrow.Author.Tests.{eq-eqb}
 use Rattle.wire.specs.Keys.{Key}
 use Rattle.wire.specs.Kinds.{bucketInRange, runEndInRange, baseInRange, bucketBelow}
 use Rattle.wire.specs.Positions.{bucketIn}
-use Rattle.wire.specs.Fields.{fields, whole}
 use Rattle.calls.specs.Lists.{allOf, inOrder}
-use Rattle.calls.specs.CallList.{shaped, bodies, volumeShapes, requestShapes, treesOk, headOk, laidOut, callLaidOut}
-use Rattle.calls.specs.ChangeList.{tagsAscend}
+use Rattle.calls.specs.CallList.{allTrees, keysAscend, callLaidOut, noneTwice}
 use Rattle.calls.specs.Limits.{isRun, isSet, countsOk, bucketsOk, volumeWithin, listWithin}
 use Rattle.calls.specs.Answers.{readCall, readVolume}
 use Rattle.calls.proofs.lists.BoolLaws.{parts as and-true}
 use Rattle.calls.proofs.trees.SortedLaws.{InOrder}
 use Rattle.calls.proofs.trees.SixTrees.{EachTree, trees-order}
+use Rattle.calls.proofs.freespace.TakenAscend.{call-trees}
 use Rattle.reader.specs.Checked.{Checked, inRange, endInRange}
 
 -- the limits of a key
@@ -65,27 +64,14 @@ module _ {s : List ℕ} (c : Checked s) where
       and-true (allOf (λ k. not (isSet k) || bucketInRange (bucketIn (k .pos))) (readVolume s .trees .needDiscard))
       (allOf endInRange (readVolume s .trees .freespace)) (tree-ranges .1) .1
 
--- refusals 2 and 3 show it
-pub checked : (call : ℕ) (s : List ℕ) → callLaidOut call s ≡ true → listWithin (readCall s) ≡ true → Checked s
-unfolding callLaidOut laidOut listWithin
-checked call s h w =
+-- refusals 2, 22 and 3 show it
+pub checked : (call : ℕ) (s : List ℕ) → callLaidOut call s ≡ true → noneTwice (readVolume s) ≡ true → listWithin (readCall s) ≡ true → Checked s
+unfolding noneTwice listWithin
+checked call s h o w =
     let c = readCall s in
     let v = c .volume in
-    let shapes = volumeShapes ++ requestShapes call in
-    let f = treesOk (v .trees) && inOrder bucketBelow (v .reserved) in
-    let e = headOk (v .head) && f in
-    let d = eqb (length (bodies 1 (fields s))) 1 && e in
-    let b = tagsAscend (fields s) && d in
-    let a = allOf (shaped shapes) (fields s) && b in
-    let p0 = and-true (whole s && a) (eqb (v .head .call) call) h in
-    let p1 = and-true (whole s) a (p0 .0) in
-    let p2 = and-true (allOf (shaped shapes) (fields s)) b (p1 .1) in
-    let p3 = and-true (tagsAscend (fields s)) d (p2 .1) in
-    let p4 = and-true (eqb (length (bodies 1 (fields s))) 1) e (p3 .1) in
-    let p5 = and-true (headOk (v .head)) f (p4 .1) in
-    let p6 = and-true (treesOk (v .trees)) (inOrder bucketBelow (v .reserved)) (p5 .1) in
     record {
-      trees = p6 .0;
-      reserved = p6 .1;
+      trees = call-trees call s h o;
+      reserved = and-true (allTrees keysAscend (v .trees)) (inOrder bucketBelow (v .reserved)) o .1;
       limits = and-true (volumeWithin v) (leb (length (c .pieces)) 1024 && leb (length (c .releases)) 1024) w .0;
     }

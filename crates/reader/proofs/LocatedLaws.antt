@@ -12,11 +12,11 @@ use Rattle.wire.specs.Fields.{fields}
 use Rattle.wire.specs.Keys.{keyOf}
 use Rattle.wire.specs.Kinds.{bucketRead, noBucket}
 use Rattle.calls.specs.CallList.{bodies, pieceOf, freedOf}
-use Rattle.reader.specs.Table.{FieldHere, Tabled}
+use Rattle.reader.specs.Table.{sortedBodies, FieldHere, Tabled}
 use Rattle.reader.specs.Readings.{listRefusal}
 use Rattle.reader.specs.KeyHere.{keyHere}
 use Rattle.reader.specs.Located.{noKey, KeysAt, BucketsAt, noPiece, PiecesAt, noFreed, FreedsAt}
-use Rattle.reader.proofs.OfferedLaws.{body-listed, here-length, key-ready, reserved-size, piece-size, freed-size}
+use Rattle.reader.proofs.OfferedLaws.{body-listed, sorted-listed, here-length, key-ready, reserved-size, piece-size, freed-size}
 
 -- a part of the table has as many entries as bodies, and their places
 module _ (index : List ℕ) (base n : ℕ) (fits : base + n ≤ length index) where
@@ -48,17 +48,17 @@ no-freed = refl
 
 module _ (call : ℕ) (any : Bool) (s : List ℕ) (h : 0 ≡ listRefusal call any s) (index : List ℕ) (base : ℕ) where
   -- the keys of a tree
-  pub keys-located : (t : ℕ) → 1 < t → t ≤ 14 → base + length (bodies t (fields s)) ≤ length index → Tabled s index base t (bodies t (fields s))
-      → KeysAt s (take (length (bodies t (fields s))) (drop base index)) (map keyOf (bodies t (fields s)))
+  pub keys-located : (t : ℕ) → 1 < t → t ≤ 14 → base + length (sortedBodies t (fields s)) ≤ length index → Tabled s index base t (sortedBodies t (fields s))
+      → KeysAt s (take (length (sortedBodies t (fields s))) (drop base index)) (map keyOf (sortedBodies t (fields s)))
   unfolding keyHere
   keys-located t l m fits tab =
-      let bs = bodies t (fields s) in
+      let bs = sortedBodies t (fields s) in
       record {
         count = part-length index base (length bs) fits ∙ sym (length-map bs keyOf);
         at = λ i q.
             let k : i < length bs = omega (arith, part-length index base (length bs) fits) in
             let f = tab i k in
-            let r = key-ready m f (body-listed call any s h t i l k) in
+            let r = key-ready m f (sorted-listed call any s h t i l k) in
             rw (part-at index base (length bs) fits i k) (record {
               whole = record { after = f .after; long = r .long; short = r .short; within = r .within };
               is = read-at keyOf noKey no-key bs i _ (f .here);
@@ -76,15 +76,15 @@ module _ (call : ℕ) (any : Bool) (s : List ℕ) (h : 0 ≡ listRefusal call an
       record { within = omega (arith, f .within, q); here = f .here ∙ ap (λ (k : ℕ). take k (drop (getD index (base + i) 0) s)) q }
 
   -- the reserved buckets
-  pub buckets-located : base + length (bodies 64 (fields s)) ≤ length index → Tabled s index base 64 (bodies 64 (fields s))
-      → BucketsAt s (take (length (bodies 64 (fields s))) (drop base index)) (map bucketRead (bodies 64 (fields s)))
+  pub buckets-located : base + length (sortedBodies 64 (fields s)) ≤ length index → Tabled s index base 64 (sortedBodies 64 (fields s))
+      → BucketsAt s (take (length (sortedBodies 64 (fields s))) (drop base index)) (map bucketRead (sortedBodies 64 (fields s)))
   buckets-located fits tab =
-      let bs = bodies 64 (fields s) in
+      let bs = sortedBodies 64 (fields s) in
       record {
         count = part-length index base (length bs) fits ∙ sym (length-map bs bucketRead);
         at = λ i q.
             let k : i < length bs = omega (arith, part-length index base (length bs) fits) in
-            let f = fixed 64 4 bs i (tab i k) (reserved-size (body-listed call any s h 64 i (omega arith) k)) in
+            let f = fixed 64 4 bs i (tab i k) (reserved-size (sorted-listed call any s h 64 i (omega arith) k)) in
             rw (part-at index base (length bs) fits i k) (record { within = f .within; is = read-at bucketRead noBucket no-bucket bs i _ (f .here) });
       }
 

@@ -7,56 +7,51 @@ use mathlib.Core.Bool.{Bool, true, false, _&&_, cond}
 use lib.ListN.{length, drop, getD}
 use native.Mathlib.Omega.{arith}
 use Rattle.wire.specs.Numbers.{le}
-use Rattle.wire.specs.Fields.{Field, fields, fieldAt, whole}
+use Rattle.wire.specs.Fields.{Field, fields, whole}
 use Rattle.wire.specs.Bytes.{All, none, more}
 use Rattle.wire.proofs.NumberLaws.{body-length}
-use Rattle.calls.specs.Lists.{those}
-use Rattle.calls.specs.CallList.{bodies, callListOf}
+use Rattle.calls.specs.Lists.{allOf, those}
+use Rattle.calls.specs.CallList.{bodies, noneTwice}
+use Rattle.calls.specs.Answers.{readCall, readVolume}
+use Rattle.calls.proofs.lists.SortLaws.{all-sorted}
 use Rattle.calls.specs.Limits.{listWithin}
 use Rattle.calls.proofs.lists.AllLaws.{all-nth}
-use Rattle.reader.specs.CallFields.{startsOk}
-use Rattle.reader.specs.Table.{FieldHere}
-use Rattle.reader.specs.Readings.{callRefusal, listRefusal}
+use Rattle.reader.specs.CallFields.{anyFieldOk, others}
+use Rattle.reader.specs.Table.{bodyBelow, sortedBodies, FieldHere}
+use Rattle.reader.specs.Readings.{laidAs, callRefusal, listRefusal}
 use Rattle.reader.proofs.BoolLaws.{and-left, and-right, apart}
 use Rattle.reader.proofs.ShapeLaws.{same-or}
 use Rattle.reader.proofs.ListLaws.{bodies-here, bodies-other}
 use Rattle.reader.proofs.ListedLaws.{FieldListed, key, reserved, piece, freed, key-tag-bounds}
-use Rattle.reader.proofs.LayoutLaws.{laidFields, laid-is, laid-none}
+use Rattle.reader.proofs.LayoutLaws.{list-laid}
 use Rattle.reader.proofs.FieldRankLaws.{AllListed}
-use Rattle.reader.proofs.FirstFieldLaws.{opened, after-first}
+use Rattle.reader.proofs.BesideLaws.{beside-bodies, others-listed}
 use Rattle.reader.proofs.ListRefusalLaws.{refusal-is}
-use Rattle.reader.proofs.ReadingLaws.{all-listed}
 use Rattle.reader.proofs.VolumeLaws.{call-refusal}
 
 -- a list that is not refused
 record ListKept (s : List ℕ) (call : ℕ) (any : Bool) : Type 0 where
-  laid : laidFields call any (fields s) ≡ true
-  within : listWithin (callListOf (fields s)) ≡ true
+  laid : laidAs call any s ≡ true
+  once : noneTwice (readVolume s) ≡ true
+  within : listWithin (readCall s) ≡ true
 
 kept : (s : List ℕ) (call : ℕ) (any : Bool) → 0 ≡ listRefusal call any s → ListKept s call any
 kept s call any h =
-    go (whole s) (laidFields call any (fields s)) (listWithin (callListOf (fields s))) refl refl (h ∙ refusal-is s call any)
+    go (laidAs call any s) (noneTwice (readVolume s)) (listWithin (readCall s)) refl refl refl (h ∙ refusal-is s call any)
   where
     go :
-        (a b c : Bool) → laidFields call any (fields s) ≡ b → listWithin (callListOf (fields s)) ≡ c
-        → _≡_ {A = ℕ} 0 (cond (a && b) (cond c 0 3) 2) → ListKept s call any
-    go true true true x y z = record { laid = x; within = y }
-    go true true false x y z = absurd (omega arith)
-    go true false c x y z = absurd (omega arith)
-    go false b c x y z = absurd (omega arith)
+        (a b c : Bool) → laidAs call any s ≡ a → noneTwice (readVolume s) ≡ b → listWithin (readCall s) ≡ c
+        → _≡_ {A = ℕ} 0 (cond a (cond b (cond c 0 3) 22) 2) → ListKept s call any
+    go true true true x y z k = record { laid = x; once = y; within = z }
+    go true true false x y z k = absurd (omega arith)
+    go true false c x y z k = absurd (omega arith)
+    go false b c x y z k = absurd (omega arith)
 
-started : (s : List ℕ) (call : ℕ) (any : Bool) → laidFields call any (fields s) ≡ true → startsOk call any (fields s) ≡ true
-started s call any h = go (fields s) h
-  where
-    go : (fs : List Field) → laidFields call any fs ≡ true → startsOk call any fs ≡ true
-    go [] h = apart (sym h ∙ laid-none call any)
-    go (f ∷ fs) h = and-left (startsOk call any (f ∷ fs)) _ (sym (laid-is call any f fs) ∙ h)
-
-rest-listed : (s : List ℕ) (call : ℕ) (any : Bool) → laidFields call any (fields s) ≡ true → AllListed call (fields (drop 42 s))
-rest-listed s call any h =
-    let o = opened s call any (started s call any h) in
-    let k = sym (laid-is call any (fieldAt s 1 3 39) (fields (drop 42 s))) ∙ ap (laidFields call any) (sym (o .first .here)) ∙ h in
-    all-listed call (fields (drop 42 s)) (and-left _ _ (and-right (startsOk call any (fieldAt s 1 3 39 ∷ fields (drop 42 s))) _ k))
+-- its fields beside field 1
+pub laid-listed : (s : List ℕ) (call : ℕ) (any : Bool) → laidAs call any s ≡ true → AllListed call (others (fields s))
+laid-listed s call any h =
+    others-listed call any (fields s)
+    (and-left (allOf (anyFieldOk call any) (fields s)) _ (and-right (whole s) _ (sym (list-laid s call any) ∙ h)))
 
 bodies-listed : (call t : ℕ) {fs : List Field} → AllListed call fs → All (λ b. FieldListed call t (length b)) (bodies t fs)
 unfolding bodies those
@@ -70,17 +65,25 @@ pub call-kept : (call : ℕ) (s : List ℕ) → 0 ≡ callRefusal call s → 0 �
 call-kept call s h = h ∙ sym (call-refusal call s)
 
 module _ (call : ℕ) (any : Bool) (s : List ℕ) (h : 0 ≡ listRefusal call any s) where
-  pub limits-kept : listWithin (callListOf (fields s)) ≡ true
+  pub limits-kept : listWithin (readCall s) ≡ true
   limits-kept = kept s call any h .within
 
+  pub once-kept : noneTwice (readVolume s) ≡ true
+  once-kept = kept s call any h .once
+
   -- each body is as long as its tag asks
+  pub all-bodies-listed : (t : ℕ) → 1 < t → All (λ b. FieldListed call t (length b)) (bodies t (fields s))
+  all-bodies-listed t l = rw (← beside-bodies t l (fields s)) (bodies-listed call t (laid-listed s call any (kept s call any h .laid)))
+
   pub body-listed :
       (t i : ℕ) → 1 < t → i < length (bodies t (fields s)) → FieldListed call t (length (getD (bodies t (fields s)) i []))
-  body-listed t i l k =
-      let q = kept s call any h .laid in
-      let z = after-first s call any (opened s call any (started s call any q)) t l in
-      let r : All (λ b. FieldListed call t (length b)) (bodies t (fields s)) = rw z (bodies-listed call t (rest-listed s call any q)) in
-      all-nth [] r i k
+  body-listed t i l k = all-nth [] (all-bodies-listed t l) i k
+
+  -- in the order of the table too
+  pub sorted-listed :
+      (t i : ℕ) → 1 < t → i < length (sortedBodies t (fields s)) → FieldListed call t (length (getD (sortedBodies t (fields s)) i []))
+  unfolding sortedBodies
+  sorted-listed t i l k = all-nth [] (all-sorted (bodyBelow t) (all-bodies-listed t l)) i k
 
 -- the length before a body is the body's
 pub here-length : {s body : List ℕ} {at tag : ℕ} → FieldHere s at tag body → length body ≡ le 2 (drop (at - 2) s)

@@ -10,67 +10,81 @@ use borrow.Author.Tests.{leb-true}
 use Rattle.wire.specs.Fields.{fields}
 use Rattle.wire.specs.Keys.{keyOf}
 use Rattle.wire.specs.Kinds.{bucketRead}
-use Rattle.calls.specs.CallList.{CallList, bodies, treesOf, callListOf, callLaidOut, pieceOf, freedOf}
+use Rattle.calls.specs.CallList.{CallList, bodies, keyBelow, keysOf, sortedTrees, reservedOf, callListOf, callLaidOut, noneTwice, pieceOf, freedOf}
+use Rattle.calls.specs.Sorting.{sortedBy}
 use Rattle.calls.specs.Limits.{fewKeys, countsOk, bucketsOk, volumeWithin, listWithin}
 use Rattle.calls.specs.Refusals.{test, verdict}
 use Rattle.calls.specs.Answers.{Answer, answer, readCall, readVolume}
 use Rattle.calls.proofs.lists.BoolLaws.{parts}
 use Rattle.calls.proofs.encoding.KeyFitsLaws.{list-within}
 use Rattle.calls.proofs.answers.OutcomeLaws.{answer-next, answer-stops}
-use Rattle.reader.specs.Table.{Tabled}
+use Rattle.reader.specs.Table.{sortedBodies, Tabled}
 pub use Rattle.reader.specs.Table.{between}
 use Rattle.reader.specs.Readings.{callRefusal, listRefusal, ListRead}
 use Rattle.reader.specs.Located.{KeysAt, BucketsAt, PiecesAt, FreedsAt}
 use Rattle.reader.specs.declared.head.Head.{Head}
 use Rattle.reader.specs.declared.table.Ends.{Ends}
 use Rattle.reader.proofs.OfferedLaws.{call-kept, limits-kept}
+use Rattle.reader.proofs.SortedBodyLaws.{sorted-length, keys-sorted-are, buckets-sorted-are}
 use Rattle.reader.proofs.LocatedLaws.{keys-located, buckets-located, pieces-located, freeds-located}
 
--- a list that `read_call` read meets neither 2 nor 3
+-- a list that `read_call` read meets none of 2, 22 and 3
 pub record CallPassed (call : ℕ) (s : List ℕ) : Type 0 where
   pub laid : callLaidOut call s ≡ true
+  pub once : noneTwice (readVolume s) ≡ true
   pub within : listWithin (readCall s) ≡ true
 
 pub passed : (call : ℕ) (s : List ℕ) → 0 ≡ callRefusal call s → CallPassed call s
 unfolding callRefusal verdict
-passed call s h = go (callLaidOut call s) (listWithin (readCall s)) refl refl h
+passed call s h = go (callLaidOut call s) (noneTwice (readVolume s)) (listWithin (readCall s)) refl refl refl h
   where
     go :
-        (a b : Bool) → callLaidOut call s ≡ a → listWithin (readCall s) ≡ b → 0 ≡ verdict (test 2 a ∷ test 3 b ∷ []) → CallPassed call s
-    go true true x y z = record { laid = x; within = y }
-    go true false x y z = absurd (omega arith)
-    go false b x y z = absurd (omega arith)
+        (a b c : Bool) → callLaidOut call s ≡ a → noneTwice (readVolume s) ≡ b → listWithin (readCall s) ≡ c
+        → 0 ≡ verdict (test 2 a ∷ test 22 b ∷ test 3 c ∷ []) → CallPassed call s
+    go true true true x y z k = record { laid = x; once = y; within = z }
+    go true true false x y z k = absurd (omega arith)
+    go true false c x y z k = absurd (omega arith)
+    go false b c x y z k = absurd (omega arith)
 
--- the answer after refusals 2 and 3, or with one of them
+-- the answer after refusals 2, 22 and 3, or with one of them
 module _ (call : ℕ) (s ts bytes : List ℕ) (room : ℕ) where
-  answer-of : Bool → Bool → Answer
-  answer-of a b = answer (test 2 a ∷ test 3 b ∷ ts) bytes room
+  answer-of : Bool → Bool → Bool → Answer
+  answer-of a b c = answer (test 2 a ∷ test 22 b ∷ test 3 c ∷ ts) bytes room
 
-  pub read-on :
-      0 ≡ callRefusal call s → answer (test 2 (callLaidOut call s) ∷ test 3 (listWithin (readCall s)) ∷ ts) bytes room ≡ answer ts bytes room
+  abbrev whole-answer : Answer
+  whole-answer =
+      answer (test 2 (callLaidOut call s) ∷ test 22 (noneTwice (readVolume s)) ∷ test 3 (listWithin (readCall s)) ∷ ts) bytes room
+
+  pub read-on : 0 ≡ callRefusal call s → whole-answer ≡ answer ts bytes room
   unfolding answer-of
   read-on h =
       let p = passed call s h in
-      ap (λ (a : Bool). answer-of a (listWithin (readCall s))) (p .laid) ∙ ap (answer-of true) (p .within)
+      ap (λ (a : Bool). answer-of a (noneTwice (readVolume s)) (listWithin (readCall s))) (p .laid)
+      ∙ ap (λ (b : Bool). answer-of true b (listWithin (readCall s))) (p .once)
+      ∙ ap (answer-of true true) (p .within)
+      ∙ answer-next 0 (test 22 true ∷ test 3 true ∷ ts) bytes room refl
       ∙ answer-next 0 (test 3 true ∷ ts) bytes room refl
       ∙ answer-next 0 ts bytes room refl
 
-  pub read-refused :
-      (n : ℕ) → n ≡ callRefusal call s → 0 < callRefusal call s
-      → answer (test 2 (callLaidOut call s) ∷ test 3 (listWithin (readCall s)) ∷ ts) bytes room ≡ record { number = n; written = [] }
+  pub read-refused : (n : ℕ) → n ≡ callRefusal call s → 0 < callRefusal call s → whole-answer ≡ record { number = n; written = [] }
   unfolding callRefusal verdict answer-of
-  read-refused n e l = go (callLaidOut call s) (listWithin (readCall s)) e l
+  read-refused n e l = go (callLaidOut call s) (noneTwice (readVolume s)) (listWithin (readCall s)) e l
     where
+      stopped : (m : ℕ) → n ≡ m → _≡_ {A = Answer} (record { number = m; written = [] }) (record { number = n; written = [] })
+      stopped m e = ap (λ (n : ℕ). record { number = n; written = [] }) (sym e)
+
       go :
-          (a b : Bool) → n ≡ verdict (test 2 a ∷ test 3 b ∷ []) → 0 < verdict (test 2 a ∷ test 3 b ∷ [])
-          → answer-of a b ≡ record { number = n; written = [] }
-      go true true e l = absurd (omega arith)
-      go true false e l =
-          answer-next 0 (3 ∷ ts) bytes room refl ∙ answer-stops 3 ts bytes room (λ z. absurd (omega (arith, z)))
-          ∙ ap (λ (n : ℕ). record { number = n; written = [] }) (sym e)
-      go false b e l =
-          answer-stops 2 (test 3 b ∷ ts) bytes room (λ z. absurd (omega (arith, z)))
-          ∙ ap (λ (n : ℕ). record { number = n; written = [] }) (sym e)
+          (a b c : Bool) → n ≡ verdict (test 2 a ∷ test 22 b ∷ test 3 c ∷ []) → 0 < verdict (test 2 a ∷ test 22 b ∷ test 3 c ∷ [])
+          → answer-of a b c ≡ record { number = n; written = [] }
+      go true true true e l = absurd (omega arith)
+      go true true false e l =
+          answer-next 0 (0 ∷ 3 ∷ ts) bytes room refl ∙ answer-next 0 (3 ∷ ts) bytes room refl
+          ∙ answer-stops 3 ts bytes room (λ z. absurd (omega (arith, z)))
+          ∙ stopped 3 e
+      go true false c e l =
+          answer-next 0 (22 ∷ test 3 c ∷ ts) bytes room refl ∙ answer-stops 22 (test 3 c ∷ ts) bytes room (λ z. absurd (omega (arith, z)))
+          ∙ stopped 22 e
+      go false b c e l = answer-stops 2 (test 22 b ∷ test 3 c ∷ ts) bytes room (λ z. absurd (omega (arith, z))) ∙ stopped 2 e
 
 -- at most 4,096 keys of a tree and reserved buckets, at most 1,024 requests
 record Few (c : CallList) : Type 0 where
@@ -115,17 +129,20 @@ module _ (call : ℕ) (s index : List ℕ) (h : Head) (c : Ends) (z : 0 ≡ call
   few = few-in (readCall s) (limits-kept call false s kept)
 
   -- a part of the table, of as many offsets as bodies
-  counted : (from to t : ℕ) → 1 < t → t ≤ 14 → to ≡ from + length (bodies t (fields s)) → to ≤ length index → length (map keyOf (bodies t (fields s))) ≤ 4096
-      → Tabled s index from t (bodies t (fields s)) → TablePart from to 4096 index × KeysAt s (between from to index) (map keyOf (bodies t (fields s)))
+  counted : (from to t : ℕ) → 1 < t → t ≤ 14 → to ≡ from + length (bodies t (fields s)) → to ≤ length index
+      → length (sortedBy keyBelow (map keyOf (bodies t (fields s)))) ≤ 4096 → Tabled s index from t (sortedBodies t (fields s))
+      → TablePart from to 4096 index × KeysAt s (between from to index) (sortedBy keyBelow (map keyOf (bodies t (fields s))))
   counted from to t l m e low short tab =
-      let w : to - from ≡ length (bodies t (fields s)) = omega arith in (
-        record { forth = omega arith; within = low; few = omega (arith, w, short, length-map (bodies t (fields s)) keyOf) },
-        rw w (keys-located call false s kept index from t l m (omega (arith, e, low)) tab),
+      let n = sorted-length t (fields s) in
+      let w : to - from ≡ length (sortedBodies t (fields s)) = omega arith in
+      let k = keys-sorted-are t m (fields s) in (
+        record { forth = omega arith; within = low; few = omega (arith, w, short, ap length k, length-map (sortedBodies t (fields s)) keyOf) },
+        rw (← k, w) (keys-located call false s kept index from t l m (omega (arith, e, low)) tab),
       )
 
   -- trees 4, 11, 12 and 14
   pub alloc-part : TablePart 0 (c .alloc) 4096 index × KeysAt s (take (c .alloc) index) (readVolume s .trees .alloc)
-  unfolding callListOf treesOf
+  unfolding callListOf sortedTrees keysOf
   alloc-part =
       let e = q .ends in
       let r =
@@ -136,7 +153,7 @@ module _ (call : ℕ) (s index : List ℕ) (h : Head) (c : Ends) (z : 0 ≡ call
       (r .0, rw n at (r .1))
 
   pub freespace-part : TablePart (c .lru) (c .freespace) 4096 index × KeysAt s (between (c .lru) (c .freespace) index) (readVolume s .trees .freespace)
-  unfolding callListOf treesOf
+  unfolding callListOf sortedTrees keysOf
   freespace-part =
       let e = q .ends in
       counted (c .lru) (c .freespace) 11 (omega arith) (omega arith) (e .freespace)
@@ -144,7 +161,7 @@ module _ (call : ℕ) (s index : List ℕ) (h : Head) (c : Ends) (z : 0 ≡ call
       (few .freespace) (q .table .freespace)
 
   pub need-discard-part : TablePart (c .freespace) (c .«need_discard») 4096 index × KeysAt s (between (c .freespace) (c .«need_discard») index) (readVolume s .trees .needDiscard)
-  unfolding callListOf treesOf
+  unfolding callListOf sortedTrees keysOf
   need-discard-part =
       let e = q .ends in
       counted (c .freespace) (c .«need_discard») 12 (omega arith) (omega arith) (e .needDiscard)
@@ -152,7 +169,7 @@ module _ (call : ℕ) (s index : List ℕ) (h : Head) (c : Ends) (z : 0 ≡ call
       (few .needDiscard) (q .table .needDiscard)
 
   pub gens-part : TablePart (c .backpointers) (c .gens) 4096 index × KeysAt s (between (c .backpointers) (c .gens) index) (readVolume s .trees .gens)
-  unfolding callListOf treesOf
+  unfolding callListOf sortedTrees keysOf
   gens-part =
       let e = q .ends in
       counted (c .backpointers) (c .gens) 14 (omega arith) (omega arith) (e .gens)
@@ -161,14 +178,16 @@ module _ (call : ℕ) (s index : List ℕ) (h : Head) (c : Ends) (z : 0 ≡ call
 
   -- the reserved buckets
   pub reserved-part : TablePart (c .gens) (c .reserved) 4096 index × BucketsAt s (between (c .gens) (c .reserved) index) (readVolume s .reserved)
-  unfolding callListOf
+  unfolding callListOf reservedOf
   reserved-part =
-      let bs = bodies 64 (fields s) in
+      let bs = sortedBodies 64 (fields s) in
+      let n = sorted-length 64 (fields s) in
       let e = q .ends in
       let w : c .reserved - c .gens ≡ length bs = omega (arith, e .reserved) in
-      let m : c .reserved ≤ length index = omega (arith, e .requests, e .within) in (
-        record { forth = omega (arith, e .reserved); within = m; few = omega (arith, w, few .reserved, length-map bs bucketRead) },
-        rw w (buckets-located call false s kept index (c .gens) (omega (arith, e .reserved, m)) (q .table .reserved)),
+      let m : c .reserved ≤ length index = omega (arith, e .requests, e .within) in
+      let k = buckets-sorted-are (fields s) in (
+        record { forth = omega (arith, e .reserved); within = m; few = omega (arith, w, few .reserved, ap length k, length-map bs bucketRead) },
+        rw (← k, w) (buckets-located call false s kept index (c .gens) (omega (arith, e .reserved, m, n)) (q .table .reserved)),
       )
 
 -- the requests of a placement

@@ -7,17 +7,18 @@ use native.Mathlib.Omega.{arith}
 use Rattle.wire.specs.Fields.{fields, whole}
 use Rattle.wire.specs.Bytes.{All}
 use Rattle.calls.specs.Lists.{allOf}
-use Rattle.calls.specs.CallList.{bodies, callListOf, shaped, volumeShapes, requestShapes, laidOut, callLaidOut, volumeLaidOut}
+use Rattle.calls.specs.CallList.{bodies, callListOf, shaped, volumeShapes, requestShapes, laidOut, callLaidOut, volumeLaidOut, noneTwice}
+use Rattle.calls.specs.Answers.{readCall, readVolume}
 use Rattle.calls.specs.Limits.{volumeWithin, listWithin}
 use Rattle.calls.specs.Refusals.{test, verdict}
 use Rattle.calls.proofs.lists.AllLaws.{test-all, all-imp}
-use Rattle.reader.specs.Readings.{callRefusal, volumeRefusal, listRefusal}
+use Rattle.reader.specs.Readings.{laidAs, callRefusal, volumeRefusal, listRefusal}
 use Rattle.reader.proofs.BoolLaws.{and-left, and-right}
 use Rattle.reader.proofs.ShapeLaws.{shaped-below}
 use Rattle.reader.proofs.ListLaws.{bodies-none}
 
 pub call-refusal : (call : ℕ) (s : List ℕ) → listRefusal call false s ≡ callRefusal call s
-unfolding listRefusal callRefusal callLaidOut
+unfolding listRefusal callRefusal callLaidOut laidAs
 call-refusal call s = refl
 
 -- no tag of a volume is above 64
@@ -35,14 +36,14 @@ no-requests s h =
     rw (a, b) (and-true _)
 
 pub volume-refusal : (s : List ℕ) → listRefusal 0 true s ≡ volumeRefusal s
-unfolding listRefusal volumeRefusal volumeLaidOut volumeShapes requestShapes verdict
+unfolding listRefusal volumeRefusal volumeLaidOut laidAs volumeShapes requestShapes verdict
 volume-refusal s =
-    ap (λ (a : Bool). verdict (test 2 a ∷ test 3 (listWithin (callListOf (fields s))) ∷ [])) (and-true (laidOut volumeShapes s))
+    ap (λ (a : Bool). verdict (test 2 a ∷ test 22 (noneTwice (readVolume s)) ∷ test 3 (listWithin (readCall s)) ∷ [])) (and-true (laidOut volumeShapes s))
     ∙ go (laidOut volumeShapes s) refl
   where
     go :
         (a : Bool) → laidOut volumeShapes s ≡ a
-        → verdict (test 2 a ∷ test 3 (listWithin (callListOf (fields s))) ∷ [])
-        ≡ verdict (test 2 a ∷ test 3 (volumeWithin (callListOf (fields s) .volume)) ∷ [])
-    go true h = ap (λ (b : Bool). verdict (test 2 true ∷ test 3 b ∷ [])) (no-requests s h)
+        → verdict (test 2 a ∷ test 22 (noneTwice (readVolume s)) ∷ test 3 (listWithin (readCall s)) ∷ [])
+        ≡ verdict (test 2 a ∷ test 22 (noneTwice (readVolume s)) ∷ test 3 (volumeWithin (readVolume s)) ∷ [])
+    go true h = ap (λ (b : Bool). verdict (test 2 true ∷ test 22 (noneTwice (readVolume s)) ∷ test 3 b ∷ [])) (no-requests s h)
     go false h = refl

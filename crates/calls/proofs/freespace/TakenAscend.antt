@@ -144,7 +144,7 @@ module _ (reserved used : Bucket → Bool) where
 
 -- ---- a placement
 -- the trees of a call list that is laid out right and has no position twice
-call-trees : (call : ℕ) (s : List ℕ) → callLaidOut call s ≡ true → noneTwice (readVolume s) ≡ true → treesOk (readVolume s .trees) ≡ true
+pub call-trees : (call : ℕ) (s : List ℕ) → callLaidOut call s ≡ true → noneTwice (readVolume s) ≡ true → treesOk (readVolume s .trees) ≡ true
 unfolding callLaidOut laidOut noneTwice
 call-trees call s h o =
     let fs : List Field = fields s in
