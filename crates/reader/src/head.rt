@@ -8,6 +8,8 @@ ghost use Rattle.calls.specs.CallList.{headOf, headBody, headOk};
 ghost use Rattle.reader.specs.CallFields.{headWithin};
 ghost use Rattle.reader.specs.Heads.{callByte, headIn, headSizes};
 use wire::emit;
+use wire::fields;
+use wire::fields::NextField;
 use wire::kinds;
 use wire::kinds::FileSector;
 use wire::le;
@@ -25,14 +27,23 @@ pub struct Head {
     pub base: FileSector,
 }
 
-// The call byte of a list, 0 where there is none.
+// The call byte of a list's first field 1, wherever that stands; 0 where there is none.
 pub fn call_byte(s: &[u8]) -> u8
     ensures { λ r. ⌜ r ≡ callByte (now (s .entry)) ⌝ }
 {
-    if s.len() < 4 {
-        return 0;
+    let mut at: usize = 0;
+    loop {
+        let NextField::Found { tag, start, len } = fields::next_field(s, at) else {
+            return 0;
+        };
+        at = start + len;
+        if tag == 1 {
+            if len == 0 {
+                return 0;
+            }
+            return le::le8(s, start);
+        }
     }
-    s[3]
 }
 
 // The head whose body starts at a place of a list. The length of field 1 shows the bound.
