@@ -30,6 +30,7 @@ use Rattle.calls.proofs.encoding.VolumeTrip.{ListLaid, list-laid}
 use Rattle.calls.proofs.answers.AnswerLaws.{place-is, release-is, discard-is, apply-is, sort-is, arranged}
 
 module _ {s : List ℕ} (r : Bytes s) (l : listLaidOut s ≡ true) (o : noneTwice (readVolume s) ≡ true) where
+  -- the list is laid out right, whatever its requests
   abbrev laid : ListLaid s
   laid = list-laid r l
 
@@ -41,6 +42,7 @@ module _ {s : List ℕ} (r : Bytes s) (l : listLaidOut s ≡ true) (o : noneTwic
   pub form-fields : AsOften (fields (sortedForm s)) (fields s)
   form-fields f = form-total laid (λ g. one (sameField f g))
 
+  -- it is whole fields, of as many bytes
   form-whole : whole (sortedForm s) ≡ true
   form-whole = call-whole (laid-call laid)
 
@@ -79,6 +81,7 @@ module _ {s : List ℕ} (r : Bytes s) (l : listLaidOut s ≡ true) (o : noneTwic
       && (form-all (shaped ss) i
       && (eqb (form-tagged 1 i) 1 && (headOk (form-reads i .volume .head) && allTrees snapshotsOk (form-reads i .volume .trees))))
 
+  -- it is its own sorted form
   pub form-again : sortedForm (sortedForm s) ≡ sortedForm s
   form-again = ap callBytes form-reads
 

@@ -39,6 +39,7 @@ unfolding flat
 flat-all none = none
 flat-all (more {a = k} h r) = all-append (all-map (field (k .tag)) h) (flat-all r)
 
+-- blocks behind others
 pub flat-append : (ks js : List Block) → flat (ks ++ js) ≡ flat ks ++ flat js
 unfolding flat
 flat-append [] js = refl
@@ -299,6 +300,7 @@ unfolding shaped
 shaped-after [] ts f h = h
 shaped-after (s ∷ ss) ts f h = rw (shaped-after ss ts f h) (or-true (ofShape s f))
 
+-- shapes and others behind them
 pub shaped-front : (ss ts : List Shape) (f : Field) → shaped ss f ≡ true → shaped (ss ++ ts) f ≡ true
 unfolding shaped
 shaped-front ss ts f h = shaped-widen ss [] ts f (λ e. absurd (false≢true e)) (rw (append-nil ss) h)

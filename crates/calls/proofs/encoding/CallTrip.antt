@@ -32,6 +32,7 @@ requestBlocks c = record { tag = 65; has = map pieceBody (c .pieces) } ∷ recor
 abbrev pub callBlocks : CallList → List Block
 callBlocks c = volumeBlocks (c .volume) ++ requestBlocks c
 
+-- its bytes are those of its blocks
 call-flat : (c : CallList) → callBytes c ≡ encode (flat (callBlocks c))
 unfolding callBytes flat
 call-flat c =
@@ -43,6 +44,7 @@ call-flat c =
 
 -- written
 
+-- a request has its shape
 piece-sound : (p : Piece) → FieldSound everyShape (field 65 (pieceBody p))
 unfolding volumeShapes
 piece-sound p =
@@ -60,6 +62,7 @@ freed-sound r =
     }
 
 module _ {c : CallList} (h : CallFits c) where
+  -- so has every field, and its tag and length fit
   call-sound : All (FieldSound everyShape) (flat (callBlocks c))
   unfolding volumeShapes allOf
   call-sound =
@@ -71,6 +74,7 @@ module _ {c : CallList} (h : CallFits c) where
   unfolding volumeShapes allOf
   all-fit = all-imp (λ f s. shaped-fits everyShape f refl (s .shape)) call-sound
 
+  -- the bytes are whole fields, those of the blocks
   pub call-fields : fields (callBytes c) ≡ flat (callBlocks c)
   call-fields = ap (λ (b : List ℕ). fields b) (call-flat c) ∙ fields-back all-fit
 

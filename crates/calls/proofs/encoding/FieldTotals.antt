@@ -57,6 +57,7 @@ module _ (g : Field → ℕ) where
   abbrev pub ofBlock : Block → ℕ
   ofBlock k = total (λ b. g (field (k .tag) b)) (k .has)
 
+  -- over some blocks
   pub total-flat : (ks : List Block) → total g (flat ks) ≡ total ofBlock ks
   unfolding flat total
   total-flat [] = refl
@@ -85,6 +86,7 @@ module _ (g : Field → ℕ) where
           rw (bodies-cons u f fs, q, gather-past f fs u us (omega arith) (p .1)) (omega (arith, k))
       go false q e ih = rw (bodies-cons u f fs, q) (omega (arith, ih e))
 
+  -- no fields
   gather-none : (ts : List ℕ) → total ofBlock (gather ts []) ≡ 0
   unfolding total bodies those
   gather-none [] = refl

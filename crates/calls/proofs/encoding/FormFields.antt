@@ -43,17 +43,21 @@ module _ {s : List ℕ} (l : ListLaid s) where
       (λ b k.
       let m = shaped-out t n n everyShape b e (k .shape) in f b (k .bytes) (omega (arith, m .0, m .1))) (bodies-all t (l .sound)))
 
+  -- a reserved bucket, read and written again
   bucket-again : {b : List ℕ} → Bytes b → length b ≡ 4 → bucketBytes (bucketRead b) ≡ b
   bucket-again {b} r e = leBytes-le 4 r (omega arith) ∙ take-all 4 b (omega arith)
 
   module _ (g : Field → ℕ) where
+    -- over bodies with a tag
     abbrev over : ℕ → List (List ℕ) → ℕ
     over t bs = total (λ b. g (field t b)) bs
 
+    -- the keys of a tree, read, sorted and written again
     tree-again : (t : ℕ) → keeps t 37 293 everyShape ≡ true
         → over t (map keyBody (sortedBy keyBelow (map keyOf (bodies t (fields s))))) ≡ over t (bodies t (fields s))
     tree-again t e = sorted-again keyBody keyOf keyBelow (λ b. g (field t b)) (keys-again (l .sound) t e)
 
+    -- block by block
     blocks-total : total (ofBlock g) (callBlocks (readCall s)) ≡ total (ofBlock g) (gather (tagsOf everyShape) (fields s))
     unfolding callListOf keysOf sortedTrees reservedOf volumeShapes total
     blocks-total =
@@ -71,6 +75,7 @@ module _ {s : List ℕ} (l : ListLaid s) where
         + (tree-again 11 refl i
         + (tree-again 12 refl i + (tree-again 13 refl i + (tree-again 14 refl i + (buckets i + (pieces i + (releases i + 0)))))))))
 
+    -- over all fields
     pub form-total : total g (fields (sortedForm s)) ≡ total g (fields s)
     unfolding volumeShapes
     form-total =

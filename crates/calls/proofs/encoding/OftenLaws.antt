@@ -23,7 +23,7 @@ use Rattle.calls.proofs.lists.SortLaws.{map-sorted}
 use Rattle.calls.proofs.lists.TwiceLaws.{twice-ascends, twice-map}
 use Rattle.calls.proofs.lists.WeakLaws.{weak-by}
 use Rattle.calls.proofs.trees.KeyOrder.{key-weak, bucket-weak}
-use Rattle.calls.proofs.trees.SixTrees.{all-each as tested-each}
+use Rattle.calls.proofs.trees.SixTrees.{tested-each}
 use Rattle.calls.proofs.encoding.Blocks.{field, bodies-cons}
 use Rattle.calls.proofs.encoding.TreeFields.{treeTags}
 
@@ -76,6 +76,7 @@ count-bodies t b (f ∷ fs) = rw (bodies-cons t f fs) (go (eqb (f .tag) t) refl 
     go true e ih = rw (eq-eqb t (f .tag) (sym (eqb-true (f .tag) t e)), ih)
     go false e ih = rw (ne-eqb t (f .tag) (λ z. eqb-false (f .tag) t e (sym z)), zero-add) ih
 
+-- so the bodies with each tag stand as often
 pub often-bodies : (fs gs : List Field) → AsOften fs gs → (t : ℕ) → BodiesOften t fs gs
 often-bodies fs gs h t b = sym (count-bodies t b fs) ∙ h (field t b) ∙ count-bodies t b gs
 
@@ -98,6 +99,7 @@ one-body (b ∷ d ∷ bs) cs e c = absurd (omega arith)
 
 -- the trees, and the reserved buckets
 module _ (fs gs : List Field) where
+  -- the trees: refusal 22 of the first list is enough
   pub often-trees : All (λ t. BodiesOften t fs gs) treeTags → allTrees keysAscend (sortedTrees (keysOf fs)) ≡ true
       → sortedTrees (keysOf fs) ≡ sortedTrees (keysOf gs)
   unfolding sortedTrees keysOf

@@ -26,7 +26,7 @@ use Rattle.calls.proofs.lists.BoolLaws.{both, parts}
 use Rattle.calls.proofs.lists.SortLaws.{all-sorted}
 use Rattle.calls.proofs.lists.TwiceLaws.{asc-sorted}
 use Rattle.calls.proofs.trees.KeyOrder.{bucket-weak}
-use Rattle.calls.proofs.trees.SixTrees.{all-each, each-all, each-sorted, own-trees, trees-ok, trees-ascend, trees-snapshots}
+use Rattle.calls.proofs.trees.SixTrees.{tested-each, each-tested, each-sorted, own-trees, trees-ok, trees-ascend, trees-snapshots}
 use Rattle.calls.proofs.encoding.Blocks.{Block, field, flat, InBlock, flat-all, hasOf, bodies-flat, bodies-all, bodies-those, FieldSound, takes, shaped-in, shaped-out, shaped-fits, shaped-widen, shaped-after, shaped-front}
 use Rattle.calls.proofs.encoding.FieldBytes.{number-back, fields-bytes}
 use Rattle.calls.proofs.encoding.HeadTrip.{HeadFits, head-back, head-length, head-bytes, head-fits, head-again}
@@ -50,7 +50,7 @@ pub record VolumeOk (v : Volume) : Type 0 where
 -- no position and no reserved bucket stands twice
 pub ok-once : {v : Volume} → VolumeOk v → noneTwice v ≡ true
 unfolding noneTwice
-ok-once ok = both (each-all keysAscend (trees-ascend (ok .trees))) (ok .reserved)
+ok-once ok = both (each-tested keysAscend (trees-ascend (ok .trees))) (ok .reserved)
 
 -- blocks
 
@@ -61,10 +61,12 @@ abbrev pub volumeBlocks : Volume → List Block
 volumeBlocks v =
     record { tag = 1; has = headBody (v .head) ∷ [] } ∷ treeBlocks (v .trees) ++ (bucketsBlock 64 (v .reserved) ∷ [])
 
+-- its fields are those of its blocks
 pub volume-flat : (v : Volume) → volumeFields v ≡ flat (volumeBlocks v)
 unfolding volumeFields treeFields reservedField flat
 volume-flat v = simp (append-assoc, append-nil, map-block)
 
+-- the fields of buckets, and field 1, have these shapes
 pub buckets-sound : {ss : List Shape} (t : ℕ) (bs : List Bucket) → takes t 4 4 ss ≡ true → InBlock (FieldSound ss) (bucketsBlock t bs)
 unfolding leBytes
 buckets-sound {ss} t [] e = none
@@ -86,6 +88,7 @@ pub blocks-sound : (ss : List Shape) {v : Volume} → takes 1 39 39 ss ≡ true 
 blocks-sound ss {v} a b c h =
     more (more (head-sound ss (v .head) a) none) (all-append (trees-sound b (h .trees)) (more (buckets-sound 64 (v .reserved) c) none))
 
+-- a bucket, and buckets
 bucket-back : (b : Bucket) → BucketFits b → bucketRead (bucketBytes b) ≡ b
 bucket-back b h = λ i. record { 0 = number-back 4 (b .0) h i }
 
@@ -111,7 +114,7 @@ module _ {v : Volume} (h : VolumeFits v) (once : noneTwice v ≡ true) where
       let one : headOf (firstBody (bodies 1 (flat ks))) ≡ v .head = rw (bodies-flat 1 ks, a) (head-back (h .head)) in
       let keys : keysOf (flat ks) ≡ v .trees = trees-back ks (h .trees) b c d e f g in
       let buckets : map bucketRead (bodies 64 (flat ks)) ≡ v .reserved = buckets-back 64 ks k (h .reserved) in
-      let trees : sortedTrees (keysOf (flat ks)) ≡ v .trees = ap sortedTrees keys ∙ own-trees (all-each keysAscend (v .trees) (o .0)) in
+      let trees : sortedTrees (keysOf (flat ks)) ≡ v .trees = ap sortedTrees keys ∙ own-trees (tested-each keysAscend (v .trees) (o .0)) in
       let reserved : sortedBy bucketBelow (map bucketRead (bodies 64 (flat ks))) ≡ v .reserved =
       ap (sortedBy bucketBelow) buckets ∙ asc-sorted bucket-weak (v .reserved) (o .1)
       in
@@ -120,6 +123,7 @@ module _ {v : Volume} (h : VolumeFits v) (once : noneTwice v ≡ true) where
 -- written
 
 module _ {v : Volume} (h : VolumeFits v) where
+  -- every field has its shape, and its tag and length fit
   volume-sound : All (FieldSound volumeShapes) (flat (volumeBlocks v))
   unfolding volumeShapes allOf
   volume-sound = flat-all (blocks-sound volumeShapes refl (test-all _ treeTags refl) refl h)
@@ -128,6 +132,7 @@ module _ {v : Volume} (h : VolumeFits v) where
   unfolding volumeShapes allOf
   all-fit = all-imp (λ f s. shaped-fits volumeShapes f refl (s .shape)) volume-sound
 
+  -- the bytes are whole fields, those of the blocks
   volume-fields : fields (volumeBytes v) ≡ flat (volumeBlocks v)
   unfolding volumeBytes
   volume-fields = ap (λ (fs : List Field). fields (encode fs)) (volume-flat v) ∙ fields-back all-fit
@@ -148,6 +153,7 @@ module _ {v : Volume} (h : VolumeFits v) where
     pub read-back : readVolume (volumeBytes v) ≡ v
     read-back = ap (λ (c : CallList). c .volume) volume-back
 
+    -- it passes refusals 2 and 22
     pub volume-laid-out : volumeLaidOut (volumeBytes v) ≡ true
     unfolding volumeLaidOut laidOut
     volume-laid-out =
@@ -181,6 +187,7 @@ pub record ListLaid (s : List ℕ) : Type 0 where
   pub head : headOk (readVolume s .head) ≡ true
   pub snapshots : allTrees snapshotsOk (readVolume s .trees) ≡ true
 
+-- of any shapes that are among these
 laid : (ss : List Shape) {s : List ℕ} → ((f : Field) → shaped ss f ≡ true → shaped everyShape f ≡ true) → Bytes s → laidOut ss s ≡ true → ListLaid s
 unfolding laidOut
 laid ss {s} w r h =
@@ -199,6 +206,7 @@ laid ss {s} w r h =
       snapshots = d .1;
     }
 
+-- the requests of one call are among those of every call
 request-shapes : (call : ℕ) (f : Field) → shaped (requestShapes call) f ≡ true → shaped requests f ≡ true
 unfolding shaped requestShapes
 request-shapes call f h = go (eqb call 1) (eqb call 2) h
@@ -261,6 +269,7 @@ head-read (b ∷ []) e (more h none) =
 head-read (b ∷ c ∷ bs) e h = absurd (omega arith)
 
 module _ {s : List ℕ} (l : ListLaid s) where
+  -- each number fits its bytes: refusal 2 alone
   pub laid-fits : VolumeFits (readVolume s)
   unfolding callListOf reservedOf volumeShapes allOf
   laid-fits =
@@ -278,6 +287,7 @@ module _ {s : List ℕ} (l : ListLaid s) where
       let p = parts (allTrees keysAscend (v .trees)) (inOrder bucketBelow (v .reserved)) o in
       record { head = l .head; trees = trees-ok (v .trees) (p .0) (l .snapshots); reserved = p .1 }
 
+-- what a volume, and a call's list, is where it passes refusals 2 and 22
 pub volume-fits : {s : List ℕ} → Bytes s → volumeLaidOut s ≡ true → noneTwice (readVolume s) ≡ true → VolumeFits (readVolume s) × VolumeOk (readVolume s)
 volume-fits {s} r h o = let l : ListLaid s = volume-laid r h in (laid-fits l, laid-ok l o)
 
@@ -311,10 +321,12 @@ volume-bodies fs gs (more a (more b (more c (more d (more e (more f (more g (mor
     }
 
 module _ {s : List ℕ} (l : ListLaid s) where
+  -- its fields are those that are no requests
   kept-fields : fields (withoutRequests s) ≡ those (λ f. not (isRequest f)) (fields s)
   unfolding withoutRequests volumeShapes allOf
   kept-fields = fields-back (all-those _ (all-imp (λ f k. shaped-fits everyShape f refl (k .shape)) (l .sound)))
 
+  -- it is read as the same volume
   pub without-read : readVolume (withoutRequests s) ≡ readVolume s
   unfolding allOf
   without-read =

@@ -29,6 +29,7 @@ unfolding carried
 bodies-carried s t h = bodies-those kept t (λ f e. rw e h) (fields s)
 
 module _ (a b : List ℕ) (same : AsOften (carried a) (carried b)) where
+  -- the bodies with such a tag stand as often
   alike : (t : ℕ) → keptTag t ≡ true → BodiesOften t (fields a) (fields b)
   alike t h x =
       ap (count (sameBytes x)) (sym (bodies-carried a t h)) ∙ often-bodies (carried a) (carried b) same t x ∙ ap (count (sameBytes x)) (bodies-carried b t h)

@@ -21,6 +21,7 @@ pub record EachTree (P : List Key → Type 0) (t : Trees) : Type 0 where
   pub backpointers : P (t .backpointers)
   pub gens : P (t .gens)
 
+-- what follows from it
 pub each-imp : {P Q : List Key → Type 0} {t : Trees} → ((ks : List Key) → P ks → Q ks) → EachTree P t → EachTree Q t
 each-imp {t} f g =
     record {
@@ -90,8 +91,8 @@ own-trees {t} h =
 
 -- a test of each tree
 module _ (test : List Key → Bool) where
-  pub all-each : (t : Trees) → allTrees test t ≡ true → EachTree (λ ks. test ks ≡ true) t
-  all-each t h =
+  pub tested-each : (t : Trees) → allTrees test t ≡ true → EachTree (λ ks. test ks ≡ true) t
+  tested-each t h =
       let a = parts (test (t .alloc)) _ h in
       let b = parts (test (t .lru)) _ (a .1) in
       let c = parts (test (t .freespace)) _ (b .1) in
@@ -99,17 +100,17 @@ module _ (test : List Key → Bool) where
       let e = parts (test (t .backpointers)) (test (t .gens)) (d .1) in
       record { alloc = a .0; lru = b .0; freespace = c .0; needDiscard = d .0; backpointers = e .0; gens = e .1 }
 
-  pub each-all : {t : Trees} → EachTree (λ ks. test ks ≡ true) t → allTrees test t ≡ true
-  each-all h = both (h .alloc) (both (h .lru) (both (h .freespace) (both (h .needDiscard) (both (h .backpointers) (h .gens)))))
+  pub each-tested : {t : Trees} → EachTree (λ ks. test ks ≡ true) t → allTrees test t ≡ true
+  each-tested h = both (h .alloc) (both (h .lru) (both (h .freespace) (both (h .needDiscard) (both (h .backpointers) (h .gens)))))
 
 -- what refusals 2 and 22 leave
 pub trees-each : (t : Trees) → treesOk t ≡ true → EachTree (λ ks. keysOk ks ≡ true) t
 unfolding treesOk
-trees-each t h = all-each keysOk t h
+trees-each t h = tested-each keysOk t h
 
 pub each-trees : {t : Trees} → EachTree (λ ks. keysOk ks ≡ true) t → treesOk t ≡ true
 unfolding treesOk
-each-trees h = each-all keysOk h
+each-trees h = each-tested keysOk h
 
 pub trees-order : {t : Trees} → treesOk t ≡ true → EachTree InOrder t
 trees-order {t} h = each-imp keys-order (trees-each t h)
@@ -117,7 +118,7 @@ trees-order {t} h = each-imp keys-order (trees-each t h)
 -- the two tests of a layout, and both in one
 pub trees-ok : (t : Trees) → allTrees keysAscend t ≡ true → allTrees snapshotsOk t ≡ true → treesOk t ≡ true
 unfolding keysOk
-trees-ok t a z = each-trees (each-join (λ ks p q. both p q) (all-each keysAscend t a) (all-each snapshotsOk t z))
+trees-ok t a z = each-trees (each-join (λ ks p q. both p q) (tested-each keysAscend t a) (tested-each snapshotsOk t z))
 
 pub trees-ascend : {t : Trees} → treesOk t ≡ true → EachTree (λ ks. keysAscend ks ≡ true) t
 unfolding keysOk
@@ -125,4 +126,4 @@ trees-ascend {t} h = each-imp (λ ks e. parts (keysAscend ks) (snapshotsOk ks) e
 
 pub trees-snapshots : (t : Trees) → treesOk t ≡ true → allTrees snapshotsOk t ≡ true
 unfolding keysOk
-trees-snapshots t h = each-all snapshotsOk (each-imp (λ ks e. parts (keysAscend ks) (snapshotsOk ks) e .1) (trees-each t h))
+trees-snapshots t h = each-tested snapshotsOk (each-imp (λ ks e. parts (keysAscend ks) (snapshotsOk ks) e .1) (trees-each t h))
