@@ -31,7 +31,7 @@ enum-told c = c .match .keys2
 
 returns : tie.Need-returns Inv-loop μ-loop
 returns c =
-    call-none _ _ (c .before .before .before .loop .inv .1)
+    call-none _ (c .before .before .before .loop .at) (c .before .before .before .loop .inv .1)
     (stop-at _ _ (sym (c .before .before .next-field .ensures) ∙ c .enum-told .given .1))
 
 -- the turn, and the field that it is at
