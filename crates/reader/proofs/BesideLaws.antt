@@ -49,7 +49,7 @@ beside-bodies t l (f ∷ fs) =
     (same-or (f .tag) 1)
 
 -- what they are, in a list of fields that may stand
-beside-listed : (call : ℕ) (any : Bool) (f : Field) → (f .tag ≡ 1 → ⊥) → anyFieldOk call any f ≡ true → FieldListed call (f .tag) (length (f .body))
+pub beside-listed : (call : ℕ) (any : Bool) (f : Field) → (f .tag ≡ 1 → ⊥) → anyFieldOk call any f ≡ true → FieldListed call (f .tag) (length (f .body))
 unfolding callFieldOk
 beside-listed call any f n k = listed call f (and-left (shaped (restShapes call) f) _ (sym (any-beside call any f n) ∙ k))
 

@@ -26,3 +26,4 @@ pub mod PartsLaws
 pub mod NextLaws
 pub mod CheckedLaws
 pub mod SortedBodyLaws
+pub mod LaidLaws

@@ -27,6 +27,13 @@ tree-most t h = go (tree-range t h)
     go (inl e) = omega arith
     go (inr p) = p .1
 
+pub tree-least : (t : ℕ) → isTree t ≡ true → 4 ≤ t
+tree-least t h = go (tree-range t h)
+  where
+    go : (t ≡ 4) ⊎ ((10 ≤ t) × (t ≤ 14)) → 4 ≤ t
+    go (inl e) = omega arith
+    go (inr p) = omega (arith, p .0)
+
 pub bucket-tree : (t : ℕ) → t ≡ 64 → isTree t ≡ false
 unfolding isTree
 bucket-tree t e = rw e
