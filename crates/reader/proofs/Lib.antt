@@ -26,3 +26,6 @@ pub mod PartsLaws
 pub mod NextLaws
 pub mod CheckedLaws
 pub mod SortedBodyLaws
+pub mod CollectedLaws
+pub mod BodyOrderLaws
+pub mod StoredLaws

@@ -8,3 +8,4 @@ pub mod Located
 pub mod Pieces
 pub mod Checked
 pub mod Arranged
+pub mod Collected
