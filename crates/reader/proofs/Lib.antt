@@ -29,3 +29,5 @@ pub mod SortedBodyLaws
 pub mod CollectedLaws
 pub mod BodyOrderLaws
 pub mod StoredLaws
+pub mod ArrangedLaws
+pub mod DoubledLaws
