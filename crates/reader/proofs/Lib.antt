@@ -27,3 +27,8 @@ pub mod NextLaws
 pub mod CheckedLaws
 pub mod SortedBodyLaws
 pub mod LaidLaws
+pub mod CollectedLaws
+pub mod BodyOrderLaws
+pub mod StoredLaws
+pub mod ArrangedLaws
+pub mod DoubledLaws

@@ -9,3 +9,4 @@ pub mod Pieces
 pub mod Checked
 pub mod Arranged
 pub mod Surveyed
+pub mod Collected

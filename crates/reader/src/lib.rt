@@ -1,4 +1,4 @@
-// The readers of call lists, volumes and change lists: refusals 2 and 3, the head, and a table of where each field stands.
+// The readers of call lists, volumes and change lists: refusals 2, 22 and 3, the head, and a table of where each field stands.
 pub mod arrange;
 pub mod call;
 pub mod change;
