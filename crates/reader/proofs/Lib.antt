@@ -27,6 +27,7 @@ pub mod NextLaws
 pub mod CheckedLaws
 pub mod SortedBodyLaws
 pub mod LaidLaws
+pub mod ReadLaws
 pub mod CollectedLaws
 pub mod BodyOrderLaws
 pub mod StoredLaws

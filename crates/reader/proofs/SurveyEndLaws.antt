@@ -19,7 +19,8 @@ use Rattle.calls.proofs.encoding.Blocks.{field}
 use Rattle.reader.specs.CallFields.{anyFieldOk, others, follows, ascends, headWithin, fieldWithin}
 use Rattle.reader.specs.Table.{mostOf, rankEnd, bodyBelow, sortedBodies, Indexed, Ended, endsIn, requestBodies, requestTag, Tabled}
 use Rattle.reader.specs.Readings.{laidAs}
-use Rattle.reader.specs.Surveyed.{Counted, LaidFound}
+use Rattle.reader.specs.Surveyed.{Counted, LaidFound, Surveyed}
+use Rattle.reader.specs.declared.survey.Pass.the-variants.{Broken, Laid}
 use Rattle.reader.proofs.BoolLaws.{apart}
 use Rattle.reader.proofs.ShapeLaws.{KeyTag}
 use Rattle.reader.proofs.ListedLaws.{key-tag-bounds}
@@ -277,3 +278,19 @@ module _
           once = ends-once;
           table = λ o z. ends-indexed z o;
         }
+
+-- the one outcome of the pass, or the other
+pub broken-found : {call : ℕ} {any : Bool} {s counts index : List ℕ} → laidAs call any s ≡ false → Surveyed call any s counts index Broken
+broken-found h = record { broken = λ e. h; found = λ a b c e. absurd (let z : _≡_ {A = ℕ} 0 1 = cc in omega arith) }
+
+pub laid-found : {call : ℕ} {any : Bool} {s counts index : List ℕ} {head : ℕ} {over ordered : Bool}
+    → LaidFound call any s counts index head over ordered → Surveyed call any s counts index (Laid head over ordered)
+laid-found {head = head} {over = over} {ordered = ordered} f =
+    record {
+      broken = λ e. absurd (let z : _≡_ {A = ℕ} 0 1 = cc in omega arith);
+      found = λ h o d e.
+          let a : head ≡ h = cc in
+          let b : over ≡ o = cc in
+          let c : ordered ≡ d = cc in
+          rw (← a, ← b, ← c) f;
+    }

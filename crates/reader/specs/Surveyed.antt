@@ -31,6 +31,7 @@ pub record LaidFound (call : ℕ) (any : Bool) (s counts index : List ℕ) (head
   pub once : ordered ≡ true → noneTwice (readVolume s) ≡ true
   pub table : ordered ≡ true → over ≡ false → Indexed call s index (endsIn counts)
 
-abbrev pub Surveyed : ℕ → Bool → List ℕ → List ℕ → List ℕ → Pass → Type 0
-Surveyed call any s counts index Broken = laidAs call any s ≡ false
-Surveyed call any s counts index (Laid head over ordered) = LaidFound call any s counts index head over ordered
+-- the one or the other
+pub record Surveyed (call : ℕ) (any : Bool) (s counts index : List ℕ) (r : Pass) : Type 0 where
+  pub broken : r ≡ Broken → laidAs call any s ≡ false
+  pub found : (head : ℕ) (over ordered : Bool) → r ≡ Laid head over ordered → LaidFound call any s counts index head over ordered

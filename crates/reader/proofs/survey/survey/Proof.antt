@@ -11,7 +11,7 @@ use Rattle.wire.specs.declared.fields.NextField.the-variants.{Found}
 use Rattle.wire.proofs.FieldLaws.{FieldAt, field-at}
 use Rattle.reader.specs.CallFields.{callFieldOk}
 use Rattle.reader.proofs.SurveyLaws.{Going, going-start, breaks, second, bad-head, goes-head, bad-beside, next-within, last-within, next-free, passed-length, goes-on}
-use Rattle.reader.proofs.SurveyEndLaws.{no-head, ends-found}
+use Rattle.reader.proofs.SurveyEndLaws.{no-head, ends-found, broken-found, laid-found}
 use Rattle.reader.proofs.survey.survey.Statement.{statement}
 use Rattle.reader.proofs.survey.survey.Tie as tie
 
@@ -53,8 +53,9 @@ same-length c = c .before .before .before .before .loop .inv .1
 
 returns : tie.Need-returns Inv-loop μ-loop
 returns c =
-    breaks _ _ _ _ _ _ _ _ _ _ _ _ (c .before .before .before .before .loop .inv .0)
-    (sym (c .before .before .next-field .ensures) ∙ c .enum-told .given .1) (c .before .before .before .loop-test .taken)
+    broken-found
+    (breaks _ _ _ _ _ _ _ _ _ _ _ _ (c .before .before .before .before .loop .inv .0)
+    (sym (c .before .before .next-field .ensures) ∙ c .enum-told .given .1) (c .before .before .before .loop-test .taken))
 
 -- the field that the turn is at
 step :
@@ -79,7 +80,7 @@ same-length-2 c = turn (c .before .before) .loop .inv .1
 returns-2 : tie.Need-returns-2 Inv-loop μ-loop
 returns-2 c =
     let f = c .before .before in
-    second _ _ _ _ _ _ _ _ _ _ _ _ (turn f .loop .inv .0) _ _ _ (took f) (c .before .if1 .taken) (c .if2 .taken)
+    broken-found (second _ _ _ _ _ _ _ _ _ _ _ _ (turn f .loop .inv .0) _ _ _ (took f) (c .before .if1 .taken) (c .if2 .taken))
 
 head-field-ok-requires : tie.Need-head-field-ok-requires Inv-loop μ-loop
 head-field-ok-requires c κs = took (c .before .before) .within
@@ -90,8 +91,9 @@ same-length-3 c = turn (c .before .before .before .before) .loop .inv .1
 returns-3 : tie.Need-returns-3 Inv-loop μ-loop
 returns-3 c =
     let f = c .before .before .before .before in
-    bad-head _ _ _ _ _ _ _ _ _ _ _ _ (turn f .loop .inv .0) _ _ _ (took f) (c .before .before .before .if1 .taken)
-    (sym (c .before .head-field-ok .ensures) ∙ not-true _ (c .if3 .taken))
+    broken-found
+    (bad-head _ _ _ _ _ _ _ _ _ _ _ _ (turn f .loop .inv .0) _ _ _ (took f) (c .before .before .before .if1 .taken)
+    (sym (c .before .head-field-ok .ensures) ∙ not-true _ (c .if3 .taken)))
 
 loop-less : tie.Need-loop-less Inv-loop μ-loop
 loop-less c =
@@ -117,8 +119,9 @@ same-length-4 c = turn (c .before .before .before) .loop .inv .1
 returns-4 : tie.Need-returns-4 Inv-loop μ-loop
 returns-4 c =
     let f = c .before .before .before in
-    bad-beside _ _ _ _ _ _ _ _ _ _ _ _ (turn f .loop .inv .0) _ _ _ (took f) (c .before .before .if1 .left)
-    (sym (c .before .field-ok .ensures) ∙ not-true _ (c .if4 .taken))
+    broken-found
+    (bad-beside _ _ _ _ _ _ _ _ _ _ _ _ (turn f .loop .inv .0) _ _ _ (took f) (c .before .before .if1 .left)
+    (sym (c .before .field-ok .ensures) ∙ not-true _ (c .if4 .taken)))
 
 -- it may stand in the list
 fine :
@@ -170,13 +173,13 @@ same-length-5 : tie.Need-same-length-5 Inv-loop μ-loop
 same-length-5 c = c .before .before .loop .inv .1
 
 returns-5 : tie.Need-returns-5 Inv-loop μ-loop
-returns-5 c = no-head _ _ _ _ _ _ _ _ _ _ _ _ (c .before .before .loop .inv .0) (c .before .loop-test .left) (c .if5 .taken)
+returns-5 c = broken-found (no-head _ _ _ _ _ _ _ _ _ _ _ _ (c .before .before .loop .inv .0) (c .before .loop-test .left) (c .if5 .taken))
 
 same-length-6 : tie.Need-same-length-6 Inv-loop μ-loop
 same-length-6 c = c .before .before .loop .inv .1
 
 returns-6 : tie.Need-returns-6 Inv-loop μ-loop
-returns-6 c = ends-found _ _ _ _ _ _ _ _ _ _ _ _ (c .before .before .loop .inv .0) (c .before .loop-test .left) (c .if5 .left)
+returns-6 c = laid-found (ends-found _ _ _ _ _ _ _ _ _ _ _ _ (c .before .before .loop .inv .0) (c .before .loop-test .left) (c .if5 .left))
 
 pub survey-spec : {M : Type 1} → statement M
 survey-spec =
