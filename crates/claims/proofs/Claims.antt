@@ -12,6 +12,7 @@ use contract.Lifetimes.{Lfts}
 use denote.Ref.{now}
 use denote.Triple.Clauses.{AtExit}
 use Rattle.wire.specs.Bytes.{All, Bytes}
+use Rattle.wire.specs.Fields.{fields}
 use Rattle.wire.specs.Keys.{Key}
 use Rattle.wire.specs.Kinds.{sectorNumber, bucketBelow, beganBefore}
 use Rattle.wire.specs.Numbers.{le}
@@ -31,7 +32,8 @@ use Rattle.format.proofs.AllocLaws as alloc
 use Rattle.format.proofs.BackpointerLaws as backpointers
 use Rattle.format.proofs.GenLaws as gens
 use Rattle.calls.specs.Lists.{allOf, inOrder}
-use Rattle.calls.specs.CallList.{Volume, keysOk, treesOk, callLaidOut, volumeLaidOut, volumeBytes}
+use Rattle.calls.specs.CallList.{Volume, keysOk, treesOk, callLaidOut, volumeLaidOut, listLaidOut, noneTwice, volumeBytes}
+use Rattle.calls.specs.SameFields.{AsOften}
 use Rattle.calls.specs.Freespace.{isIn, walk, runsOf, endOf, overlaps}
 use Rattle.calls.specs.Pieces.{nextFit, bucketsNeeded}
 use Rattle.calls.specs.Extents.{Placed}
@@ -42,14 +44,16 @@ use Rattle.calls.specs.Place.{placeTests, placedOf, walkOf, placeBatch}
 use Rattle.calls.specs.Release.{releaseTests, releaseBatch}
 use Rattle.calls.specs.Discard.{discardBatches}
 use Rattle.calls.specs.Apply.{applyBatch, applyBatches}
-use Rattle.calls.specs.Answers.{made, outcome, scratchAfter, readCall, readVolume, nextVolume, place, release, discard, apply}
+use Rattle.calls.specs.Answers.{made, outcome, scratchAfter, readCall, readVolume, nextVolume, place, release, discard, apply, sortedForm, sort}
+use Rattle.calls.specs.ListCalls.{ListCall, answerOf}
 use Rattle.calls.specs.History.{Clean, Live, State, discarding, Step, takeAll, after, Allowed, History, start, Claim, GensAgree}
-use Rattle.calls.specs.Examples.{bucket, headFor, volumeFor, run, usedBucket, waitsSince, emptiedAt, runEnds, plain, placing, releasing, slot, spot, freeing, ofBatches, freeVolume, heldVolume, waiting, pastBase, elsewhere, threePieces}
+use Rattle.calls.specs.Examples.{bucket, headFor, volumeFor, run, usedBucket, waitsSince, emptiedAt, runEnds, plain, placing, releasing, slot, spot, freeing, ofBatches, freeVolume, heldVolume, waiting, pastBase, elsewhere, threePieces, keyAt, holding, twoPieces, twoPiecesShuffled}
 use Rattle.calls.specs.ExampleHistory as example
 use Rattle.calls.proofs.cases.Cases.{cases}
 use Rattle.calls.proofs.cases.WorkedAnswers.{worked-answers}
 use Rattle.calls.proofs.encoding.VolumeTrip as volumes
 use Rattle.calls.proofs.answers.AnswersReadBack as answers
+use Rattle.calls.proofs.answers.SortedForm as sorted
 use Rattle.calls.proofs.history.Demand3 as history
 use Rattle.calls.proofs.history.HistoryKeeps as keeping
 use Rattle.calls.proofs.history.HistoryRuns as runs
@@ -75,6 +79,10 @@ use Rattle.zerglaz.proofs.zerglaz_apply.Kinds as applyK
 use Rattle.zerglaz.proofs.zerglaz_apply.Met as applyM
 use Rattle.zerglaz.proofs.zerglaz_apply.Reads as applyR
 use Rattle.zerglaz.proofs.zerglaz_apply.Statement as applyS
+use Rattle.zerglaz.proofs.zerglaz_sort.Kinds as sortK
+use Rattle.zerglaz.proofs.zerglaz_sort.Met as sortM
+use Rattle.zerglaz.proofs.zerglaz_sort.Reads as sortR
+use Rattle.zerglaz.proofs.zerglaz_sort.Statement as sortS
 use Rattle.lines.specs.Program.{bucketLines, Shown}
 use Rattle.lines.specs.Printed.{printedList, printedText}
 use Rattle.lines.proofs.Printed as printing
@@ -85,7 +93,7 @@ use Rattle.lines.proofs.program.bucket_lines.Statement as linesS
 
 -- ==== Demand 1: every list is answered, or refused by the number that the order names
 
--- ---- the four calls
+-- ---- the five calls
 -- Of each call: the compiled function meets its contract, in every model of memory (`statement`, which the toolchain makes of the contract in
 -- crates/zerglaz/src/lib.rt); its contract asks nothing of the arguments (`Asked`, what a caller must show); and what it says after the call (`Learnt`, what a caller
 -- learns). There `a` are the arguments at entry, `e` the same at exit, `now` is what a reference refers to, and `r` is the number that the call answers.
@@ -152,6 +160,54 @@ module _ (κs : Lfts 4) (a : Dens κs applyK.ps) (r : ℕ) (e : AtExit (endedOf 
       let written-after : ℕ = now (e .1 .1 .1 .0) in
       applyR.Learnt κs a r e ≡ (made r written-after out-after ≡ outcome (apply volume change (length out)) out)
   apply-says = refl
+
+pub zerglaz-sort : {M : Type 1} → sortS.statement M
+zerglaz-sort = sortM.met
+
+module _ (κs : Lfts 3) (a : Dens κs sortK.ps) (r : ℕ) (e : AtExit (endedOf 3 sortK.ps sortK.r) κs) where
+  pub sort-asks : sortR.Asked κs a ≡ Unit {0}
+  sort-asks = refl
+
+  pub sort-says :
+      let list : List ℕ = now (a .0) in
+      let out : List ℕ = now (a .1 .0) in
+      let out-after : List ℕ = now (e .1 .0) in
+      let written-after : ℕ = now (e .1 .1 .0) in
+      sortR.Learnt κs a r e ≡ (made r written-after out-after ≡ outcome (sort list (length out)) out)
+  sort-says = refl
+
+-- ---- a list in any order
+-- a list that passes refusal 2 of a call, or of apply, passes that of sort; where it passes 22 too, each call answers it as it answers its sorted form
+pub call-listed : (call : ℕ) (s : List ℕ) → callLaidOut call s ≡ true → listLaidOut s ≡ true
+call-listed = volumes.call-listed
+
+pub volume-listed : (s : List ℕ) → volumeLaidOut s ≡ true → listLaidOut s ≡ true
+volume-listed = volumes.volume-listed
+
+pub answers-sorted : (s : List ℕ) → Bytes s → listLaidOut s ≡ true → noneTwice (readVolume s) ≡ true
+    → (c : ListCall) (room : ℕ) → answerOf c (sortedForm s) room ≡ answerOf c s room
+answers-sorted s r l o = sorted.answers-sorted r l o
+
+-- the sorted form is read as the list is, has the list's fields, each as often, and its length
+pub form-reads : (s : List ℕ) → Bytes s → listLaidOut s ≡ true → noneTwice (readVolume s) ≡ true → readCall (sortedForm s) ≡ readCall s
+form-reads s r l o = sorted.form-reads r l o
+
+pub form-fields : (s : List ℕ) → Bytes s → listLaidOut s ≡ true → noneTwice (readVolume s) ≡ true → AsOften (fields (sortedForm s)) (fields s)
+form-fields s r l o = sorted.form-fields r l o
+
+pub form-length : (s : List ℕ) → Bytes s → listLaidOut s ≡ true → noneTwice (readVolume s) ≡ true → length (sortedForm s) ≡ length s
+form-length s r l o = sorted.form-length r l o
+
+-- to sort what sort wrote gives the same bytes
+pub sort-again : (s : List ℕ) (room : ℕ) → Bytes s → sort s room .number ≡ 0 → sort (sort s room .written) room ≡ sort s room
+sort-again = sorted.sort-again
+
+-- two lists in which every field stands as often, with equal requests, have one sorted form
+pub one-form : (a b : List ℕ) → Bytes a → listLaidOut a ≡ true → noneTwice (readVolume a) ≡ true → AsOften (fields a) (fields b)
+    → readCall a .pieces ≡ readCall b .pieces
+    → readCall a .releases ≡ readCall b .releases
+    → sortedForm a ≡ sortedForm b
+one-form = sorted.one-form
 
 -- ---- the worked cases of FORMAT.md
 -- 1. bucket 128, stored 96, 96, 64: three buckets, offset 0 each, no LRU root
@@ -283,11 +339,44 @@ pub last-deleted :
     ≡ (8 ∷ []) ∷ []
 last-deleted = worked-answers .last-deleted
 
--- ---- what is written is read back
--- a volume that is laid out right is written again byte for byte
-pub volume-again : (s : List ℕ) → Bytes s → volumeLaidOut s ≡ true → volumeBytes (readVolume s) ≡ s
-volume-again s r h = volumes.volume-again r h
+-- bucket 70,000 passes its limit, which is 3; where it stands twice it is 22
+pub once-passed : place (placing (volumeFor (headFor 1 1) [] [] [] (bucket 70000 ∷ [])) []) 14 .number ≡ 3
+once-passed = worked-answers .once-passed
 
+pub twice-passed : place (placing (volumeFor (headFor 1 1) [] [] [] (bucket 70000 ∷ bucket 70000 ∷ [])) []) 14 .number ≡ 22
+twice-passed = worked-answers .twice-passed
+
+-- two keys at one position, and a reserved bucket twice, also apart
+pub keys-twice : sort (volumeBytes (holding 14 (keyAt 1 5 ∷ keyAt 1 5 ∷ []) [])) 400 .number ≡ 22
+keys-twice = worked-answers .keys-twice
+
+pub bucket-twice : sort (volumeBytes (holding 14 [] (bucket 4 ∷ bucket 3 ∷ bucket 4 ∷ []))) 400 .number ≡ 22
+bucket-twice = worked-answers .bucket-twice
+
+-- in each tree, 4, 10, 11, 12, 13 and 14, two keys that descend, and two reserved buckets that descend, are accepted
+pub keys-descend :
+    map (λ tree. sort (volumeBytes (holding tree (keyAt 0 6 ∷ keyAt 0 5 ∷ []) [])) 400 .number) (4 ∷ 10 ∷ 11 ∷ 12 ∷ 13 ∷ 14 ∷ [])
+    ≡ 0 ∷ 0 ∷ 0 ∷ 0 ∷ 0 ∷ 0 ∷ []
+keys-descend = worked-answers .keys-descend
+
+pub buckets-descend : sort (volumeBytes (holding 14 [] (bucket 4 ∷ bucket 3 ∷ []))) 400 .number ≡ 0
+buckets-descend = worked-answers .buckets-descend
+
+-- the inode goes before the offset
+pub inode-first :
+    sort (volumeBytes (holding 10 (keyAt 2 3 ∷ keyAt 1 5 ∷ []) [])) 400 .written
+    ≡ volumeBytes (holding 10 (keyAt 1 5 ∷ keyAt 2 3 ∷ []) [])
+inode-first = worked-answers .inode-first
+
+-- two pieces of descending size keep their order
+pub requests-kept : sort twoPieces 400 .written ≡ twoPieces
+requests-kept = worked-answers .requests-kept
+
+-- fields in another order, with field 1 last
+pub shuffled-sorted : sort twoPiecesShuffled 400 .written ≡ twoPieces
+shuffled-sorted = worked-answers .shuffled-sorted
+
+-- ---- what is written is read back
 -- what an accepted call writes is laid out right, and is read back as the batches, or the volume, of its definition
 pub place-read-back : (s : List ℕ) (room : ℕ) → Bytes s → place s room .number ≡ 0
     → (changeLaidOut (place s room .written) ≡ true)
@@ -304,7 +393,8 @@ pub discard-read-back : (s : List ℕ) (room : ℕ) → Bytes s → discard s ro
 discard-read-back s room r h = let w = answers.discard-written s r room h in (w .laid-out, w .back)
 
 pub apply-read-back : (s change : List ℕ) (room : ℕ) → Bytes s → Bytes change → apply s change room .number ≡ 0
-    → (volumeLaidOut (apply s change room .written) ≡ true) × (readVolume (apply s change room .written) ≡ nextVolume s change)
+    → (volumeLaidOut (apply s change room .written) ≡ true) × (noneTwice (readVolume (apply s change room .written)) ≡ true)
+    × (readVolume (apply s change room .written) ≡ nextVolume s change)
 apply-read-back = answers.apply-written
 
 -- ==== Demand 2: what the Linux headers decide
@@ -475,7 +565,7 @@ history-keeps P same placed released discarded =
     })
 
 -- the buckets that a placement takes ascend strictly
-pub taken-ascend : (s : List ℕ) → callLaidOut 1 s ≡ true → overlaps (runsOf (readVolume s .trees .freespace)) ≡ false
+pub taken-ascend : (s : List ℕ) → callLaidOut 1 s ≡ true → noneTwice (readVolume s) ≡ true → overlaps (runsOf (readVolume s .trees .freespace)) ≡ false
     → inOrder bucketBelow (walkOf (readCall s) .taken) ≡ true
 taken-ascend = taken.laid-taken-ascend
 

@@ -41,7 +41,7 @@ module _ (s index : List ℕ) (h : Head) (e : Ends) (z : 0 ≡ callRefusal 1 s) 
   pub called : Called s h (take (e .alloc) index) (between (e .lru) (e .freespace) index) (between (e .gens) (e .reserved) index) (between (e .reserved) (e .requests) index)
   called =
       let p = passed 1 s z in
-      let k = checked 1 s (p .laid) (p .within) in
+      let k = checked 1 s (p .laid) (p .once) (p .within) in
       record {
         checked = k;
         head = q .head;

@@ -108,7 +108,7 @@ module _ (s : List ℕ) (n room : ℕ) where
 
 -- the layout's trees
 trees-ok : (s : List ℕ) → 0 ≡ callRefusal 2 s → EachTree (λ ks. keysOk ks ≡ true) (readVolume s .trees)
-trees-ok s z = let p = passed 2 s z in trees-each (readVolume s .trees) (checked 2 s (p .laid) (p .within) .trees)
+trees-ok s z = let p = passed 2 s z in trees-each (readVolume s .trees) (checked 2 s (p .laid) (p .once) (p .within) .trees)
 
 -- ---- the scratch
 pub scratch-short : (l : List ℕ) → length l < 65536 → l ≡ scratchAfter l
