@@ -9,7 +9,7 @@ use lib.Seq.{drop-at}
 use borrow.Author.Tests.{le-leb, lt-leb, lt-ltb, le-ltb, ltb-true}
 use Rattle.wire.specs.Keys.{Key}
 use Rattle.calls.specs.CallList as calls
-use Rattle.calls.specs.CallList.{Volume, Freed, freedOf, keysOk, callLaidOut}
+use Rattle.calls.specs.CallList.{Volume, Freed, freedOf, keysOk, callLaidOut, noneTwice}
 use Rattle.calls.specs.Limits.{listWithin}
 use Rattle.calls.specs.Answers.{Answer, answer, readCall, readVolume, release, made, outcome, scratchAfter}
 use Rattle.calls.specs.ChangeList.{changeBytes}
@@ -76,17 +76,17 @@ module _ (s : List ℕ) (n room : ℕ) where
   later = releaseTests (readVolume s) (readCall s .releases)
 
   abbrev first : Bool → Answer
-  first t = answer (test 1 t ∷ test 2 (callLaidOut 2 s) ∷ test 3 (listWithin (readCall s)) ∷ later) bytes room
+  first t = answer (test 1 t ∷ test 2 (callLaidOut 2 s) ∷ test 22 (noneTwice (readVolume s)) ∷ test 3 (listWithin (readCall s)) ∷ later) bytes room
 
   short-answer : n < 65536 → release s n room ≡ record { number = 1; written = [] }
   short-answer h =
       release-is s n room ∙ ap first (lt-leb 65536 n h)
-      ∙ answer-stops 1 (test 2 (callLaidOut 2 s) ∷ test 3 (listWithin (readCall s)) ∷ later) bytes room (λ z. omega arith)
+      ∙ answer-stops 1 (test 2 (callLaidOut 2 s) ∷ test 22 (noneTwice (readVolume s)) ∷ test 3 (listWithin (readCall s)) ∷ later) bytes room (λ z. omega arith)
 
-  past-1 : 65536 ≤ n → release s n room ≡ answer (test 2 (callLaidOut 2 s) ∷ test 3 (listWithin (readCall s)) ∷ later) bytes room
+  past-1 : 65536 ≤ n → release s n room ≡ answer (test 2 (callLaidOut 2 s) ∷ test 22 (noneTwice (readVolume s)) ∷ test 3 (listWithin (readCall s)) ∷ later) bytes room
   past-1 h =
       release-is s n room ∙ ap first (le-leb 65536 n h)
-      ∙ answer-next 0 (test 2 (callLaidOut 2 s) ∷ test 3 (listWithin (readCall s)) ∷ later) bytes room refl
+      ∙ answer-next 0 (test 2 (callLaidOut 2 s) ∷ test 22 (noneTwice (readVolume s)) ∷ test 3 (listWithin (readCall s)) ∷ later) bytes room refl
 
   refused-answer : 65536 ≤ n → (m : ℕ) → m ≡ callRefusal 2 s → 0 < callRefusal 2 s → release s n room ≡ record { number = m; written = [] }
   refused-answer h m e l = past-1 h ∙ read-refused 2 s later bytes room m e l
