@@ -116,7 +116,7 @@ tree-changes t of n h a s v =
 
 -- buckets as keys
 
-pub bucket-cmp : (a b : Bucket) → cmp (allocAt a) (allocAt b) ≡ compare (a .0) (b .0)
+bucket-cmp : (a b : Bucket) → cmp (allocAt a) (allocAt b) ≡ compare (a .0) (b .0)
 unfolding cmp
 bucket-cmp a b = go (compare (a .0) (b .0))
   where

@@ -7,7 +7,6 @@ use native.Mathlib.Omega.{arith}
 use lib.Dec.{leb, eqb}
 use lib.ListN.{length, getD, length-map}
 use borrow.Author.Tests.{eqb-true, ne-eqb, le-leb}
-use Rattle.wire.specs.Bytes.{All, none, more}
 use Rattle.wire.specs.Numbers.{each}
 use Rattle.wire.specs.Fields.{Field, fieldsAfter, fields, size, whole}
 use Rattle.wire.specs.Keys.{Key, keyOf}
@@ -64,6 +63,7 @@ module _ (vol list : List ℕ) (l : changeLaidOut list ≡ true) where
       let b = parts (allOf (shaped changeShapes) fs) _ (a .1) in
       entries-bodies t (all-imp (tree-entry t m k) (test-all (shaped changeShapes) fs (b .0))) ∙ tree-keys t m (bodies t fs)
 
+  -- a tree, and the reserved buckets
   next-tree :
       (t : ℕ) (of : Trees → List Key) → t ≤ 14 → eqb 76 t ≡ false → keeps t 37 293 changeShapes ≡ true
       → ((gs : List Field) → of (keysOf gs) ≡ map keyOf (bodies t gs))
@@ -79,6 +79,7 @@ module _ (vol list : List ℕ) (l : changeLaidOut list ≡ true) where
   unfolding nextOf
   next-buckets = bucket-changes list (readVolume vol) l ∙ ap (applyQueue (entries 64 (fields list))) (sym (buckets-read vol))
 
+-- all of them
 pub record NextSections (vol list : List ℕ) : Type 0 where
   pub alloc : nextVolume vol list .trees .alloc ≡ nextOf vol list 4
   pub lru : nextVolume vol list .trees .lru ≡ nextOf vol list 10

@@ -38,6 +38,7 @@ only-layout true true false e = absurd (omega arith)
 only-layout true true true e = absurd (omega arith)
 
 module _ (vol : List ℕ) {number : ℕ} (read : number ≡ volumeRefusal vol) where
+  -- a volume that is refused with 2
   broken : number ≡ 2 → volumeLaidOut vol ≡ false
   broken e =
       only-layout (volumeLaidOut vol) (noneTwice (readVolume vol)) (volumeWithin (readVolume vol)) (sym (read ∙ refusal-is vol) ∙ e)
@@ -82,6 +83,7 @@ module _ (vol list xs : List ℕ) where
   answer-by : (t : Bool) → (volumeLaidOut vol && changeLaidOut list) ≡ t → apply vol list room ≡ answer (test 2 t ∷ laterTests vol ++ next) bytes room
   answer-by t e = apply-is vol list room ∙ ap (λ (u : Bool). answer (test 2 u ∷ laterTests vol ++ next) bytes room) e
 
+  -- either layout is broken
   gives-2 : (volumeLaidOut vol && changeLaidOut list) ≡ false → made 2 0 xs ≡ outcome (apply vol list room) xs
   gives-2 e = refused 2 xs (answer-by false e ∙ answer-stops 2 (laterTests vol ++ next) bytes room (λ z. omega arith)) refl
 

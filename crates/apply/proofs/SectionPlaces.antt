@@ -71,6 +71,7 @@ pub record SectionAt (vol index : List ℕ) (t from to : ℕ) : Type 0 where
   pub stands : All (Stands t vol) (take (to - from) (drop from index))
   pub keys : entriesAt t vol (take (to - from) (drop from index)) ≡ sectionKeys vol t
 
+-- by the places of its bodies, in order
 section-between :
     {vol index : List ℕ} {t from to : ℕ} → SectionOf vol t → Tabled vol index from t (sortedBodies t (fields vol)) → to ≡ from + length (bodies t (fields vol))
     → to ≤ length index → SectionAt vol index t from to

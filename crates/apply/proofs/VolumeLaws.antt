@@ -1,6 +1,6 @@
 -- The sections of a volume that is laid out and has no position twice, and their keys.
 use mathlib.Core.Path.{_≡_, refl, ap, sym, _∙_}
-use mathlib.Core.Bool.{true, _&&_, cond, and-true}
+use mathlib.Core.Bool.{true, cond, and-true}
 use mathlib.Core.List.{List, [], _∷_, map, map-map}
 use Prim.Native.Nat.{ℕ, _≤_, _<_}
 use native.Mathlib.Omega.{arith}
@@ -71,11 +71,13 @@ pub record SectionOf (vol : List ℕ) (t : ℕ) : Type 0 where
   pub up : ascending (sectionKeys vol t) ≡ true
 
 module _ {vol : List ℕ} (sectioned : Sectioned vol) where
+  -- its bodies are as long as the layout asks
   section-of : (t : ℕ) → isSection t ≡ true → ascending (sectionKeys vol t) ≡ true → SectionOf vol t
   unfolding sortedBodies
   section-of t k u =
       record { sized = all-sorted (bodyBelow t) (all-imp (λ b e. e ∙ eq-eqb t t refl) (bodies-all t (sectioned t k))); up = u }
 
+  -- a tree, and the reserved buckets
   tree-section : (t : ℕ) → isSection t ≡ true → t ≤ 14 → keysAscend (sortedBy keyBelow (map keyOf (bodies t (fields vol)))) ≡ true → SectionOf vol t
   unfolding ascending
   tree-section t k l o = section-of t k (rw (tree-read vol t l) o)
