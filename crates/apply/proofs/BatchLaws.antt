@@ -17,8 +17,8 @@ use Rattle.wire.specs.Positions.{allocAt}
 use Rattle.wire.specs.declared.kinds.Bucket.{Bucket}
 use Rattle.wire.proofs.OrderLaws.{use-lt, use-eq, use-gt}
 use Rattle.calls.specs.Lists.{allOf, those}
-use Rattle.calls.specs.CallList.{Trees, Volume, bodies, treesOf, shaped, tagsAscend}
-use Rattle.calls.specs.ChangeList.{Batch, intoFirst, splitBatches, changeShapes, fieldOk, closed, changeLaidOut, batchOf, changesOf}
+use Rattle.calls.specs.CallList.{Trees, Volume, bodies, keysOf, shaped}
+use Rattle.calls.specs.ChangeList.{Batch, intoFirst, splitBatches, changeShapes, fieldOk, closed, tagsAscend, changeLaidOut, batchOf, changesOf}
 use Rattle.calls.specs.Buckets.{insertBucket, insertBuckets, removeBucket, removeBuckets}
 use Rattle.calls.specs.Trees.{onEq, insertAt, upsert, remove, step, applyQueue}
 use Rattle.calls.specs.Place.{rootMissing}
@@ -106,7 +106,7 @@ module _
 
 -- a tree
 pub tree-changes :
-    (t : ℕ) (of : Trees → List Key) → eqb 76 t ≡ false → ((gs : List Field) → of (treesOf gs) ≡ map keyOf (bodies t gs))
+    (t : ℕ) (of : Trees → List Key) → eqb 76 t ≡ false → ((gs : List Field) → of (keysOf gs) ≡ map keyOf (bodies t gs))
     → ((q v : Trees) → of (applyTrees q v) ≡ applyQueue (of q) (of v)) → (s : List ℕ) (v : Volume)
     → of (applyBatches (changesOf s) v .trees) ≡ applyQueue (map keyOf (bodies t (fields s))) (of (v .trees))
 unfolding applyBatch batchOf
@@ -116,7 +116,7 @@ tree-changes t of n h a s v =
 
 -- buckets as keys
 
-pub bucket-cmp : (a b : Bucket) → cmp (allocAt a) (allocAt b) ≡ compare (a .0) (b .0)
+bucket-cmp : (a b : Bucket) → cmp (allocAt a) (allocAt b) ≡ compare (a .0) (b .0)
 unfolding cmp
 bucket-cmp a b = go (compare (a .0) (b .0))
   where
@@ -125,33 +125,33 @@ bucket-cmp a b = go (compare (a .0) (b .0))
     go Ordering·eq = refl
     go Ordering·gt = refl
 
-abbrev keysOf : List Bucket → List Key
-keysOf bs = map (bucketKey 1) bs
+abbrev bucketKeys : List Bucket → List Key
+bucketKeys bs = map (bucketKey 1) bs
 
-insert-key : (b : Bucket) (l : List Bucket) → keysOf (insertBucket b l) ≡ step (bucketKey 1 b) (keysOf l)
+insert-key : (b : Bucket) (l : List Bucket) → bucketKeys (insertBucket b l) ≡ step (bucketKey 1 b) (bucketKeys l)
 unfolding insertBucket step upsert
 insert-key b [] = refl
 insert-key b (c ∷ cs) = rw (bucket-cmp b c) (go (compare (b .0) (c .0)) refl (unfold step in (insert-key b cs)))
   where
-    go : (o : Ordering) → compare (b .0) (c .0) ≡ o → keysOf (insertBucket b cs) ≡ upsert (bucketKey 1 b) (keysOf cs)
-        → keysOf (cond (bucketBelow b c) (b ∷ c ∷ cs) (cond (sameBucket b c) (c ∷ cs) (c ∷ insertBucket b cs)))
-        ≡ insertAt o (bucketKey 1 b) (bucketKey 1 c) (keysOf cs) (upsert (bucketKey 1 b) (keysOf cs))
+    go : (o : Ordering) → compare (b .0) (c .0) ≡ o → bucketKeys (insertBucket b cs) ≡ upsert (bucketKey 1 b) (bucketKeys cs)
+        → bucketKeys (cond (bucketBelow b c) (b ∷ c ∷ cs) (cond (sameBucket b c) (c ∷ cs) (c ∷ insertBucket b cs)))
+        ≡ insertAt o (bucketKey 1 b) (bucketKey 1 c) (bucketKeys cs) (upsert (bucketKey 1 b) (bucketKeys cs))
     go Ordering·lt e ih = rw (lt-ltb (b .0) (c .0) (use-lt (b .0) (c .0) e))
     go Ordering·eq e ih =
         let z : b .0 ≡ c .0 = use-eq (b .0) (c .0) e in
-        rw (le-ltb (b .0) (c .0) (omega arith), eq-eqb (b .0) (c .0) z) (λ i. bucketKey 1 (record { 0 = sym z i }) ∷ keysOf cs)
+        rw (le-ltb (b .0) (c .0) (omega arith), eq-eqb (b .0) (c .0) z) (λ i. bucketKey 1 (record { 0 = sym z i }) ∷ bucketKeys cs)
     go Ordering·gt e ih =
         let z : c .0 < b .0 = use-gt (b .0) (c .0) e in
         rw (le-ltb (b .0) (c .0) (omega arith), ne-eqb (b .0) (c .0) (λ w. omega arith)) (ap (λ (r : List Key). bucketKey 1 c ∷ r) ih)
 
-remove-key : (b : Bucket) (l : List Bucket) → keysOf (removeBucket b l) ≡ step (bucketKey 0 b) (keysOf l)
+remove-key : (b : Bucket) (l : List Bucket) → bucketKeys (removeBucket b l) ≡ step (bucketKey 0 b) (bucketKeys l)
 unfolding removeBucket those step remove
 remove-key b [] = refl
 remove-key b (c ∷ cs) = rw (bucket-cmp b c) (go (compare (b .0) (c .0)) refl (unfold removeBucket step in (remove-key b cs)))
   where
-    go : (o : Ordering) → compare (b .0) (c .0) ≡ o → keysOf (those (λ d. not (sameBucket d b)) cs) ≡ remove (allocAt b) (keysOf cs)
-        → keysOf (cond (not (sameBucket c b)) (c ∷ those (λ d. not (sameBucket d b)) cs) (those (λ d. not (sameBucket d b)) cs))
-        ≡ onEq o (remove (allocAt b) (keysOf cs)) (bucketKey 1 c ∷ remove (allocAt b) (keysOf cs))
+    go : (o : Ordering) → compare (b .0) (c .0) ≡ o → bucketKeys (those (λ d. not (sameBucket d b)) cs) ≡ remove (allocAt b) (bucketKeys cs)
+        → bucketKeys (cond (not (sameBucket c b)) (c ∷ those (λ d. not (sameBucket d b)) cs) (those (λ d. not (sameBucket d b)) cs))
+        ≡ onEq o (remove (allocAt b) (bucketKeys cs)) (bucketKey 1 c ∷ remove (allocAt b) (bucketKeys cs))
     go Ordering·lt e ih =
         let z = use-lt (b .0) (c .0) e in
         rw (ne-eqb (c .0) (b .0) (λ w. omega arith)) (ap (λ (r : List Key). bucketKey 1 c ∷ r) ih)
@@ -160,12 +160,12 @@ remove-key b (c ∷ cs) = rw (bucket-cmp b c) (go (compare (b .0) (c .0)) refl (
         let z = use-gt (b .0) (c .0) e in
         rw (ne-eqb (c .0) (b .0) (λ w. omega arith)) (ap (λ (r : List Key). bucketKey 1 c ∷ r) ih)
 
-insert-keys : (bs l : List Bucket) → keysOf (insertBuckets bs l) ≡ applyQueue (map (bucketKey 1) bs) (keysOf l)
+insert-keys : (bs l : List Bucket) → bucketKeys (insertBuckets bs l) ≡ applyQueue (map (bucketKey 1) bs) (bucketKeys l)
 unfolding insertBuckets applyQueue
 insert-keys [] l = refl
 insert-keys (b ∷ bs) l = insert-keys bs (insertBucket b l) ∙ ap (applyQueue (map (bucketKey 1) bs)) (insert-key b l)
 
-remove-keys : (bs l : List Bucket) → keysOf (removeBuckets bs l) ≡ applyQueue (map (bucketKey 0) bs) (keysOf l)
+remove-keys : (bs l : List Bucket) → bucketKeys (removeBuckets bs l) ≡ applyQueue (map (bucketKey 0) bs) (bucketKeys l)
 unfolding removeBuckets applyQueue
 remove-keys [] l = refl
 remove-keys (b ∷ bs) l = remove-keys bs (removeBucket b l) ∙ ap (applyQueue (map (bucketKey 0) bs)) (remove-key b l)

@@ -2,10 +2,11 @@
 use mathlib.Core.Path.{_≡_, refl, ap, sym, _∙_}
 use mathlib.Core.Bool.{Bool, true, false, not, _&&_, _||_, and-true}
 use mathlib.Core.List.{List, [], _∷_, _++_, map, append-assoc, append-nil}
-use Prim.Native.Nat.{ℕ, _+_, _-_, _<_}
+use Prim.Native.Nat.{ℕ, _≤_, _<_}
+use native.Mathlib.Omega.{arith}
 use lib.Dec.{leb, eqb}
 use lib.ListN.{length, getD, length-map}
-use Rattle.wire.specs.Bytes.{All, none, more}
+use borrow.Author.Tests.{eqb-true, ne-eqb, le-leb}
 use Rattle.wire.specs.Numbers.{each}
 use Rattle.wire.specs.Fields.{Field, fieldsAfter, fields, size, whole}
 use Rattle.wire.specs.Keys.{Key, keyOf}
@@ -15,7 +16,8 @@ use Rattle.wire.specs.Positions.{bucketIn}
 use Rattle.wire.specs.declared.kinds.Bucket.{Bucket}
 use Rattle.wire.proofs.EncodeLaws.{encode-next, encode-append}
 use Rattle.calls.specs.Lists.{allOf}
-use Rattle.calls.specs.CallList.{Head, headBody, Trees, Volume, bodies, treesOf, callListOf, shaped, treeFields, reservedField, volumeBytes}
+use Rattle.calls.specs.CallList.{Head, headBody, Trees, Volume, bodies, keysOf, keyBelow, sortedTrees, callListOf, shaped, treeFields, reservedField, volumeFields, volumeBytes}
+use Rattle.calls.specs.Sorting.{sortedBy}
 use Rattle.calls.specs.Limits.{isSet, atInode0, isRun, fewKeys, countsOk, bucketsOk, volumeWithin}
 use Rattle.calls.specs.ChangeList.{changeShapes, closed, changeLaidOut, splitBatches, changesOf}
 use Rattle.calls.specs.Trees.{applyQueue}
@@ -23,46 +25,61 @@ use Rattle.calls.specs.Apply.{applyTrees, withRoots, applyBatches}
 use Rattle.calls.specs.Answers.{readVolume, nextVolume}
 use Rattle.calls.proofs.lists.AllLaws.{all-nth, all-imp, all-each, all-test, test-all}
 use Rattle.calls.proofs.lists.BoolLaws.{both, parts}
-use Rattle.calls.proofs.encoding.Blocks.{field, keeps}
+use Rattle.calls.proofs.encoding.Blocks.{field, keeps, shaped-out}
 use Rattle.reader.proofs.BoolLaws.{same}
-use Rattle.sorting.specs.Entries.{sections, bucketKey, entries, fieldFor, sectionBytes}
+use Rattle.reader.proofs.DoubledLaws.{entries-bodies}
+use Rattle.sorting.specs.Entries.{sections, bucketKey, isEntry, entries, fieldFor, sectionBytes}
 use Rattle.merge.specs.Counts.{keyFits, sectionWithin}
 use Rattle.apply.specs.Roots.{rootsAfter, frontBytes}
 use Rattle.apply.proofs.BatchLaws.{tree-changes, bucket-changes, head-changes}
-use Rattle.apply.proofs.VolumeLaws.{entries-bodies, tree-entry, tree-keys, bucket-keys, SectionOf, Parted}
+use Rattle.apply.proofs.VolumeLaws.{sectionKeys, tree-keys, tree-read, buckets-read}
 
 -- the keys of section t in the next volume
 unfoldable pub nextOf : List ℕ → List ℕ → ℕ → List Key
-nextOf vol list t = applyQueue (entries t (fields list)) (entries t (fields vol))
+nextOf vol list t = applyQueue (entries t (fields list)) (sectionKeys vol t)
 
 -- its sections
 
+-- a field of a change list, with the tag of a tree
+tree-entry : (t : ℕ) → t ≤ 14 → keeps t 37 293 changeShapes ≡ true → (f : Field) → shaped changeShapes f ≡ true → isEntry t (f .tag) (length (f .body)) ≡ eqb (f .tag) t
+unfolding isEntry
+tree-entry t m k f s = rw (ne-eqb t 64 (λ e. omega arith)) (go (eqb (f .tag) t) refl)
+  where
+    go : (b : Bool) → eqb (f .tag) t ≡ b → (b && (leb 37 (length (f .body)) && leb (length (f .body)) 293)) ≡ b
+    go true e =
+        let z : shaped changeShapes (field t (f .body)) ≡ true =
+        ap (λ (n : ℕ). shaped changeShapes (field n (f .body))) (sym (eqb-true (f .tag) t e)) ∙ s in
+        let l = shaped-out t 37 293 changeShapes (f .body) k z in
+        both (le-leb 37 (length (f .body)) (l .0)) (le-leb (length (f .body)) 293 (l .1))
+    go false e = refl
+
 module _ (vol list : List ℕ) (l : changeLaidOut list ≡ true) where
-  queued : (t : ℕ) → eqb t 64 ≡ false → keeps t 37 293 changeShapes ≡ true → entries t (fields list) ≡ map keyOf (bodies t (fields list))
+  -- the queued keys of a tree
+  queued : (t : ℕ) → t ≤ 14 → keeps t 37 293 changeShapes ≡ true → entries t (fields list) ≡ map keyOf (bodies t (fields list))
   unfolding changeLaidOut
-  queued t n k =
+  queued t m k =
       let fs : List Field = fields list in
       let a = parts (whole list) _ l in
       let b = parts (allOf (shaped changeShapes) fs) _ (a .1) in
-      entries-bodies t (all-imp (tree-entry t changeShapes n k) (test-all (shaped changeShapes) fs (b .0))) ∙ tree-keys t n (bodies t fs)
+      entries-bodies t (all-imp (tree-entry t m k) (test-all (shaped changeShapes) fs (b .0))) ∙ tree-keys t m (bodies t fs)
 
+  -- a tree, and the reserved buckets
   next-tree :
-      (t : ℕ) (of : Trees → List Key) → eqb t 64 ≡ false → eqb 76 t ≡ false → keeps t 37 293 changeShapes ≡ true
-      → ((gs : List Field) → of (treesOf gs) ≡ map keyOf (bodies t gs))
+      (t : ℕ) (of : Trees → List Key) → t ≤ 14 → eqb 76 t ≡ false → keeps t 37 293 changeShapes ≡ true
+      → ((gs : List Field) → of (keysOf gs) ≡ map keyOf (bodies t gs))
       → ((q v : Trees) → of (applyTrees q v) ≡ applyQueue (of q) (of v))
-      → SectionOf vol t
+      → of (readVolume vol .trees) ≡ sortedBy keyBelow (map keyOf (bodies t (fields vol)))
       → of (nextVolume vol list .trees) ≡ nextOf vol list t
-  unfolding nextOf callListOf
-  next-tree t of n m k h a s =
-      tree-changes t of m h a list (readVolume vol)
-      ∙ (λ i. applyQueue (sym (queued t n k) i) ((h (fields vol) ∙ sym (s .is ∙ tree-keys t n (bodies t (fields vol)))) i))
+  unfolding nextOf
+  next-tree t of m n k h a s =
+      tree-changes t of n h a list (readVolume vol)
+      ∙ (λ i. applyQueue (sym (queued t m k) i) ((s ∙ sym (tree-read vol t m)) i))
 
-  next-buckets : SectionOf vol 64 → map (bucketKey 1) (nextVolume vol list .reserved) ≡ nextOf vol list 64
-  unfolding nextOf callListOf
-  next-buckets s =
-      bucket-changes list (readVolume vol) l
-      ∙ ap (applyQueue (entries 64 (fields list))) (sym (s .is ∙ bucket-keys (bodies 64 (fields vol))))
+  next-buckets : map (bucketKey 1) (nextVolume vol list .reserved) ≡ nextOf vol list 64
+  unfolding nextOf
+  next-buckets = bucket-changes list (readVolume vol) l ∙ ap (applyQueue (entries 64 (fields list))) (sym (buckets-read vol))
 
+-- all of them
 pub record NextSections (vol list : List ℕ) : Type 0 where
   pub alloc : nextVolume vol list .trees .alloc ≡ nextOf vol list 4
   pub lru : nextVolume vol list .trees .lru ≡ nextOf vol list 10
@@ -72,21 +89,18 @@ pub record NextSections (vol list : List ℕ) : Type 0 where
   pub gens : nextVolume vol list .trees .gens ≡ nextOf vol list 14
   pub reserved : map (bucketKey 1) (nextVolume vol list .reserved) ≡ nextOf vol list 64
 
-next-each : {vol list : List ℕ} → All (SectionOf vol) sections → changeLaidOut list ≡ true → NextSections vol list
-unfolding treesOf applyTrees changeShapes
-next-each {vol} {list} (more a (more b (more c (more d (more e (more f (more g none))))))) l =
+next-is : (vol list : List ℕ) → changeLaidOut list ≡ true → NextSections vol list
+unfolding callListOf sortedTrees keysOf applyTrees changeShapes
+next-is vol list l =
     record {
-      alloc = next-tree vol list l 4 (λ t. t .alloc) refl refl refl (λ gs. refl) (λ q v. refl) a;
-      lru = next-tree vol list l 10 (λ t. t .lru) refl refl refl (λ gs. refl) (λ q v. refl) b;
-      freespace = next-tree vol list l 11 (λ t. t .freespace) refl refl refl (λ gs. refl) (λ q v. refl) c;
-      needDiscard = next-tree vol list l 12 (λ t. t .needDiscard) refl refl refl (λ gs. refl) (λ q v. refl) d;
-      backpointers = next-tree vol list l 13 (λ t. t .backpointers) refl refl refl (λ gs. refl) (λ q v. refl) e;
-      gens = next-tree vol list l 14 (λ t. t .gens) refl refl refl (λ gs. refl) (λ q v. refl) f;
-      reserved = next-buckets vol list l g;
+      alloc = next-tree vol list l 4 (λ t. t .alloc) (omega arith) refl refl (λ gs. refl) (λ q v. refl) refl;
+      lru = next-tree vol list l 10 (λ t. t .lru) (omega arith) refl refl (λ gs. refl) (λ q v. refl) refl;
+      freespace = next-tree vol list l 11 (λ t. t .freespace) (omega arith) refl refl (λ gs. refl) (λ q v. refl) refl;
+      needDiscard = next-tree vol list l 12 (λ t. t .needDiscard) (omega arith) refl refl (λ gs. refl) (λ q v. refl) refl;
+      backpointers = next-tree vol list l 13 (λ t. t .backpointers) (omega arith) refl refl (λ gs. refl) (λ q v. refl) refl;
+      gens = next-tree vol list l 14 (λ t. t .gens) (omega arith) refl refl (λ gs. refl) (λ q v. refl) refl;
+      reserved = next-buckets vol list l;
     }
-
-pub next-is : {vol list : List ℕ} → Parted vol → changeLaidOut list ≡ true → NextSections vol list
-next-is p l = next-each (p .each) l
 
 -- the bytes of a volume, section by section
 
@@ -114,7 +128,7 @@ volume-parts :
     ++ (sectionBytes 12 (v .trees .needDiscard)
     ++ (sectionBytes 13 (v .trees .backpointers)
     ++ (sectionBytes 14 (v .trees .gens) ++ sectionBytes 64 (map (bucketKey 1) (v .reserved))))))))
-unfolding volumeBytes treeFields
+unfolding volumeBytes volumeFields treeFields
 volume-parts v =
     simp (
       encode-next,
@@ -134,7 +148,7 @@ volume-parts v =
 unfoldable pub nextBytes : List ℕ → List ℕ → ℕ → List ℕ
 nextBytes vol list t = sectionBytes t (nextOf vol list t)
 
-module _ {vol : List ℕ} (list : List ℕ) (p : Parted vol) (l : changeLaidOut list ≡ true) where
+module _ (vol list : List ℕ) (l : changeLaidOut list ≡ true) where
   next-front : encodeField (field 1 (headBody (nextVolume vol list .head))) ≡ frontBytes (readVolume vol .head) (rootsAfter list (readVolume vol .head .roots))
   unfolding frontBytes
   next-front = ap (λ (h : Head). encodeField (field 1 (headBody h))) (head-changes list (readVolume vol))
@@ -142,7 +156,7 @@ module _ {vol : List ℕ} (list : List ℕ) (p : Parted vol) (l : changeLaidOut 
   pub next-bytes : volumeBytes (nextVolume vol list) ≡ frontBytes (readVolume vol .head) (rootsAfter list (readVolume vol .head .roots)) ++ each (nextBytes vol list) sections
   unfolding each nextBytes
   next-bytes =
-      let n = next-is p l in
+      let n = next-is vol list l in
       let last : sectionBytes 64 (map (bucketKey 1) (nextVolume vol list .reserved)) ≡ sectionBytes 64 (nextOf vol list 64) ++ [] =
       ap (sectionBytes 64) (n .reserved) ∙ sym (append-nil (sectionBytes 64 (nextOf vol list 64))) in
       volume-parts (nextVolume vol list)
@@ -268,11 +282,11 @@ head-within v h =
     parts (leb (v .head .reserve) 65536) (baseInRange (v .head .base)) (d .1)
 
 pub next-within :
-    {vol : List ℕ} (list : List ℕ) → Parted vol → changeLaidOut list ≡ true → volumeWithin (readVolume vol) ≡ true
+    (vol list : List ℕ) → changeLaidOut list ≡ true → volumeWithin (readVolume vol) ≡ true
     → volumeWithin (nextVolume vol list) ≡ allOf (nextWithin vol list) sections
 unfolding allOf nextWithin withRoots
-next-within {vol} list p l h =
-    let n = next-is p l in
+next-within vol list l h =
+    let n = next-is vol list l in
     let v : Volume = nextVolume vol list in
     let e = head-changes list (readVolume vol) in
     let w = head-within (readVolume vol) h in
@@ -295,16 +309,16 @@ none-changed : (vol : List ℕ) → nextVolume vol [] ≡ readVolume vol
 unfolding changesOf splitBatches fieldsAfter applyBatches
 none-changed vol = refl
 
-none-next : (vol : List ℕ) (t : ℕ) → nextOf vol [] t ≡ entries t (fields vol)
+none-next : (vol : List ℕ) (t : ℕ) → nextOf vol [] t ≡ sectionKeys vol t
 unfolding nextOf entries fieldsAfter applyQueue
 none-next vol t = refl
 
 -- so each of its sections is within its limits
 pub section-within :
-    {vol : List ℕ} → Parted vol → volumeWithin (readVolume vol) ≡ true → (i : ℕ) → i < 7
-    → sectionWithin (getD sections i 0) (entries (getD sections i 0) (fields vol)) ≡ true
+    (vol : List ℕ) → volumeWithin (readVolume vol) ≡ true → (i : ℕ) → i < 7
+    → sectionWithin (getD sections i 0) (sectionKeys vol (getD sections i 0)) ≡ true
 unfolding nextWithin
-section-within {vol} p h i l =
-    let e : allOf (nextWithin vol []) sections ≡ true = sym (next-within [] p none-laid h) ∙ ap volumeWithin (none-changed vol) ∙ h in
+section-within vol h i l =
+    let e : allOf (nextWithin vol []) sections ≡ true = sym (next-within vol [] none-laid h) ∙ ap volumeWithin (none-changed vol) ∙ h in
     let w : nextWithin vol [] (getD sections i 0) ≡ true = all-nth 0 (test-all (nextWithin vol []) sections e) i l in
     ap (sectionWithin (getD sections i 0)) (sym (none-next vol (getD sections i 0))) ∙ w

@@ -8,6 +8,7 @@ use native.Mathlib.Omega.{arith}
 use lib.Dec.{leb}
 use lib.ListN.{length, drop, getD}
 use borrow.Author.Tests.{le-leb, lt-leb}
+use Rattle.reader.specs.Collected.{startAt}
 use Rattle.reader.specs.Heads.{headIn}
 use Rattle.reader.specs.declared.head.Head.{Head}
 use Rattle.reader.specs.declared.table.Ends.{Ends}
@@ -36,8 +37,8 @@ use Rattle.merge.proofs.CountLaws.{within-on}
 use Rattle.apply.specs.Roots.{rootsAfter, frontBytes}
 use Rattle.apply.specs.NextVolume.{endsOf, queueEnd, Ready, nextKeys, SectionDone, VolumeDone}
 use Rattle.apply.specs.declared.lists.Reached.{Reached}
-use Rattle.apply.proofs.VolumeLaws.{Parted, parted}
-use Rattle.apply.proofs.SectionPlaces.{startOf, firstOf}
+use Rattle.apply.proofs.VolumeLaws.{sectionKeys, roots-low}
+use Rattle.apply.proofs.SectionPlaces.{firstOf}
 use Rattle.apply.proofs.NextLaws.{nextOf, nextBytes, nextWithin, next-bytes, next-within}
 
 -- one section
@@ -51,7 +52,7 @@ section-done {t} {a = a} {s = s} e d =
 pub record Sectioning (out₀ : List ℕ) (q : ℕ) (vol list : List ℕ) (e : Ends) (p : Parts) (out : List ℕ) (at : Reached) (from first i : ℕ) : Type 0 where
   pub part : Part out₀ q (each (nextBytes vol list) sections) out (at .p) (each (nextBytes vol list) (drop i sections))
   pub fits : (leb (at .count) 4096 && allOf (nextWithin vol list) (drop i sections)) ≡ allOf (nextWithin vol list) sections
-  pub starts : from ≡ startOf e i
+  pub starts : from ≡ startAt e i
   pub queue : first ≡ firstOf p i
   pub most : i ≤ 7
 
@@ -78,7 +79,7 @@ module _
   split = drop-next 0 sections i l
 
   pub sections-on :
-      {keys out1 : List ℕ} {s : Reached} {to last : ℕ} → entriesAt t vol keys ≡ entries t (fields vol) → to ≡ getD (endsOf e) i 0
+      {keys out1 : List ℕ} {s : Reached} {to last : ℕ} → entriesAt t vol keys ≡ sectionKeys vol t → to ≡ getD (endsOf e) i 0
       → last ≡ queueEnd p i → SectionDone t out vol keys list at out1 s → Sectioning out₀ q vol list e p out1 s to last (i + 1)
   unfolding nextBytes nextWithin nextKeys nextOf allOf queueEnd
   sections-on {keys} z u v d =
@@ -91,32 +92,32 @@ module _
             ∙ and-assoc (leb (at .count) 4096) (nextWithin vol list t) (allOf (nextWithin vol list) ts)
             ∙ ap (λ (us : List ℕ). leb (at .count) 4096 && allOf (nextWithin vol list) us) (sym split)
             ∙ c .fits;
-        starts = u ∙ ap (λ (j : ℕ). startOf e j) (sym (add-one i));
+        starts = u ∙ ap (λ (j : ℕ). startAt e j) (sym (add-one i));
         queue = v ∙ ap (λ (j : ℕ). firstOf p j) (sym (add-one i));
         most = omega arith;
       }
 
 pub sections-end :
-    {out₀ out₁ : List ℕ} {q : ℕ} {vol index list out : List ℕ} {h : Head} {e : Ends} {d : Parts} {at : Reached} {roots from first i : ℕ} → Parted vol → Ready vol index h e list
+    {out₀ out₁ : List ℕ} {q : ℕ} {vol index list out : List ℕ} {h : Head} {e : Ends} {d : Parts} {at : Reached} {roots from first i : ℕ} → Ready vol index h e list
     → roots ≡ rootsAfter list (h .roots) → Wrote out₀ 0 42 (frontBytes (headIn h) roots) out₁ q → Sectioning out₁ q vol list e d out at from first i → 7 ≤ i → VolumeDone out₀ vol list out at
 unfolding allOf
-sections-end {vol = vol} {list = list} {at = at} {roots = roots} {i = i} p r b f c h =
+sections-end {vol = vol} {list = list} {at = at} {roots = roots} {i = i} r b f c h =
     let n : i ≡ 7 = omega (arith, c .most) in
     let z : drop i sections ≡ [] = ap (λ (n : ℕ). drop n sections) n in
     let g : roots ≡ rootsAfter list (readVolume vol .head .roots) = b ∙ ap (λ x. rootsAfter list (x .roots)) (r .read .head) in
     let w = then (rw (g, r .read .head) at f) (end _ refl (c .part) (each-none (nextBytes vol list) z)) in
     record {
-      wrote = rw (next-bytes list p (r .change)) (resize (sym (w .size)) w);
+      wrote = rw (next-bytes vol list (r .change)) (resize (sym (w .size)) w);
       fits =
           sym (and-true (leb (at .count) 4096))
           ∙ ap (λ (us : List ℕ). leb (at .count) 4096 && allOf (nextWithin vol list) us) (sym z)
           ∙ c .fits
-          ∙ sym (next-within list p (r .change) (r .within));
+          ∙ sym (next-within vol list (r .change) (r .within));
     }
 
 -- what `roots_after` asks
 pub roots-ready : {vol index list : List ℕ} {h : Head} {e : Ends} → Ready vol index h e list → (h .roots < 8) × (changeLaidOut list ≡ true)
-roots-ready r = (rw (ap (λ x. x .roots) (r .read .head)) (parted (r .laid) .roots), r .change)
+roots-ready {vol} r = (rw (ap (λ x. x .roots) (r .read .head)) (roots-low vol (r .laid)), r .change)
 
 -- the answers
 
@@ -132,6 +133,7 @@ module _ {vol index : List ℕ} {h : Head} {e : Ends} {list : List ℕ} (ready :
   left b e =
       apply-is vol list (length xs)
       ∙ answer-next _ _ bytes (length xs) (rw (ready .laid, ready .change))
+      ∙ answer-next _ _ bytes (length xs) (rw (ready .once))
       ∙ answer-next _ _ bytes (length xs) (rw (ready .within))
       ∙ ap tests e
 

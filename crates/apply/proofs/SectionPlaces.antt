@@ -15,18 +15,20 @@ use Rattle.calls.specs.Lists.{allOf}
 use Rattle.calls.proofs.lists.AllLaws.{first, all-nth}
 use Rattle.calls.proofs.lists.BoolLaws.{parts}
 use Rattle.calls.proofs.encoding.Blocks.{field}
-use Rattle.reader.specs.Table.{FieldHere, Tabled}
+use Rattle.reader.specs.Collected.{startAt}
+use Rattle.reader.specs.Table.{FieldHere, Tabled, sortedBodies}
 use Rattle.reader.specs.Readings.{ListRead}
 use Rattle.reader.specs.declared.head.Head.{Head}
 use Rattle.reader.specs.declared.table.Ends.{Ends}
 use Rattle.reader.proofs.OfferedLaws.{here-length}
-use Rattle.sorting.specs.Entries.{sections, isEntry, entryOf, entries}
+use Rattle.reader.proofs.SortedBodyLaws.{sorted-length}
+use Rattle.sorting.specs.Entries.{sections, isEntry, entryOf}
 use Rattle.sorting.specs.EntryPlaces.{sizeAt, tagAt, entryFrom, entriesAt, Stands}
 use Rattle.merge.specs.Counts.{keyFits, StandsWithin, sectionWithin}
 use Rattle.merge.specs.QueueTable.{InParts}
 use Rattle.merge.specs.declared.queue.Parts.{Parts}
 use Rattle.apply.specs.NextVolume.{endsOf, queueEnd, SectionReady, QueueReady}
-use Rattle.apply.proofs.VolumeLaws.{SectionOf, Parted}
+use Rattle.apply.proofs.VolumeLaws.{sectionKeys, SectionOf}
 
 -- a field of section t at its place
 module _ {t at : ℕ} {s body : List ℕ} (f : FieldHere s at t body) where
@@ -67,16 +69,18 @@ pub record SectionAt (vol index : List ℕ) (t from to : ℕ) : Type 0 where
   pub on : from ≤ to
   pub within : to ≤ length index
   pub stands : All (Stands t vol) (take (to - from) (drop from index))
-  pub keys : entriesAt t vol (take (to - from) (drop from index)) ≡ entries t (fields vol)
+  pub keys : entriesAt t vol (take (to - from) (drop from index)) ≡ sectionKeys vol t
 
+-- by the places of its bodies, in order
 section-between :
-    {vol index : List ℕ} {t from to : ℕ} → SectionOf vol t → Tabled vol index from t (bodies t (fields vol)) → to ≡ from + length (bodies t (fields vol))
+    {vol index : List ℕ} {t from to : ℕ} → SectionOf vol t → Tabled vol index from t (sortedBodies t (fields vol)) → to ≡ from + length (bodies t (fields vol))
     → to ≤ length index → SectionAt vol index t from to
+unfolding sectionKeys
 section-between {vol} {index} {t} {from} {to} s f e w =
-    let bs = bodies t (fields vol) in
-    let n : to - from ≡ length bs = omega arith in
-    let r = tabled-part t vol index from bs (omega arith) (s .sized) f in
-    record { on = omega arith; within = w; stands = rw n (r .0); keys = rw n (r .1 ∙ sym (s .is)) }
+    let bs = sortedBodies t (fields vol) in
+    let n : to - from ≡ length bs = omega (arith, sorted-length t (fields vol)) in
+    let r = tabled-part t vol index from bs (omega (arith, sorted-length t (fields vol))) (s .sized) f in
+    record { on = omega arith; within = w; stands = rw n (r .0); keys = rw n (r .1) }
 
 -- each end lies within the table
 bound : {vol index : List ℕ} {h : Head} {e : Ends} → ListRead 0 vol index h e → (i : ℕ) → i < 7 → getD (endsOf e) i 0 ≤ length index
@@ -89,20 +93,17 @@ bound r (suc (suc (suc (suc (suc zero))))) l = let x = r .ends in omega (arith, 
 bound r (suc (suc (suc (suc (suc (suc zero)))))) l = let x = r .ends in omega (arith, x .requests, x .within)
 bound r (suc (suc (suc (suc (suc (suc (suc i))))))) l = absurd (omega arith)
 
--- where section number i starts in the table
-abbrev pub startOf : Ends → ℕ → ℕ
-startOf e i = getD (0 ∷ endsOf e) i 0
-
+-- section number i in the table
 pub section-at :
-    {vol index : List ℕ} {h : Head} {e : Ends} → Parted vol → ListRead 0 vol index h e → (i : ℕ) → i < 7
-    → SectionAt vol index (getD sections i 0) (startOf e i) (getD (endsOf e) i 0)
-section-at p r zero l = section-between (all-nth 0 (p .each) 0 (omega arith)) (r .table .alloc) (omega (arith, r .ends .alloc)) (bound r 0 (omega arith))
-section-at p r (suc zero) l = section-between (all-nth 0 (p .each) 1 (omega arith)) (r .table .lru) (omega (arith, r .ends .lru)) (bound r 1 (omega arith))
-section-at p r (suc (suc zero)) l = section-between (all-nth 0 (p .each) 2 (omega arith)) (r .table .freespace) (omega (arith, r .ends .freespace)) (bound r 2 (omega arith))
-section-at p r (suc (suc (suc zero))) l = section-between (all-nth 0 (p .each) 3 (omega arith)) (r .table .needDiscard) (omega (arith, r .ends .needDiscard)) (bound r 3 (omega arith))
-section-at p r (suc (suc (suc (suc zero)))) l = section-between (all-nth 0 (p .each) 4 (omega arith)) (r .table .backpointers) (omega (arith, r .ends .backpointers)) (bound r 4 (omega arith))
-section-at p r (suc (suc (suc (suc (suc zero))))) l = section-between (all-nth 0 (p .each) 5 (omega arith)) (r .table .gens) (omega (arith, r .ends .gens)) (bound r 5 (omega arith))
-section-at p r (suc (suc (suc (suc (suc (suc zero)))))) l = section-between (all-nth 0 (p .each) 6 (omega arith)) (r .table .reserved) (omega (arith, r .ends .reserved)) (bound r 6 (omega arith))
+    {vol index : List ℕ} {h : Head} {e : Ends} → All (SectionOf vol) sections → ListRead 0 vol index h e → (i : ℕ) → i < 7
+    → SectionAt vol index (getD sections i 0) (startAt e i) (getD (endsOf e) i 0)
+section-at p r zero l = section-between (all-nth 0 p 0 (omega arith)) (r .table .alloc) (omega (arith, r .ends .alloc)) (bound r 0 (omega arith))
+section-at p r (suc zero) l = section-between (all-nth 0 p 1 (omega arith)) (r .table .lru) (omega (arith, r .ends .lru)) (bound r 1 (omega arith))
+section-at p r (suc (suc zero)) l = section-between (all-nth 0 p 2 (omega arith)) (r .table .freespace) (omega (arith, r .ends .freespace)) (bound r 2 (omega arith))
+section-at p r (suc (suc (suc zero))) l = section-between (all-nth 0 p 3 (omega arith)) (r .table .needDiscard) (omega (arith, r .ends .needDiscard)) (bound r 3 (omega arith))
+section-at p r (suc (suc (suc (suc zero)))) l = section-between (all-nth 0 p 4 (omega arith)) (r .table .backpointers) (omega (arith, r .ends .backpointers)) (bound r 4 (omega arith))
+section-at p r (suc (suc (suc (suc (suc zero))))) l = section-between (all-nth 0 p 5 (omega arith)) (r .table .gens) (omega (arith, r .ends .gens)) (bound r 5 (omega arith))
+section-at p r (suc (suc (suc (suc (suc (suc zero)))))) l = section-between (all-nth 0 p 6 (omega arith)) (r .table .reserved) (omega (arith, r .ends .reserved)) (bound r 6 (omega arith))
 section-at p r (suc (suc (suc (suc (suc (suc (suc i))))))) l = absurd (omega arith)
 
 -- each of a section's keys is within its limits, where the section is
@@ -116,12 +117,12 @@ each-within {t} {vol} (more {a = o} {s = os} p r) h =
 
 -- what the writing of a section asks
 pub section-ready :
-    {vol index : List ℕ} {t from to : ℕ} → SectionOf vol t → sectionWithin t (entries t (fields vol)) ≡ true → SectionAt vol index t from to
+    {vol index : List ℕ} {t from to : ℕ} → SectionOf vol t → sectionWithin t (sectionKeys vol t) ≡ true → SectionAt vol index t from to
     → SectionReady t vol (take (to - from) (drop from index))
 unfolding sectionWithin
 section-ready {vol} {t = t} s w p =
     record {
-      stands = each-within (p .stands) (rw (p .keys) (parts (leb (length (entries t (fields vol))) 4096) _ w .1));
+      stands = each-within (p .stands) (rw (p .keys) (parts (leb (length (sectionKeys vol t)) 4096) _ w .1));
       up = rw (p .keys) (s .up);
     }
 

@@ -9,7 +9,7 @@ use Rattle.wire.specs.Bytes.{All}
 use Rattle.wire.specs.Fields.{fields}
 use Rattle.wire.specs.Keys.{Key}
 use Rattle.wire.specs.Output.{Wrote}
-use Rattle.calls.specs.CallList.{volumeLaidOut, volumeBytes}
+use Rattle.calls.specs.CallList.{volumeLaidOut, noneTwice, volumeBytes}
 use Rattle.calls.specs.Limits.{volumeWithin}
 use Rattle.calls.specs.ChangeList.{changeLaidOut}
 use Rattle.calls.specs.Trees.{applyQueue}
@@ -32,9 +32,10 @@ endsOf e = e .alloc ∷ e .lru ∷ e .freespace ∷ e .«need_discard» ∷ e .b
 unfoldable pub queueEnd : Parts → ℕ → ℕ
 queueEnd q i = cond (q .fits) (getD (q .ends) i 0) 0
 
--- refusals 2 and 3 of the volume and 2 of the change list were tested, and the volume was read
+-- refusals 2, 22 and 3 of the volume and 2 of the change list were tested, and the volume was read
 pub record Ready (vol index : List ℕ) (h : Head) (e : Ends) (list : List ℕ) : Type 0 where
   pub laid : volumeLaidOut vol ≡ true
+  pub once : noneTwice (readVolume vol) ≡ true
   pub within : volumeWithin (readVolume vol) ≡ true
   pub change : changeLaidOut list ≡ true
   pub read : ListRead 0 vol index h e

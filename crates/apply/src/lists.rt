@@ -74,7 +74,7 @@ fn queue_end(q: Parts, i: usize) -> usize
     0
 }
 
-// A section, by the table of its queued keys where that holds them. The layout of the volume shows that the section's keys ascend.
+// A section, by the table of its queued keys where that holds them. The section's keys ascend in the order of their table, as refusal 22 shows.
 fn put_keys(
     out: &mut [u8],
     p: usize,

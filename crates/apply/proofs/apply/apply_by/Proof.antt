@@ -4,7 +4,7 @@ use borrow.Author.Tests.{not-true, not-false}
 use mathlib.Core.Path.{refl, sym, _∙_}
 use native.Mathlib.Omega.{arith}
 use denote.Ref.{now}
-use Rattle.apply.proofs.RefusalLaws.{volume-broken, change-broken, volume-over, ready}
+use Rattle.apply.proofs.RefusalLaws.{volume-broken, change-broken, volume-refused, ready}
 use Rattle.apply.proofs.apply.apply_by.Statement.{statement}
 use Rattle.apply.proofs.apply.apply_by.Tie as tie
 
@@ -76,7 +76,7 @@ returns-4 c =
     let s = start v in
     let a = rw (k .before .before .before .number .given .1) at (v .read-volume .ensures) in
     rw (s .pre .1)
-    (volume-over (now (s .args .volume)) (now (s .args .change)) (now (s .args .out)) (a .0) (k .before .if1 .left)
+    (volume-refused (now (s .args .volume)) (now (s .args .change)) (now (s .args .out)) (a .0)
     (sym (k .check-change .ensures) ∙ not-false (k .check-change .result) (c .if2 .left))
     (λ e. omega (arith, a .0, a .1)))
 

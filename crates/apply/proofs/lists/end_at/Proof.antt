@@ -1,8 +1,8 @@
 -- `end_at` meets its contract.
+use native.Mathlib.Omega.{arith}
 use borrow.Author.Needs.{needs}
-use Prim.Native.Nat.{zero-le}
+use Rattle.reader.proofs.ArrangedLaws.{last-at}
 use Rattle.apply.specs.NextVolume.{endsOf}
-use Rattle.apply.proofs.VolumeLaws.{up, last-at}
 use Rattle.apply.proofs.lists.end_at.Statement.{statement}
 use Rattle.apply.proofs.lists.end_at.Tie as tie
 
@@ -25,11 +25,7 @@ returns-6 : tie.Need-returns-6
 returns-6 c = search needs
 
 returns-7 : tie.Need-returns-7
-returns-7 c =
-    let i = c .before .args .i in
-    let r = c .match .rest in
-    last-at (endsOf (c .before .args .e)) i (c .before .pre)
-    (up i 5 (up i 4 (up i 3 (up i 2 (up i 1 (up i 0 zero-le (r .0 .0 .0 .0 .0 .1)) (r .0 .0 .0 .0 .1)) (r .0 .0 .0 .1)) (r .0 .0 .1)) (r .0 .1)) (r .1))
+returns-7 c = last-at (endsOf (c .before .args .e)) (c .before .args .i) (c .before .pre) (omega arith)
 
 pub end-at-spec : {M : Type 1} → statement M
 end-at-spec =

@@ -46,7 +46,7 @@ keys :
 keys c =
     let l = c .before .before .before in
     let s = start (l .before) in
-    rw (l .loop .inv .starts, c .before .end-at .ensures) (section-at (parted (s .pre .0 .laid)) (s .pre .0 .read) (l .loop .i) (c .before .before .loop-test .taken))
+    rw (l .loop .inv .starts, c .before .end-at .ensures) (section-at (parted (s .pre .0 .laid) (s .pre .0 .once)) (s .pre .0 .read) (l .loop .i) (c .before .before .loop-test .taken))
 
 queue :
     (c : tie.After-queue-end Inv-loop μ-loop)
@@ -91,9 +91,9 @@ put-next-requires c κs =
     let q = c .before .before .before .before in
     let l = q .before .before .before in
     let s = start (l .before) in
-    let p = parted (s .pre .0 .laid) in
+    let p = parted (s .pre .0 .laid) (s .pre .0 .once) in
     rw (c .section-at .ensures)
-    (section-ready (all-nth 0 (p .each) (l .loop .i) (q .before .before .loop-test .taken)) (section-within p (s .pre .0 .within) (l .loop .i) (q .before .before .loop-test .taken)) (keys q), queue q .ready)
+    (section-ready (all-nth 0 p (l .loop .i) (q .before .before .loop-test .taken)) (section-within _ (s .pre .0 .within) (l .loop .i) (q .before .before .loop-test .taken)) (keys q), queue q .ready)
 
 add-i : tie.Need-add-i Inv-loop μ-loop
 add-i c = omega (arith, c .before .before .before .before .before .before .before .before .before .loop-test .taken)
@@ -115,7 +115,7 @@ same-length c = part-length (c .before .loop .inv .part) ∙ wrote-length (c .be
 returns : tie.Need-returns Inv-loop μ-loop
 returns c =
     let s = start (c .before .before) in
-    sections-end (parted (s .pre .0 .laid)) (s .pre .0) (s .pre .2) (c .before .before .before .before .put-front .ensures) (c .before .loop .inv) (c .loop-test .left)
+    sections-end (s .pre .0) (s .pre .2) (c .before .before .before .before .put-front .ensures) (c .before .loop .inv) (c .loop-test .left)
 
 pub put-volume-spec : {M : Type 1} → statement M
 put-volume-spec =
