@@ -13,7 +13,7 @@ use Rattle.reader.specs.Table.{Tabled, Indexed, Ended, sortedBodies, requestBod
 use Rattle.reader.specs.declared.table.Ends.{Ends}
 use Rattle.reader.proofs.SortedBodyLaws.{sorted-length}
 use Rattle.sort.proofs.TableBytes.{Standing, tabled-take, standing-none, standing-tag}
-use Rattle.sort.proofs.FormFields.{tableBlocks}
+use Rattle.sort.proofs.FormBlocks.{tableBlocks}
 
 module _ {call : ℕ} {s index : List ℕ} {e : Ends} (r : Bytes s) (n : Ended call s index e) (h : Indexed call s index e) where
   abbrev places : List ℕ

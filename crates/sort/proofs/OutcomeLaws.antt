@@ -1,15 +1,13 @@
 -- The answer to a sort: the tests of the reader, then 21, then the sorted form.
 use mathlib.Core.Path.{_≡_, refl, ap, sym, _∙_}
-use mathlib.Core.Bool.{Bool, true, _&&_, and-true}
+use mathlib.Core.Bool.{Bool, and-true}
 use mathlib.Core.List.{List, [], _∷_, _++_}
 use Prim.Native.Nat.{ℕ, _+_, _≤_, _<_}
 use native.Mathlib.Omega.{arith}
-use lib.Dec.{eqb}
 use lib.ListN.{length, take}
 use borrow.Author.Tests.{eq-eqb}
 use Rattle.wire.specs.Bytes.{All, Bytes}
 use Rattle.wire.specs.Encode.{encodeField}
-use Rattle.wire.specs.Fields.{fields}
 use Rattle.wire.specs.Output.{Wrote, Emitted}
 use Rattle.wire.proofs.DryRun.{wet}
 use Rattle.wire.proofs.OutputLaws.{then}
@@ -28,7 +26,7 @@ use Rattle.reader.specs.declared.head.Head.{Head}
 use Rattle.reader.specs.declared.table.Ends.{Ends}
 use Rattle.reader.proofs.PartsLaws.{passed, read-on, read-refused}
 use Rattle.sort.specs.Form.{Placed, fieldsAt}
-use Rattle.sort.proofs.FormFields.{form-is}
+use Rattle.sort.proofs.FormBlocks.{form-is}
 use Rattle.sort.proofs.FormTable.{table-stands}
 
 -- a list is laid out for the call that its head names

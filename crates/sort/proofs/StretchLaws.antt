@@ -5,7 +5,6 @@ use Prim.Native.Nat.{ℕ, _+_, _-_, _≤_, _<_}
 use native.Mathlib.Omega.{arith}
 use lib.ListN.{length, take, drop, getD, drop-of-length-le}
 use lib.Seq.{take-add, drop-drop}
-use Rattle.wire.specs.Numbers.{each}
 use Rattle.wire.specs.Output.{top, Wrote, Emitted}
 use Rattle.wire.proofs.OutputLaws.{Part, begin, turn, drop-next, each-next, each-none}
 use Rattle.wire.proofs.EmitLaws.{done}

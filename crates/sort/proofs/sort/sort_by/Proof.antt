@@ -3,8 +3,6 @@ use borrow.Author.Needs.{needs}
 use denote.Ref.{now}
 use lib.ListN.{length}
 use Rattle.calls.proofs.answers.OutcomeLaws.{refused}
-use Rattle.reader.specs.Heads.{callByte}
-use Rattle.reader.specs.Readings.{callRefusal, Answered}
 use Rattle.sort.proofs.OutcomeLaws.{sort-refused}
 use Rattle.sort.proofs.sort.sort_by.Statement.{statement}
 use Rattle.sort.proofs.sort.sort_by.Tie as tie

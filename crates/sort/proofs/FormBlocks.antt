@@ -1,13 +1,11 @@
 -- The sorted form of a list that is laid out right: its field 1, and then, tag by tag, the bodies that the reader's table has the places of.
 use mathlib.Core.Path.{_≡_, refl, ap, sym, _∙_}
-use mathlib.Core.Bool.{Bool, true, false, _&&_, cond, false≢true, and-true}
-use mathlib.Core.List.{List, [], _∷_, _++_, map, append-nil}
-use Prim.Native.Nat.{ℕ, _+_, _≤_, _<_}
+use mathlib.Core.Bool.{Bool, true, false, cond, false≢true}
+use mathlib.Core.List.{List, [], _∷_, _++_, map}
+use Prim.Native.Nat.{ℕ, _≤_}
 use native.Mathlib.Omega.{arith}
 use lib.Dec.{eqb}
-use lib.ListN.{length, take}
-use lib.Seq.{length-take-le}
-use borrow.Author.Tests.{eq-eqb}
+use lib.ListN.{length}
 use Rattle.wire.specs.Bytes.{All, Bytes}
 use Rattle.wire.specs.Fields.{Field, fields, whole}
 use Rattle.wire.specs.Keys.{keyOf}
@@ -17,7 +15,7 @@ use Rattle.wire.proofs.EncodeLaws.{encode-next}
 use Rattle.wire.proofs.RoundTrip.{body-again}
 use Rattle.calls.specs.Lists.{allOf}
 use Rattle.calls.specs.Sorting.{sortedBy}
-use Rattle.calls.specs.CallList.{Shape, exactly, headBody, pieceOf, freedOf, pieceBody, freedBody, bodies, keyBelow, keysOf, sortedTrees, reservedOf, callListOf, shaped, volumeShapes, requestShapes, laidOut, callLaidOut, listLaidOut}
+use Rattle.calls.specs.CallList.{Shape, exactly, headBody, pieceOf, freedOf, pieceBody, freedBody, bodies, keyBelow, keysOf, sortedTrees, reservedOf, callListOf, shaped, volumeShapes, requestShapes, laidOut}
 use Rattle.calls.specs.Answers.{readCall, readVolume, sortedForm}
 use Rattle.calls.proofs.lists.AllLaws.{all-imp, test-all, map-back}
 use Rattle.calls.proofs.lists.BoolLaws.{parts}
