@@ -54,7 +54,7 @@ step-at s at t b n e =
     (lt-or-ge (length s - at) 3)
 
 -- the bytes of a field, by the place of its body
-field-bytes : {s : List ℕ} {b : ℕ} → Bytes s → 3 ≤ b → b + sizeAt s b ≤ length s
+pub field-bytes : {s : List ℕ} {b : ℕ} → Bytes s → 3 ≤ b → b + sizeAt s b ≤ length s
     → take (3 + sizeAt s b) (drop (b - 3) s) ≡ encodeField (fieldAt s (tagAt s b) b (sizeAt s b))
 unfolding encodeField headBytes tagAt sizeAt
 field-bytes {s} {b} r h l =

@@ -1,11 +1,12 @@
-// The C boundary: the four calls, each with its one outcome over any input.
+// The C boundary: the five calls, each with its one outcome over any input.
 ghost use mathlib.Core.Path.{_≡_};
 ghost use lib.ListN.{length};
-ghost use Rattle.calls.specs.Answers.{made, outcome, scratchAfter, place, release, discard, apply};
+ghost use Rattle.calls.specs.Answers.{made, outcome, scratchAfter, place, release, discard, apply, sort};
 use apply::apply as apply_call;
 use discard::discard as discard_call;
 use place::place as place_call;
 use release::release as release_call;
+use sort::sort as sort_call;
 
 // Chooses buckets for the pieces asked and writes the change list that places them.
 #[no_mangle]
@@ -47,4 +48,12 @@ pub extern "C" fn zerglaz_apply(
     ensures { λ r. ⌜ made r (now (written .exit)) (now (out .exit)) ≡ outcome (apply (now (volume .entry)) (now (change .entry)) (length (now (out .entry)))) (now (out .entry)) ⌝ }
 {
     apply_call::apply(volume, change, out, written)
+}
+
+// Writes the sorted form of a call list.
+#[no_mangle]
+pub extern "C" fn zerglaz_sort(list: &[u8], out: &mut [u8], written: &mut usize) -> u32
+    ensures { λ r. ⌜ made r (now (written .exit)) (now (out .exit)) ≡ outcome (sort (now (list .entry)) (length (now (out .entry)))) (now (out .entry)) ⌝ }
+{
+    sort_call::sort(list, out, written)
 }

@@ -33,7 +33,7 @@ abbrev pub callBlocks : CallList → List Block
 callBlocks c = volumeBlocks (c .volume) ++ requestBlocks c
 
 -- its bytes are those of its blocks
-call-flat : (c : CallList) → callBytes c ≡ encode (flat (callBlocks c))
+pub call-flat : (c : CallList) → callBytes c ≡ encode (flat (callBlocks c))
 unfolding callBytes flat
 call-flat c =
     let v : Volume = c .volume in

@@ -33,6 +33,10 @@ sorted-again write read less h {bs} e =
     total-map h write (sortedBy less (map read bs)) ∙ total-sorted less (λ a. h (write a)) (map read bs) ∙ sym (total-map h write (map read bs))
     ∙ ap (total h) e
 
+-- a reserved bucket, read and written again
+pub bucket-again : {b : List ℕ} → Bytes b → length b ≡ 4 → bucketBytes (bucketRead b) ≡ b
+bucket-again {b} r e = leBytes-le 4 r (omega arith) ∙ take-all 4 b (omega arith)
+
 module _ {s : List ℕ} (l : ListLaid s) where
   -- the bodies of a fixed length, read and written again
   bodies-again : {A : Type 0} (write : A → List ℕ) (read : List ℕ → A) (t n : ℕ) → keeps t n n everyShape ≡ true
@@ -42,10 +46,6 @@ module _ {s : List ℕ} (l : ListLaid s) where
       (all-imp
       (λ b k.
       let m = shaped-out t n n everyShape b e (k .shape) in f b (k .bytes) (omega (arith, m .0, m .1))) (bodies-all t (l .sound)))
-
-  -- a reserved bucket, read and written again
-  bucket-again : {b : List ℕ} → Bytes b → length b ≡ 4 → bucketBytes (bucketRead b) ≡ b
-  bucket-again {b} r e = leBytes-le 4 r (omega arith) ∙ take-all 4 b (omega arith)
 
   module _ (g : Field → ℕ) where
     -- over bodies with a tag

@@ -1,0 +1,3 @@
+// Sort: the sorted form of a call list.
+pub mod form;
+pub mod sort;
