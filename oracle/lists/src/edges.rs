@@ -1,5 +1,6 @@
 //! Lists at the edges of the rules of docs/FORMAT.md: each way to break the layout, both sides of each
-//! limit, and both sides of each refusal, by name. Some are accepted and some refused.
+//! limit, and both sides of each refusal, by name. Some are accepted and some refused. Those of the order
+//! of fields and of refusal 22 are in `order_edges`.
 
 use crate::call_list::{
     CallList, Head, Place, Release, ALLOC, BUCKET_GENS, FREESPACE, LRU, NEED_DISCARD, PLACE,
@@ -7,6 +8,7 @@ use crate::call_list::{
 };
 use crate::fields::{put, split};
 use crate::key::Key;
+use crate::order_edges::order_edges;
 
 /// A list by name.
 pub type Edge = (String, Vec<u8>);
@@ -14,13 +16,20 @@ pub type Edge = (String, Vec<u8>);
 /// The edges of a call.
 pub fn edges(call: u8) -> Vec<Edge> {
     let base = base(call);
-    let mut edges = layout_edges(&base);
-    edges.extend(limit_edges(&base));
+    let mut edges = list_edges(&base);
     edges.extend(match call {
         PLACE => place_edges(&base),
         RELEASE => release_edges(&base),
         _ => discard_edges(&base),
     });
+    edges
+}
+
+/// The edges that every list has: of the layout, the limits and the order of its fields.
+pub fn list_edges(base: &CallList) -> Vec<Edge> {
+    let mut edges = layout_edges(base);
+    edges.extend(limit_edges(base));
+    edges.extend(order_edges(base));
     edges
 }
 
@@ -61,7 +70,7 @@ pub fn base(call: u8) -> CallList {
 }
 
 /// A run by its end and size.
-fn run(end: u64, size: u32) -> Key {
+pub(crate) fn run(end: u64, size: u32) -> Key {
     Key {
         size,
         ..Key::at(25, 0, end)
@@ -69,7 +78,7 @@ fn run(end: u64, size: u32) -> Key {
 }
 
 /// A piece to place.
-fn piece(file: u16, stored: u16, kind: u8) -> Place {
+pub(crate) fn piece(file: u16, stored: u16, kind: u8) -> Place {
     Place {
         file,
         stored,
@@ -93,14 +102,18 @@ fn alloc(bucket: u64, data_type: u8, dirty: u32) -> Key {
 }
 
 /// A list changed, by name.
-fn edge(base: &CallList, name: &str, change: impl Fn(&mut CallList)) -> Edge {
+pub(crate) fn edge(base: &CallList, name: &str, change: impl Fn(&mut CallList)) -> Edge {
     let mut l = base.clone();
     change(&mut l);
     (name.to_string(), l.bytes())
 }
 
 /// A list with its fields changed, by name.
-fn field_edge(base: &CallList, name: &str, change: impl Fn(&mut Vec<(u8, Vec<u8>)>)) -> Edge {
+pub(crate) fn field_edge(
+    base: &CallList,
+    name: &str,
+    change: impl Fn(&mut Vec<(u8, Vec<u8>)>),
+) -> Edge {
     let bytes = base.bytes();
     let mut fields: Vec<(u8, Vec<u8>)> = split(&bytes)
         .expect("a base list has fields")
@@ -250,7 +263,7 @@ fn limit_edges(base: &CallList) -> Vec<Edge> {
     }));
     edges.push(edge(base, "limit passed and layout broken", |l| {
         l.head.base = 1 << 40;
-        l.reserved.push(70);
+        l.head.roots = 8;
     }));
     edges
 }
@@ -655,9 +668,8 @@ fn discard_edges(base: &CallList) -> Vec<Edge> {
 /// The edges of apply: a volume and a change list by name.
 pub fn apply_edges() -> Vec<(String, Vec<u8>, Vec<u8>)> {
     let volume = base(2).volume();
-    let mut edges: Vec<(String, Vec<u8>, Vec<u8>)> = layout_edges(&volume)
+    let mut edges: Vec<(String, Vec<u8>, Vec<u8>)> = list_edges(&volume)
         .into_iter()
-        .chain(limit_edges(&volume))
         .map(|(name, volume)| (format!("volume {name}"), volume, vec![76, 0, 0]))
         .collect();
     let volume = volume.bytes();
