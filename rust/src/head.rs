@@ -1,6 +1,6 @@
 //! The head of a list: what it says of the volume and of the call.
 
-use crate::fields::{put, Body, BrokenLayout, Fields};
+use crate::fields::{put, require, Body, BrokenLayout, Fields};
 use crate::kinds::FileSector;
 
 /// The head's tag.
@@ -80,6 +80,22 @@ pub struct Head {
 }
 
 impl Head {
+    /// The head of a call list, wherever it stands.
+    ///
+    /// # Errors
+    /// Where the bytes are no whole fields, or have not exactly one head, or it breaks its layout.
+    pub fn of(list: &[u8]) -> Result<Head, BrokenLayout> {
+        let mut found = None;
+        for field in Fields::new(list) {
+            let (tag, body) = field?;
+            if tag == HEAD {
+                require(found.is_none())?;
+                found = Some(Head::read(body)?);
+            }
+        }
+        found.ok_or(BrokenLayout)
+    }
+
     /// The head at the front of a list.
     pub(crate) fn first(list: &[u8]) -> Result<Head, BrokenLayout> {
         match Fields::new(list).next().ok_or(BrokenLayout)?? {
