@@ -6,26 +6,28 @@ use crate::call_list::{
     CallList, Head, Place, Release, ALLOC, BUCKET_GENS, FREESPACE, LRU, NEED_DISCARD, PLACE,
     RELEASE,
 };
-use crate::fields::{put, split};
+use crate::fields::{joined, put, split};
 use crate::key::Key;
 use crate::order_edges::order_edges;
 
 /// A list by name.
 pub type Edge = (String, Vec<u8>);
 
-/// The edges of a call.
+/// The edges of a call; last those of the order of its fields.
 pub fn edges(call: u8) -> Vec<Edge> {
     let base = base(call);
-    let mut edges = list_edges(&base);
+    let mut edges = layout_edges(&base);
+    edges.extend(limit_edges(&base));
     edges.extend(match call {
         PLACE => place_edges(&base),
         RELEASE => release_edges(&base),
         _ => discard_edges(&base),
     });
+    edges.extend(order_edges(&base));
     edges
 }
 
-/// The edges that every list has: of the layout, the limits and the order of its fields.
+/// The edges that lists of every call have: of the layout, of the limits and of the order.
 pub fn list_edges(base: &CallList) -> Vec<Edge> {
     let mut edges = layout_edges(base);
     edges.extend(limit_edges(base));
@@ -665,13 +667,17 @@ fn discard_edges(base: &CallList) -> Vec<Edge> {
     edges
 }
 
-/// The edges of apply: a volume and a change list by name.
+/// The edges of apply: a volume and a change list by name; last those of the order of the volume's
+/// fields.
 pub fn apply_edges() -> Vec<(String, Vec<u8>, Vec<u8>)> {
     let volume = base(2).volume();
-    let mut edges: Vec<(String, Vec<u8>, Vec<u8>)> = list_edges(&volume)
-        .into_iter()
-        .map(|(name, volume)| (format!("volume {name}"), volume, vec![76, 0, 0]))
-        .collect();
+    let named = |(name, volume): Edge| -> (String, Vec<u8>, Vec<u8>) {
+        (format!("volume {name}"), volume, vec![76, 0, 0])
+    };
+    let layout = layout_edges(&volume).into_iter();
+    let limits = limit_edges(&volume).into_iter();
+    let mut edges: Vec<_> = layout.chain(limits).map(named).collect();
+    let order = order_edges(&volume).into_iter().map(named);
     let volume = volume.bytes();
     let own_request = base(2).bytes();
     edges.push(("volume with requests".to_string(), own_request, Vec::new()));
@@ -683,8 +689,41 @@ pub fn apply_edges() -> Vec<(String, Vec<u8>, Vec<u8>)> {
         edges.push((format!("change {name}"), volume.clone(), change));
     }
     edges.push(("change cut".to_string(), volume.clone(), vec![76, 0]));
-    edges.push(("change past its end".to_string(), volume, vec![76, 1, 0]));
+    let past = "change past its end".to_string();
+    edges.push((past, volume.clone(), vec![76, 1, 0]));
+    edges.extend(order);
+    edges.extend(change_order(&volume));
     edges
+}
+
+/// Change lists over a volume that stands in another order, or in which a bucket stands twice.
+fn change_order(volume: &[u8]) -> Vec<(String, Vec<u8>, Vec<u8>)> {
+    let mut fields = split(volume).expect("a base list has fields");
+    fields.reverse();
+    let reversed = joined(fields.iter().copied());
+    let bucket = fields.iter().find(|f| f.tag == 64).copied();
+    fields.push(bucket.expect("a base list has one"));
+    let twice = joined(fields);
+    let deleted = Key::at(0, 0, 50).body();
+    let mut change = Vec::new();
+    put(&mut change, 11, &deleted);
+    put(&mut change, 71, &[9, 0, 0, 0]);
+    put(&mut change, 75, &[7, 0, 0, 0]);
+    put(&mut change, 76, &[]);
+    let mut far = Vec::new();
+    put(&mut far, 71, &[0, 0, 1, 0]);
+    put(&mut far, 76, &[]);
+    let named = |name: &str, volume: &[u8], change: &[u8]| {
+        (name.to_string(), volume.to_vec(), change.to_vec())
+    };
+    vec![
+        named("volume reversed, a change", &reversed, &change),
+        named("volume reversed, change cut", &reversed, &change[..9]),
+        named("volume reversed, bucket 65,536 taken", &reversed, &far),
+        named("bucket twice, a change", &twice, &change),
+        named("bucket twice, change cut", &twice, &change[..9]),
+        named("bucket twice, bucket 65,536 taken", &twice, &far),
+    ]
 }
 
 /// The fields of a change list, by name.
