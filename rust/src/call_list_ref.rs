@@ -354,7 +354,10 @@ mod tests {
             let volume = CallListRef::read(read.volume()).expect("a volume");
             assert!(volume.pieces().next().is_none() && volume.head() == list.head);
             assert_eq!(read.volume().len(), list.volume().to_bytes().len());
-            assert_eq!(CallList::read(&turned).map(|l| l.volume()), Ok(list.volume()));
+            assert_eq!(
+                CallList::read(&turned).map(|l| l.volume()),
+                Ok(list.volume())
+            );
         }
     }
 

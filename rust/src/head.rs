@@ -139,3 +139,30 @@ impl Head {
         put(out, HEAD, &parts);
     }
 }
+
+#[cfg(test)]
+mod tests {
+    use super::{Call, Head};
+    use crate::fields::{put, BrokenLayout};
+
+    /// The one head of a list is found wherever it stands.
+    #[test]
+    fn anywhere() {
+        let head = Head {
+            call: Call::Discard,
+            bucket_sectors: 8,
+            ..Head::default()
+        };
+        let mut list = Vec::new();
+        put(&mut list, 64, &[&[7, 0, 0, 0]]);
+        assert_eq!(Head::of(&list), Err(BrokenLayout));
+        head.put(&mut list);
+        assert_eq!(Head::of(&list), Ok(head));
+        put(&mut list, 11, &[&[0; 37]]);
+        assert_eq!(Head::of(&list), Ok(head));
+        assert_eq!(Head::first(&list), Err(BrokenLayout));
+        assert_eq!(Head::of(&list[..list.len() - 1]), Err(BrokenLayout));
+        head.put(&mut list);
+        assert_eq!(Head::of(&list), Err(BrokenLayout));
+    }
+}

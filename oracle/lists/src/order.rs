@@ -8,14 +8,31 @@ use crate::rng::Rng;
 /// The list with its fields in another order, requests in their own among themselves. Bytes at its end
 /// that are no whole field stay there.
 pub fn shuffled(rng: &mut Rng, list: &[u8]) -> Vec<u8> {
-    let (fields, rest) = split_whole(list);
+    reordered(list, |fields| match rng.below(8) {
+        0 => fields.reverse(),
+        1 => join(rng, fields),
+        2 => swap_sections(rng, fields),
+        3 => mix_sections(rng, fields),
+        4 => move_one(rng, fields),
+        _ => mix(rng, fields),
+    })
+}
+
+/// The same, where each order is as likely as any other.
+pub fn mixed(rng: &mut Rng, list: &[u8]) -> Vec<u8> {
+    reordered(list, |fields| mix(rng, fields))
+}
+
+/// The list with its fields put in another order, but for requests among themselves.
+fn reordered(list: &[u8], reorder: impl FnOnce(&mut Vec<Field>)) -> Vec<u8> {
+    let (mut fields, rest) = split_whole(list);
     let requests: Vec<Field> = fields.iter().copied().filter(is_request).collect();
-    let mut requests = requests.into_iter();
-    let mixed = mixed(rng, fields).into_iter();
-    let mut out = joined(mixed.map(|field| match is_request(&field) {
-        true => requests.next().expect("as many requests as before"),
-        false => field,
-    }));
+    reorder(&mut fields);
+    let places = fields.iter_mut().filter(|field| is_request(field));
+    for (place, request) in places.zip(requests) {
+        *place = request;
+    }
+    let mut out = joined(fields);
     out.extend_from_slice(rest);
     out
 }
@@ -31,19 +48,6 @@ pub fn without_requests(list: &[u8]) -> Vec<u8> {
     let mut out = joined(fields.into_iter().filter(|field| !is_request(field)));
     out.extend_from_slice(rest);
     out
-}
-
-/// Fields in an order of one of several kinds.
-fn mixed<'a>(rng: &mut Rng, mut fields: Vec<Field<'a>>) -> Vec<Field<'a>> {
-    match rng.below(8) {
-        0 => fields.reverse(),
-        1 => join(rng, &mut fields),
-        2 => swap_sections(rng, &mut fields),
-        3 => mix_sections(rng, &mut fields),
-        4 => move_one(rng, &mut fields),
-        _ => mix(rng, &mut fields),
-    }
-    fields
 }
 
 /// Any order.
