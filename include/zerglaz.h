@@ -10,7 +10,7 @@
  * A history is a list of place, release and discard calls; each reads the volume last reached, of
  * which nothing but field 1 and requests has changed. A piece is live from its applied placement to
  * the applied release that names it by first sector and length. docs/FORMAT.md, "Clean volumes and
- * histories", has both in full.
+ * histories", has both in full. In which order the fields of a list stand is no part of it.
  *
  * (1) The history starts from a clean volume.
  * (2) A release names pieces that are live, none twice.
@@ -144,7 +144,7 @@ enum zerglaz_refusal {
     ZERGLAZ_NO_BATCH = 20,
     /* all: the output is too short for the answer */
     ZERGLAZ_OUTPUT_TOO_SHORT = 21,
-    /* all: two keys of a tree stand at one position, or a reserved bucket stands twice; tested after 2 and before 3 */
+    /* all: two keys of a tree stand at one position, or a reserved bucket stands twice (tested directly after 2) */
     ZERGLAZ_STANDS_TWICE = 22
 };
 

@@ -71,7 +71,8 @@
 //!
 //! No call tests whether they are kept, and nothing is claimed of a history that breaks one. A
 //! second release of a piece, for one, is accepted where other pieces hold enough sectors in its
-//! bucket; the bucket can then be emptied and given to other data while a piece lies in it.
+//! bucket; the bucket can then be emptied and given to other data while a piece lies in it. In which
+//! order the fields of a list stand is no part of a history.
 //!
 //! A [`Volume`] keeps these duties for its caller, but for what cannot be known from bytes: its
 //! documentation says which part stays. It is plain Rust over the calls, tested and not proved.
