@@ -201,3 +201,27 @@ fn past_the_limits() {
         }
     }
 }
+
+/// One key that stands twice is found at every rank at which a reader may end one stretch of keys and begin
+/// the next, within the limits and past them.
+#[test]
+fn twice_at_any_rank() {
+    let due = Due::refused(22);
+    let mut tried = 0;
+    for keys in [70, 4_095, 4_096, 5_000] {
+        let step = if keys < 100 { 1 } else { 128 };
+        for border in (0..keys).step_by(step) {
+            for rank in [border.saturating_sub(1), border, border + 1] {
+                let list = past_limits::twice_at(1, keys, rank.min(keys - 1));
+                let held = match tried % 3 {
+                    0 => ARCHIVE.hold(DISCARD, &list, 0, 9, due),
+                    1 => ARCHIVE.hold(SORT, &list, 0, list.len(), due),
+                    _ => ARCHIVE.hold_apply(&list, &[], list.len(), due),
+                };
+                held.unwrap_or_else(|why| panic!("{keys} keys, rank {rank}: {why}"));
+                tried += 1;
+            }
+        }
+    }
+    assert!(tried > 400);
+}

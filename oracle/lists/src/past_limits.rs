@@ -3,14 +3,14 @@
 //! the highest keys, or at a number of keys that a reader may take at once.
 
 use crate::call_list::{
-    CallList, Place, Release, ALLOC, BACKPOINTERS, BUCKET_GENS, LRU, NEED_DISCARD, PLACE, RELEASE,
-    RESERVED, TREES,
+    CallList, Place, Release, ALLOC, BACKPOINTERS, BUCKET_GENS, DISCARD, LRU, NEED_DISCARD, PLACE,
+    RELEASE, RESERVED, TREES,
 };
 use crate::edges::base;
 use crate::fields::{joined, put, split, Field};
 use crate::key::Key;
 use crate::model::{KEYS, REQUESTS};
-use crate::order::{shuffled, without_requests};
+use crate::order::{mixed, shuffled, without_requests};
 use crate::rng::Rng;
 
 /// How many lists a call has.
@@ -45,7 +45,16 @@ pub fn list(seed: u64, call: u8, index: u64) -> (Vec<u8>, &'static str) {
     (with_twice(&mut rng, bytes, twice, ends), what)
 }
 
-/// The same without its requests: a volume past the limits.
+/// A discard's list of so many LRU keys in any order, of which the one of this rank stands twice.
+pub fn twice_at(seed: u64, keys: u64, rank: u64) -> Vec<u8> {
+    let mut rng = Rng::new(seed ^ keys << 32 ^ rank);
+    let mut l = base(DISCARD);
+    l.trees.insert(LRU, (0..keys).map(ranked).collect());
+    let list = mixed(&mut rng, &l.bytes());
+    with_twice(&mut rng, list, Some((LRU, rank)), false)
+}
+
+/// A list past the limits without its requests: a volume.
 pub fn volume(seed: u64, call: u8, index: u64) -> (Vec<u8>, &'static str) {
     let (list, what) = self::list(seed, call, index);
     (without_requests(&list), what)

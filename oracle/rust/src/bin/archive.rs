@@ -49,8 +49,9 @@ const ON_LISTS: [u8; 4] = [PLACE, RELEASE, DISCARD, SORT];
 const LEAST: u64 = 200;
 /// How many seeds are tried for a list that meets two numbers.
 const TRIES: u64 = 10_000;
-/// How many disagreements are shown.
+/// How many disagreements are shown, and how long a list is whose bytes are.
 const SHOWN: u64 = 20;
+const LONG: usize = 65_536;
 /// The seed where none is given.
 const SEED: u64 = 20_261_115;
 
@@ -116,18 +117,31 @@ impl Counts {
     fn at_the_limits(&mut self, call: u8, seed: u64) {
         let named = named(call, seed);
         for index in 0..limits::LISTS {
-            let (list, _) = limits::list(seed, named, index);
-            self.list(&lent(call, list.bytes(), Room::Over(9)));
+            let (list, what) = limits::list(seed, named, index);
+            self.named(what, |counts| {
+                counts.list(&lent(call, list.bytes(), Room::Over(9)));
+            });
         }
         for index in 0..past_limits::LISTS {
-            let (list, _) = past_limits::list(seed, named, index);
-            self.list(&lent(call, list, Room::Over(9)));
-            let (volume, _) = past_limits::volume(seed, named, index);
-            self.apply(&Applied {
-                volume,
+            let (list, what) = past_limits::list(seed, named, index);
+            let applied = Applied {
+                volume: without_requests(&list),
                 change: Vec::new(),
                 room: Room::Over(9),
+            };
+            self.named(what, |counts| {
+                counts.list(&lent(call, list, Room::Over(9)));
+                counts.apply(&applied);
             });
+        }
+    }
+
+    /// Hold something, and print what it was where it disagrees.
+    fn named(&mut self, what: &str, hold: impl FnOnce(&mut Counts)) {
+        let before = self.wrong;
+        hold(self);
+        if self.wrong > before {
+            println!("  {what}");
         }
     }
 
@@ -155,7 +169,7 @@ impl Counts {
             Ok(answer) => answer,
             Err(why) => {
                 let fails = |list: &[u8]| self::answer(candidate.call, list).is_err();
-                self.report(&why, || hex(&shrink(&candidate.list, fails)));
+                self.report(&why, || smallest(&candidate.list, fails));
                 return None;
             }
         };
@@ -165,7 +179,7 @@ impl Counts {
             match hold(c, &answer) {
                 Ok(held) => number = Some(held),
                 Err(why) => self.report(&format!("{}, {order}: {why}", name(c.call)), || {
-                    hex(&shrink(&c.list, |list| fails(&with(c, list))))
+                    smallest(&c.list, |list| fails(&with(c, list)))
                 }),
             }
         }
@@ -383,9 +397,21 @@ fn hold_apply(a: &Applied) -> Result<u32, String> {
     Ok(number)
 }
 
-/// The bytes of an apply.
+/// The bytes of an apply, or how long they are where they are many.
 fn shown(a: &Applied) -> String {
-    format!("{} {}", hex(&a.volume), hex(&a.change))
+    let bytes = |list: &[u8]| match list.len() {
+        0..=LONG => hex(list),
+        long => format!("{long} bytes"),
+    };
+    format!("{} {}", bytes(&a.volume), bytes(&a.change))
+}
+
+/// The smallest list found that fails; of a long one its length.
+fn smallest(list: &[u8], fails: impl Fn(&[u8]) -> bool) -> String {
+    match list.len() {
+        0..=LONG => hex(&shrink(list, fails)),
+        long => format!("a list of {long} bytes"),
+    }
 }
 
 /// A call with a scratch as long as it is asked.
