@@ -208,7 +208,7 @@ fn past_the_limits() {
 fn twice_at_any_rank() {
     let due = Due::refused(22);
     let mut tried = 0;
-    for keys in [70, 4_095, 4_096, 5_000] {
+    for keys in [70u64, 4_095, 4_096, 5_000] {
         let step = if keys < 100 { 1 } else { 128 };
         for border in (0..keys).step_by(step) {
             for rank in [border.saturating_sub(1), border, border + 1] {
