@@ -87,7 +87,7 @@ extern "C" {
  * definitions and attained by tests, and not proved. */
 /* a volume, and so the output of apply: 42 + 6 * 4096 * 296 + 4096 * 7 */
 #define ZERGLAZ_MAX_VOLUME 7303210
-/* a call list: a volume + 1024 * 16 */
+/* a call list, and so the output of sort: a volume + 1024 * 16 */
 #define ZERGLAZ_MAX_CALL_LIST 7319594
 /* the change list of a placement: 1024 * (64 + 104 + 40 + 72 + 7 + 18) + 4096 * 40 + 256 + 4 + 27 + 8 * 43 + 11 + 3 */
 #define ZERGLAZ_MAX_PLACE_CHANGE 476805

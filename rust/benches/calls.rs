@@ -84,7 +84,7 @@ fn library_sort(name: &str, list: &[u8]) {
     row(&format!("{name}, the library's sort"), list, || {
         sorted.copy_from_slice(&places);
         let list = black_box(list);
-        sorted.sort_by(|&a, &b| stands(list, a).cmp(&stands(list, b)));
+        sorted.sort_by_key(|&place| stands(list, place));
         black_box(&mut sorted).len()
     });
     assert!(sorted.is_sorted_by_key(|&place| stands(list, place)));

@@ -9,6 +9,8 @@ use crate::key::Key;
 
 /// A list's fields, by tag and body.
 type Fields = Vec<(u8, Vec<u8>)>;
+/// A change of a key, by name.
+type Change = (&'static str, fn(&mut Key));
 
 /// The edges of the order and of what stands twice, over a list of whichever call.
 pub fn order_edges(base: &CallList) -> Vec<Edge> {
@@ -112,7 +114,7 @@ fn doubles(base: &CallList) -> Vec<Edge> {
             f.insert(0, (tree, key(9)));
         }));
     }
-    let changes: [(&str, fn(&mut Key)); 5] = [
+    let changes: [Change; 5] = [
         ("type", |k| k.key_type = 24),
         ("size", |k| k.size = 1 << 24),
         ("version high", |k| k.version_hi = 1),
