@@ -63,6 +63,9 @@ struct Counts {
     met: BTreeMap<(u8, u32), u64>,
     /// Lists and volumes that stood in two orders.
     orders: u64,
+    /// Lists whose answer is the Rust's, and lists that cannot be given to it: refused 2 or 22.
+    answered: u64,
+    not_given: u64,
     /// Disagreements.
     wrong: u64,
 }
@@ -79,6 +82,8 @@ fn main() -> ExitCode {
         rng: Rng::new(seed),
         met: BTreeMap::new(),
         orders: 0,
+        answered: 0,
+        not_given: 0,
         wrong: 0,
     };
     for call in ON_LISTS {
@@ -92,7 +97,11 @@ fn main() -> ExitCode {
         .sum();
     let seldom = counts.print() + apart;
     counts.histories(lists / 20, seed);
-    println!("in two orders: {}", counts.orders);
+    println!("held in two orders: {}", counts.orders);
+    println!(
+        "answers of the Rust: {}; lists that cannot be given to it, refused 2 or 22: {}",
+        counts.answered, counts.not_given
+    );
     println!("disagreements: {}", counts.wrong);
     ExitCode::from(u8::from(counts.wrong + seldom > 0))
 }
@@ -174,6 +183,10 @@ impl Counts {
             }
         };
         self.orders += 1;
+        if candidate.call != SORT {
+            self.answered += u64::from(answer.number == 0);
+            self.not_given += u64::from(matches!(answer.number, 2 | 22));
+        }
         let mut number = None;
         for (c, order) in [(candidate, "as it stands"), (&other, "in another order")] {
             match hold(c, &answer) {
@@ -337,11 +350,8 @@ fn hold(c: &Candidate, answer: &Answer) -> Result<u32, String> {
     if answer.number == 0 {
         ARCHIVE.hold_rooms(c.call, &c.list, &answer.bytes)?;
     }
-    if c.call == SORT {
-        return hold_again(c, answer).map(|()| number);
-    }
     hold_sort(&c.list).map_err(|why| format!("its sorted form: {why}"))?;
-    if answer.number == 0 {
+    if answer.number == 0 && c.call != SORT {
         let applied = hold_apply(&Applied {
             volume: without_requests(&c.list),
             change: answer.bytes.clone(),
@@ -352,33 +362,29 @@ fn hold(c: &Candidate, answer: &Answer) -> Result<u32, String> {
     Ok(number)
 }
 
-/// Hold a list's sort to the model's.
+/// Hold a list's sort to the model's, and the sorted form to being its own, with the fields of the list,
+/// each as often.
 fn hold_sort(list: &[u8]) -> Result<(), String> {
     let (number, sorted) = sort(list, usize::MAX);
-    let due = match number {
-        0 => Due::accepted(&sorted),
-        _ => Due::refused(number),
-    };
-    ARCHIVE.hold(SORT, list, 0, sorted.len() + 9, due)
-}
-
-/// Hold a sorted form to being its own sorted form, with the fields of the list, each as often.
-fn hold_again(c: &Candidate, answer: &Answer) -> Result<(), String> {
-    if answer.number != 0 {
-        return Ok(());
+    if number != 0 {
+        return ARCHIVE.hold(SORT, list, 0, list.len(), Due::refused(number));
     }
-    hold_sort(&answer.bytes).map_err(|why| format!("sorted again: {why}"))?;
-    let fields = |list: &[u8]| {
-        let fields = split(list).unwrap_or_default();
-        let mut fields: Vec<(u8, Vec<u8>)> =
-            fields.iter().map(|f| (f.tag, f.body.to_vec())).collect();
-        fields.sort();
-        fields
-    };
-    if fields(&c.list) != fields(&answer.bytes) {
+    let due = Due::accepted(&sorted);
+    ARCHIVE.hold(SORT, list, 0, sorted.len() + 9, due)?;
+    let again = ARCHIVE.hold(SORT, &sorted, 0, sorted.len(), due);
+    again.map_err(|why| format!("sorted again: {why}"))?;
+    if fields(list) != fields(&sorted) {
         return Err("the sorted form has other fields".into());
     }
     Ok(())
+}
+
+/// The fields of a list, those of one tag and one body side by side.
+fn fields(list: &[u8]) -> Vec<(u8, &[u8])> {
+    let fields = split(list).unwrap_or_default();
+    let mut fields: Vec<_> = fields.iter().map(|f| (f.tag, f.body)).collect();
+    fields.sort_unstable();
+    fields
 }
 
 /// Hold an apply in its own output and, where it is accepted, in outputs of every kind.
