@@ -1,15 +1,16 @@
-/* Zerglaz: a bucket allocator for bcachefs volumes, by four calls on lists of bytes.
+/* Zerglaz: a bucket allocator for bcachefs volumes, by five calls on lists of bytes.
  *
  * A call reads a call list: a volume, and for a placement or a release its requests. It writes a
- * change list. Apply reads a volume and a change list and writes the next volume. docs/FORMAT.md has
- * the bytes of these lists.
+ * change list. Apply reads a volume and a change list and writes the next volume. The fields of call
+ * lists and volumes may stand in any order; sort writes the one sorted form of such a list, and apply
+ * writes volumes in that order. docs/FORMAT.md has the bytes of these lists.
  *
  * The caller's duties:
  *
  * A history is a list of place, release and discard calls; each reads the volume last reached, of
  * which nothing but field 1 and requests has changed. A piece is live from its applied placement to
  * the applied release that names it by first sector and length. docs/FORMAT.md, "Clean volumes and
- * histories", has both in full.
+ * histories", has both in full. In which order the fields of a list stand is no part of it.
  *
  * (1) The history starts from a clean volume.
  * (2) A release names pieces that are live, none twice.
@@ -86,7 +87,7 @@ extern "C" {
  * definitions and attained by tests, and not proved. */
 /* a volume, and so the output of apply: 42 + 6 * 4096 * 296 + 4096 * 7 */
 #define ZERGLAZ_MAX_VOLUME 7303210
-/* a call list: a volume + 1024 * 16 */
+/* a call list, and so the output of sort: a volume + 1024 * 16 */
 #define ZERGLAZ_MAX_CALL_LIST 7319594
 /* the change list of a placement: 1024 * (64 + 104 + 40 + 72 + 7 + 18) + 4096 * 40 + 256 + 4 + 27 + 8 * 43 + 11 + 3 */
 #define ZERGLAZ_MAX_PLACE_CHANGE 476805
@@ -142,30 +143,39 @@ enum zerglaz_refusal {
     /* discard: the batch is 0 */
     ZERGLAZ_NO_BATCH = 20,
     /* all: the output is too short for the answer */
-    ZERGLAZ_OUTPUT_TOO_SHORT = 21
+    ZERGLAZ_OUTPUT_TOO_SHORT = 21,
+    /* all: two keys of a tree stand at one position, or a reserved bucket stands twice (tested directly after 2) */
+    ZERGLAZ_STANDS_TWICE = 22
 };
 
 /* Chooses buckets for the pieces that the list asks to place, and writes the change list that places
- * them. Answers 0, 2 to 13 or 21. */
+ * them. Answers 0, 2 to 13, 21 or 22. */
 uint32_t zerglaz_place(const uint8_t *list, size_t list_len, uint8_t *out, size_t out_len,
                        size_t *written);
 
 /* Writes the change list that gives back the sectors of the pieces that the list names, and empties
- * the buckets that hold no more. Answers 0 to 4, 14 to 19 or 21.
+ * the buckets that hold no more. Answers 0 to 4, 14 to 19, 21 or 22.
  * The scratch: with 1 all of it is as it was. With any other answer its first ZERGLAZ_SUMS sums are 0
  * and the others are as they were; what it held before plays no part. */
 uint32_t zerglaz_release(const uint8_t *list, size_t list_len, uint32_t *scratch, size_t scratch_len,
                          uint8_t *out, size_t out_len, size_t *written);
 
 /* Writes the change list that frees the emptied buckets which wait for their discard, in batches. With
- * nothing to discard it has no bytes. Answers 0, 2, 3, 20 or 21. */
+ * nothing to discard it has no bytes. Answers 0, 2, 3 or 20 to 22. */
 uint32_t zerglaz_discard(const uint8_t *list, size_t list_len, uint8_t *out, size_t out_len,
                          size_t *written);
 
 /* Writes the volume that a volume (a call list of any call, without requests) becomes by a change
- * list. Answers 0, 2, 3 or 21. */
+ * list. Answers 0, 2, 3, 21 or 22. */
 uint32_t zerglaz_apply(const uint8_t *volume, size_t volume_len, const uint8_t *change,
                        size_t change_len, uint8_t *out, size_t out_len, size_t *written);
+
+/* Writes the sorted form of a list of any call, with its requests or without: field 1, the keys of each
+ * tree by position, the reserved buckets by number, and the requests in their own order. These are the
+ * list's own fields, byte for byte, so an output as long as the list is never refused 21. The list and its
+ * sorted form are the same to every call, and the sorted form is its own. Answers 0, 2, 3, 21 or 22. */
+uint32_t zerglaz_sort(const uint8_t *list, size_t list_len, uint8_t *out, size_t out_len,
+                      size_t *written);
 
 #ifdef __cplusplus
 }

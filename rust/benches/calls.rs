@@ -1,11 +1,18 @@
 //! How long the calls take through the archive on lists at the limits, beside a copy of the bytes that
 //! they read: medians in nanoseconds and their ratio. Place too on lists that are refused once all of
-//! them is read. Apply with changes of 1, 64 and 1,024 keys, and with what each call of 1,024 wrote. Then
-//! the crate's two readers.
+//! them is read. Apply with changes of 1, 64 and 1,024 keys, and with what each call of 1,024 wrote. Sort,
+//! and the crate's two readers. Lists past the limits, which are refused 3 and 22.
+//!
+//! Each list and volume is timed in order and, under `in any order`, with its fields in an order that a
+//! fixed seed chose. Under `the library's sort` stands how long the stable sort of Rust's library takes to
+//! put the places of these fields in order, a `usize` each, by tag and position; what is written there is
+//! the number of places.
 
-use lists::call_list::{DISCARD, PLACE, RELEASE};
-use lists::limits;
+use lists::call_list::{DISCARD, PLACE, RELEASE, RESERVED};
+use lists::order::mixed;
+use lists::rng::Rng;
 use lists::timed::{self, Volume};
+use lists::{limits, past_limits};
 use std::hint::black_box;
 use std::time::Instant;
 use zerglaz::limits::MAX_REQUESTS;
@@ -15,6 +22,8 @@ use zerglaz::{CallList, CallListRef, DeviceSector, Position, Refusal, Tree, SUMS
 const REPETITIONS: usize = 31;
 /// Bytes of a page.
 const PAGE: usize = 4_096;
+/// The seed of the other orders.
+const ORDER: u64 = 1;
 
 /// Nanoseconds of each repetition, sorted.
 fn times(mut work: impl FnMut()) -> Vec<u64> {
@@ -56,6 +65,55 @@ fn row(name: &str, read: &[u8], mut call: impl FnMut() -> usize) {
     println!("| {name} | {bytes} | {written} | {made} | {low} to {high} | {copied} | {ratio:.1} |");
 }
 
+/// Three rows of a call: on a list in order, on the same in another order, and the library's sort of the
+/// places of the latter. What else the call reads counts as read.
+fn rows(name: &str, list: &[u8], more: &[u8], mut call: impl FnMut(&[u8]) -> usize) {
+    let other = mixed(&mut Rng::new(ORDER), list);
+    assert_eq!(call(list), call(&other), "{name}");
+    for (order, list) in [("", list), (", in any order", &other)] {
+        let read = [list, more].concat();
+        row(&format!("{name}{order}"), &read, || call(black_box(list)));
+    }
+    library_sort(name, &other);
+}
+
+/// A row of the library's stable sort of the places of a list's fields.
+fn library_sort(name: &str, list: &[u8]) {
+    let places = places(list);
+    let mut sorted = places.clone();
+    row(&format!("{name}, the library's sort"), list, || {
+        sorted.copy_from_slice(&places);
+        let list = black_box(list);
+        sorted.sort_by_key(|&place| stands(list, place));
+        black_box(&mut sorted).len()
+    });
+    assert!(sorted.is_sorted_by_key(|&place| stands(list, place)));
+}
+
+/// Where the fields of a list begin.
+fn places(list: &[u8]) -> Vec<usize> {
+    let mut places = Vec::new();
+    let mut at = 0;
+    while at < list.len() {
+        places.push(at);
+        at += 3 + usize::from(u16::from_le_bytes([list[at + 1], list[at + 2]]));
+    }
+    places
+}
+
+/// Where a field stands in a sorted list: its tag, then a key's position or a reserved bucket's number.
+fn stands(list: &[u8], place: usize) -> (u8, u64, u64) {
+    let word = |at: usize| u64::from_le_bytes(list[at..at + 8].try_into().expect("a word"));
+    match list[place] {
+        RESERVED => {
+            let number = list[place + 3..place + 7].try_into().expect("a number");
+            (RESERVED, u32::from_le_bytes(number).into(), 0)
+        }
+        tag if Tree::from_tag(tag).is_some() => (tag, word(place + 20), word(place + 28)),
+        tag => (tag, 0, 0),
+    }
+}
+
 /// The lists at the limits that a call accepts.
 fn calls(call: u8, name: &str) {
     let mut out = vec![0; 1 << 21];
@@ -63,16 +121,22 @@ fn calls(call: u8, name: &str) {
     for index in 0..limits::LISTS {
         let (list, what) = limits::list(limits::SEED, call, index);
         let list = list.bytes();
-        let mut made = || match call {
-            PLACE => zerglaz::place(black_box(&list), &mut out),
-            RELEASE => zerglaz::release(black_box(&list), &mut scratch, &mut out),
-            _ => zerglaz::discard(black_box(&list), &mut out),
+        let mut made = |list: &[u8]| match call {
+            PLACE => zerglaz::place(list, &mut out),
+            RELEASE => zerglaz::release(list, &mut scratch, &mut out),
+            _ => zerglaz::discard(list, &mut out),
         };
-        if made().is_ok() {
-            let accepted = || made().expect("accepted before");
-            row(&format!("{name}: {what}"), &list, accepted);
+        if made(&list).is_ok() {
+            let accepted = |list: &[u8]| made(list).expect("accepted before");
+            rows(&format!("{name}: {what}"), &list, &[], accepted);
         }
     }
+}
+
+/// A placement that is refused.
+fn refused_by(list: &[u8], due: Refusal) -> usize {
+    assert_eq!(zerglaz::place(list, &mut []), Err(due));
+    0
 }
 
 /// Lists with one request too many, which are refused 3 once all of them is read: so all that is timed
@@ -84,12 +148,28 @@ fn refused() {
     ] {
         let mut list = timed::list(PLACE, volume, MAX_REQUESTS);
         list.places.push(list.places[0].clone());
-        let list = list.bytes();
-        row(&format!("place, refused 3: {name}"), &list, || {
-            let answer = zerglaz::place(black_box(&list), &mut []);
-            assert_eq!(answer, Err(Refusal::LimitPassed));
-            0
+        let name = format!("place, refused 3: {name}");
+        rows(&name, &list.bytes(), &[], |list| {
+            refused_by(list, Refusal::LimitPassed)
         });
+    }
+}
+
+/// Lists past the limits, where nothing stands twice and where one thing does.
+fn past_the_limits() {
+    for (index, number, due) in [
+        (0, 3, Refusal::LimitPassed),
+        (1, 22, Refusal::StandsTwice),
+        (8, 3, Refusal::LimitPassed),
+        (9, 22, Refusal::StandsTwice),
+        (14, 3, Refusal::LimitPassed),
+        (15, 22, Refusal::StandsTwice),
+    ] {
+        let (list, what) = past_limits::list(ORDER, PLACE, index);
+        let list = mixed(&mut Rng::new(ORDER), &list);
+        let name = format!("place, refused {number}: {what}");
+        row(&name, &list, || refused_by(black_box(&list), due));
+        library_sort(&name, &list);
     }
 }
 
@@ -101,8 +181,8 @@ fn applies() {
     for count in [1, 64, 1_024] {
         let change = timed::change(&volume, count);
         let name = format!("apply: every tree full, keys replaced: {count}");
-        row(&name, &bytes, || {
-            let next = zerglaz::apply(black_box(&bytes), black_box(&change), &mut out);
+        rows(&name, &bytes, &[], |volume| {
+            let next = zerglaz::apply(volume, black_box(&change), &mut out);
             next.expect("it is accepted")
         });
     }
@@ -122,10 +202,26 @@ fn followed() {
         };
         let change = &change[..written.expect("it is accepted")];
         let mut out = vec![0; volume.len() + change.len()];
-        let read = [&volume[..], change].concat();
-        row(&format!("apply: what a {name} of 1,024 wrote"), &read, || {
-            let next = zerglaz::apply(black_box(&volume), black_box(change), &mut out);
+        let name = format!("apply: what a {name} of 1,024 wrote");
+        rows(&name, &volume, change, |volume| {
+            let next = zerglaz::apply(volume, black_box(change), &mut out);
             next.expect("it is accepted")
+        });
+    }
+}
+
+/// The sorted form of a short list, of one with many requests and of one whose trees are full.
+fn sorts() {
+    for (name, volume, count) in [
+        ("one release, bare volume", Volume::Bare, 1),
+        ("1,024 releases, bare volume", Volume::Bare, 1_024),
+        ("1,024 releases, every tree full", Volume::Full, 1_024),
+    ] {
+        let list = timed::list(RELEASE, volume, count).bytes();
+        let mut out = vec![0; list.len()];
+        rows(&format!("sort: {name}"), &list, &[], |list| {
+            let sorted = zerglaz::sort(list, &mut out);
+            sorted.expect("it is accepted")
         });
     }
 }
@@ -134,12 +230,12 @@ fn followed() {
 fn readings() {
     let bytes = timed::volume().bytes();
     let at = Position::of_backpointer(DeviceSector(1));
-    row("CallList: every tree full", &bytes, || {
-        let list = CallList::read(black_box(&bytes)).expect("a volume");
+    rows("CallList: every tree full", &bytes, &[], |volume| {
+        let list = CallList::read(volume).expect("a volume");
         usize::from(list.key(Tree::Backpointers, at).is_some())
     });
-    row("CallListRef: every tree full", &bytes, || {
-        let list = CallListRef::read(black_box(&bytes)).expect("a volume");
+    rows("CallListRef: every tree full", &bytes, &[], |volume| {
+        let list = CallListRef::read(volume).expect("a volume");
         usize::from(list.key(Tree::Backpointers, at).is_some())
     });
 }
@@ -153,7 +249,9 @@ fn main() {
     calls(RELEASE, "release");
     calls(DISCARD, "discard");
     refused();
+    past_the_limits();
     applies();
     followed();
+    sorts();
     readings();
 }

@@ -1,16 +1,17 @@
 //! Call lists, which every call reads, and volumes, which are call lists without requests.
 
 use crate::call_list_ref::{CallListRef, RESERVED};
-use crate::fields::{put, BrokenLayout};
+use crate::fields::put;
 use crate::head::{Call, Head};
 use crate::key::{Key, Position, Tree};
 use crate::kinds::Bucket;
+use crate::refusal::Refusal;
 use crate::request::{Piece, Released};
 use std::collections::{BTreeMap, BTreeSet};
 use std::ops::Range;
 
-/// A call list, or a volume where it has no requests. Keys and reserved buckets are kept in the
-/// order that the layout asks for.
+/// A call list, or a volume where it has no requests. Keys and reserved buckets are kept in the order
+/// of the list's sorted form.
 #[derive(Debug, Clone, PartialEq, Eq, Default)]
 pub struct CallList {
     /// What it says of the volume and of the call.
@@ -61,7 +62,7 @@ impl CallList {
         self.key(Tree::Alloc, Position::of_alloc(bucket))
     }
 
-    /// The keys of a tree, in order.
+    /// The keys of a tree, by their positions.
     pub fn keys(&self, tree: Tree) -> impl Iterator<Item = &Key> {
         let last = Position {
             inode: u64::MAX,
@@ -82,7 +83,7 @@ impl CallList {
         self.reserved.remove(&bucket)
     }
 
-    /// The reserved buckets, in order.
+    /// The reserved buckets, by their numbers.
     pub fn reserved(&self) -> impl Iterator<Item = Bucket> + '_ {
         self.reserved.iter().copied()
     }
@@ -103,7 +104,7 @@ impl CallList {
         list
     }
 
-    /// The list's bytes.
+    /// The list's bytes: its sorted form.
     ///
     /// # Panics
     /// Where a key's value has more than 65,498 bytes.
@@ -125,11 +126,14 @@ impl CallList {
         out
     }
 
-    /// The list in `bytes`, of whichever call. [`CallListRef`] reads a list without copying it.
+    /// The list in `bytes`, of whichever call, its fields in any order. [`CallListRef`] reads a list
+    /// without copying it.
     ///
     /// # Errors
-    /// Where the bytes break the layout of a call list.
-    pub fn read(bytes: &[u8]) -> Result<CallList, BrokenLayout> {
+    /// As the calls refuse it: [`Refusal::BrokenLayout`] where the bytes break the layout of a call
+    /// list, and [`Refusal::StandsTwice`] where two keys of a tree stand at one position or a reserved
+    /// bucket stands twice.
+    pub fn read(bytes: &[u8]) -> Result<CallList, Refusal> {
         let list = CallListRef::read(bytes)?;
         let of_tree = |tree| list.keys(tree).map(move |key| (tree, key));
         let keys = Tree::STORED.into_iter().flat_map(of_tree);
@@ -148,10 +152,11 @@ impl CallList {
 #[cfg(test)]
 mod tests {
     use super::{Call, CallList, Head, Piece, Released};
-    use crate::fields::{put, BrokenLayout};
+    use crate::fields::put;
     use crate::head::Roots;
     use crate::key::{key_type, Key, Position, Tree};
     use crate::kinds::{Bucket, DeviceSector, FileSector};
+    use crate::refusal::Refusal;
 
     /// A list with every part set.
     fn list() -> CallList {
@@ -245,29 +250,45 @@ mod tests {
             bad[at] = byte;
             lists.push(bad);
         }
-        for (tag, body) in [(0, 37), (64, 4), (65, 12), (66, 11), (67, 0), (76, 0)] {
+        for (tag, body) in [(0, 37), (64, 3), (65, 12), (66, 11), (67, 0), (76, 0)] {
             let mut bad = good.clone();
             put(&mut bad, tag, &[&vec![0; body]]);
             lists.push(bad);
         }
         for bad in lists {
-            assert_eq!(CallList::read(&bad), Err(BrokenLayout));
+            assert_eq!(CallList::read(&bad), Err(Refusal::BrokenLayout));
         }
     }
 
-    /// Every stored list is read just where the model reads it, and gives its bytes again.
+    /// Fields in any order give the list, and bytes that are in order; one that stands twice is refused.
+    #[test]
+    fn any_order() {
+        let list = list();
+        let bytes = list.to_bytes();
+        let (head, rest) = bytes.split_at(42);
+        let mixed = [rest, head].concat();
+        let read = CallList::read(&mixed);
+        assert_eq!(read.as_ref().map(CallList::to_bytes), Ok(bytes.clone()));
+        assert_eq!(read, Ok(list));
+        let mut twice = mixed;
+        put(&mut twice, 64, &[&300u32.to_le_bytes()]);
+        assert_eq!(CallList::read(&twice), Err(Refusal::StandsTwice));
+    }
+
+    /// Every stored list is read just where the model reads it, and gives the bytes of its sorted form.
     #[test]
     fn stored_lists() {
-        for name in ["place", "release", "discard"] {
+        for name in ["place", "release", "discard", "sort"] {
             let path = format!("{}/../vectors/{name}.txt", env!("CARGO_MANIFEST_DIR"));
             let text = std::fs::read_to_string(&path).expect("the vectors are there");
             for v in lists::vectors::calls(&text) {
-                let model = lists::call_list::CallList::read(&v.list);
-                match CallList::read(&v.list) {
-                    Ok(list) => assert_eq!(list.to_bytes(), v.list, "{}", v.id),
-                    Err(BrokenLayout) => assert_eq!(model, None, "{}", v.id),
-                }
-                assert_eq!(CallList::read(&v.list).is_ok(), model.is_some(), "{}", v.id);
+                let due = match lists::call_list::CallList::read(&v.list) {
+                    None => Err(Refusal::BrokenLayout),
+                    Some(list) if list.stands_twice() => Err(Refusal::StandsTwice),
+                    Some(_) => Ok(lists::sort::sorted_form(&v.list).expect("whole fields")),
+                };
+                let read = CallList::read(&v.list).map(|list| list.to_bytes());
+                assert_eq!(read, due, "{}", v.id);
             }
         }
     }

@@ -1,6 +1,7 @@
 //! The C boundary of `include/zerglaz.h`, the crate's only unsafe code: each call on slices, with its
 //! number and `written` as the archive gives them. The crate's own [`place`](crate::place),
-//! [`release`](crate::release), [`discard`](crate::discard) and [`apply`](crate::apply) stand on it.
+//! [`release`](crate::release), [`discard`](crate::discard), [`apply`](crate::apply) and
+//! [`sort`](crate::sort) stand on it.
 
 // Every call below is sound for the same reasons. Each pointer and length are those of one slice or
 // of one number that is borrowed for the whole call, so they are valid, aligned and not null, also
@@ -35,6 +36,13 @@ extern "C" {
         volume_len: usize,
         change: *const u8,
         change_len: usize,
+        out: *mut u8,
+        out_len: usize,
+        written: *mut usize,
+    ) -> u32;
+    fn zerglaz_sort(
+        list: *const u8,
+        list_len: usize,
         out: *mut u8,
         out_len: usize,
         written: *mut usize,
@@ -75,4 +83,11 @@ pub fn apply(volume: &[u8], change: &[u8], out: &mut [u8], written: &mut usize) 
             volume, volume_len, change, change_len, out, out_len, written,
         )
     }
+}
+
+/// `zerglaz_sort`: the number, and in `written` the sorted form's length.
+pub fn sort(list: &[u8], out: &mut [u8], written: &mut usize) -> u32 {
+    let (list, list_len) = (list.as_ptr(), list.len());
+    // SAFETY: as said above.
+    unsafe { zerglaz_sort(list, list_len, out.as_mut_ptr(), out.len(), written) }
 }

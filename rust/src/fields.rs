@@ -3,6 +3,7 @@
 use std::error::Error;
 use std::fmt;
 use std::ops::RangeInclusive;
+use std::sync::Arc;
 
 /// Bytes that are no list of the kind asked for.
 #[derive(Debug, Clone, Copy, PartialEq, Eq)]
@@ -51,6 +52,11 @@ impl<'a> Fields<'a> {
         Ok(&all[..all.len() - self.rest.len()])
     }
 
+    /// How many bytes are left.
+    pub(crate) fn left(&self) -> usize {
+        self.rest.len()
+    }
+
     /// No field is left.
     pub(crate) fn end(self) -> Result<(), BrokenLayout> {
         require(self.rest.is_empty())
@@ -74,10 +80,69 @@ impl<'a> Iterator for Fields<'a> {
     }
 }
 
+/// Fields of one tag, in the order in which they are read.
+#[derive(Debug, Clone)]
+pub(crate) enum Stretch<'a> {
+    /// They stand one after the other in a list.
+    Together(&'a [u8]),
+    /// The body of each, wherever the field stands.
+    Apart(Arc<[&'a [u8]]>),
+}
+
+impl<'a> Stretch<'a> {
+    /// The bodies of the fields.
+    pub(crate) fn bodies(&self) -> Bodies<'a> {
+        match self {
+            Stretch::Together(fields) => Bodies::together(fields),
+            Stretch::Apart(bodies) => Bodies(Left::Apart(Arc::clone(bodies), 0)),
+        }
+    }
+}
+
+/// The bodies of a stretch's fields that are left.
+#[derive(Debug, Clone)]
+pub(crate) struct Bodies<'a>(Left<'a>);
+
+/// What is left of a stretch.
+#[derive(Debug, Clone)]
+enum Left<'a> {
+    Together(Fields<'a>),
+    /// The bodies from this one on.
+    Apart(Arc<[&'a [u8]]>, usize),
+}
+
+impl<'a> Bodies<'a> {
+    /// The bodies of fields that stand one after the other.
+    pub(crate) fn together(fields: &'a [u8]) -> Bodies<'a> {
+        Bodies(Left::Together(Fields::new(fields)))
+    }
+}
+
+impl<'a> Iterator for Bodies<'a> {
+    type Item = Body<'a>;
+
+    /// The next body.
+    fn next(&mut self) -> Option<Body<'a>> {
+        match &mut self.0 {
+            Left::Together(fields) => fields.next()?.ok().map(|(_, body)| body),
+            Left::Apart(bodies, next) => {
+                let body = bodies.get(*next)?;
+                *next += 1;
+                Some(Body(body))
+            }
+        }
+    }
+}
+
 /// What is left of a field's body.
 pub(crate) struct Body<'a>(&'a [u8]);
 
 impl<'a> Body<'a> {
+    /// A whole body.
+    pub(crate) fn new(body: &'a [u8]) -> Body<'a> {
+        Body(body)
+    }
+
     /// How many bytes are left.
     pub(crate) fn len(&self) -> usize {
         self.0.len()

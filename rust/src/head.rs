@@ -1,6 +1,6 @@
 //! The head of a list: what it says of the volume and of the call.
 
-use crate::fields::{put, Body, BrokenLayout, Fields};
+use crate::fields::{put, require, Body, BrokenLayout, Fields};
 use crate::kinds::FileSector;
 
 /// The head's tag.
@@ -80,6 +80,22 @@ pub struct Head {
 }
 
 impl Head {
+    /// The head of a call list, wherever it stands.
+    ///
+    /// # Errors
+    /// Where the bytes are no whole fields, or have not exactly one head, or it breaks its layout.
+    pub fn of(list: &[u8]) -> Result<Head, BrokenLayout> {
+        let mut found = None;
+        for field in Fields::new(list) {
+            let (tag, body) = field?;
+            if tag == HEAD {
+                require(found.is_none())?;
+                found = Some(Head::read(body)?);
+            }
+        }
+        found.ok_or(BrokenLayout)
+    }
+
     /// The head at the front of a list.
     pub(crate) fn first(list: &[u8]) -> Result<Head, BrokenLayout> {
         match Fields::new(list).next().ok_or(BrokenLayout)?? {
@@ -121,5 +137,32 @@ impl Head {
             &self.base.0.to_le_bytes(),
         ];
         put(out, HEAD, &parts);
+    }
+}
+
+#[cfg(test)]
+mod tests {
+    use super::{Call, Head};
+    use crate::fields::{put, BrokenLayout};
+
+    /// The one head of a list is found wherever it stands.
+    #[test]
+    fn anywhere() {
+        let head = Head {
+            call: Call::Discard,
+            bucket_sectors: 8,
+            ..Head::default()
+        };
+        let mut list = Vec::new();
+        put(&mut list, 64, &[&[7, 0, 0, 0]]);
+        assert_eq!(Head::of(&list), Err(BrokenLayout));
+        head.put(&mut list);
+        assert_eq!(Head::of(&list), Ok(head));
+        put(&mut list, 11, &[&[0; 37]]);
+        assert_eq!(Head::of(&list), Ok(head));
+        assert_eq!(Head::first(&list), Err(BrokenLayout));
+        assert_eq!(Head::of(&list[..list.len() - 1]), Err(BrokenLayout));
+        head.put(&mut list);
+        assert_eq!(Head::of(&list), Err(BrokenLayout));
     }
 }

@@ -1,7 +1,7 @@
 //! Keys read where they stand in a list.
 
 use crate::alloc_value;
-use crate::fields::{require, Body, BrokenLayout, Fields};
+use crate::fields::{require, Bodies, Body, BrokenLayout};
 use crate::key::{key_type, Key, Position};
 use crate::kinds::Bucket;
 use crate::limits::MAX_VALUE;
@@ -90,14 +90,14 @@ impl<'a> KeyRef<'a> {
     }
 }
 
-/// Keys of one tree where they stand in a list, in order.
+/// Keys of one tree where they stand in a list, by their positions.
 #[derive(Debug, Clone)]
-pub struct Keys<'a>(Fields<'a>);
+pub struct Keys<'a>(Bodies<'a>);
 
 impl<'a> Keys<'a> {
-    /// The keys of a stretch of fields, each of which is a key's.
-    pub(crate) fn new(stretch: &'a [u8]) -> Keys<'a> {
-        Keys(Fields::new(stretch))
+    /// The keys in these bodies, each of which is a key's.
+    pub(crate) fn new(bodies: Bodies<'a>) -> Keys<'a> {
+        Keys(bodies)
     }
 }
 
@@ -106,8 +106,7 @@ impl<'a> Iterator for Keys<'a> {
 
     /// The next key.
     fn next(&mut self) -> Option<KeyRef<'a>> {
-        let (_, body) = self.0.next()?.ok()?;
-        KeyRef::read(body).ok()
+        KeyRef::read(self.0.next()?).ok()
     }
 }
 
@@ -131,6 +130,7 @@ impl<'a> Lookups<'a> {
 #[cfg(test)]
 mod tests {
     use super::{Keys, Lookups};
+    use crate::fields::Bodies;
     use crate::key::{Key, Position, Tree};
     use crate::kinds::Bucket;
 
@@ -147,10 +147,11 @@ mod tests {
     #[test]
     fn same_keys() {
         let fields = runs();
-        let keys: Vec<Key> = Keys::new(&fields).map(|key| key.to_key()).collect();
+        let keys = || Keys::new(Bodies::together(&fields));
+        let buckets: Vec<_> = keys().filter_map(|key| key.run()).collect();
+        let keys: Vec<Key> = keys().map(|key| key.to_key()).collect();
         assert_eq!(keys.len(), 3);
         assert_eq!(keys[1], Key::run(Bucket(15)..Bucket(20)));
-        let buckets: Vec<_> = Keys::new(&fields).filter_map(|key| key.run()).collect();
         assert_eq!(buckets[2], Bucket(25)..Bucket(30));
     }
 
@@ -158,7 +159,7 @@ mod tests {
     #[test]
     fn lookups() {
         let fields = runs();
-        let mut lookups = Lookups::new(Keys::new(&fields));
+        let mut lookups = Lookups::new(Keys::new(Bodies::together(&fields)));
         let mut found = |offset| lookups.at(Position::new(0, offset)).is_some();
         assert!(!found(9) && found(10) && found(10) && !found(11) && found(20));
         assert!(!found(29) && found(30) && !found(31) && !found(31));

@@ -44,10 +44,11 @@
 //! # What is proved
 //!
 //! Behind a `Volume` stand four calls on slices of bytes: [`place`], [`release`], [`discard`] and
-//! [`apply`]. Each has one outcome over any bytes, and its code is proved to have it. Accepted, it
-//! gives the answer's length; the answer stands at the start of the output and the rest of the
-//! output is as it was. Refused, it gives the first [`Refusal`] whose test fails, and all of the
-//! output is as it was.
+//! [`apply`]. Beside them [`sort`] writes the one sorted form of a list, whose fields may stand in any
+//! order. Each has one outcome over any bytes, and its code is proved to have it. Accepted, it gives
+//! the answer's length; the answer stands at the start of the output and the rest of the output is as
+//! it was. Refused, it gives the first [`Refusal`] whose test fails, and all of the output is as it
+//! was.
 //!
 //! In every history of these calls that keeps the duties below, of calls in any order, accepted or
 //! refused, no sector is occupied by two live pieces, each live piece lies inside its bucket and
@@ -70,7 +71,8 @@
 //!
 //! No call tests whether they are kept, and nothing is claimed of a history that breaks one. A
 //! second release of a piece, for one, is accepted where other pieces hold enough sectors in its
-//! bucket; the bucket can then be emptied and given to other data while a piece lies in it.
+//! bucket; the bucket can then be emptied and given to other data while a piece lies in it. In which
+//! order the fields of a list stand is no part of a history.
 //!
 //! A [`Volume`] keeps these duties for its caller, but for what cannot be known from bytes: its
 //! documentation says which part stays. It is plain Rust over the calls, tested and not proved.
@@ -93,11 +95,12 @@
 //!
 //! # The raw calls
 //!
-//! A call reads a call list: a volume, and for a placement or a release its requests. It writes a
-//! change list, which [`apply`] carries over into the next volume. [`CallList`] and [`ChangeList`]
-//! build the lists; [`CallListRef`] and [`ChangeListRef`] read them where they stand, without
-//! copying keys. They are plain Rust, without proof: a list that they get wrong is refused by the
-//! calls or says something else, and breaks no call's promise. docs/FORMAT.md has the format.
+//! A call reads a call list: a volume, and for a placement or a release its requests. The list's
+//! fields may stand in any order, as those of joined exports do; [`sort`] writes its sorted form. The
+//! call writes a change list, which [`apply`] carries over into the next volume. [`CallList`] and
+//! [`ChangeList`] build the lists; [`CallListRef`] and [`ChangeListRef`] read them where they stand,
+//! without copying keys. They are plain Rust, without proof: a list that they get wrong is refused by
+//! the calls or says something else, and breaks no call's promise. docs/FORMAT.md has the format.
 //!
 //! ```
 //! use zerglaz::{apply, limits, place, Bucket, Call, CallListRef, ChangeListRef, Format, Piece};
@@ -165,7 +168,7 @@ mod volume;
 pub use buckets::{Alloc, Buckets, State, Status};
 pub use call_list::CallList;
 pub use call_list_ref::CallListRef;
-pub use calls::{apply, discard, place, release, SUMS};
+pub use calls::{apply, discard, place, release, sort, SUMS};
 pub use change_list::{Batch, ChangeList, Counters, Placed, Root, Row};
 pub use change_list_ref::{ChangeField, ChangeListRef};
 pub use error::Error;

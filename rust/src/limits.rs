@@ -53,8 +53,8 @@ const END_FIELD: usize = FIELD;
 /// of keys with the longest value, and all reserved buckets are there.
 pub const MAX_VOLUME: usize = HEAD_FIELD + 6 * MAX_KEYS * LONGEST_KEY + MAX_RESERVED * BUCKET_FIELD;
 
-/// The longest call list: 7,319,594 bytes. The longest volume, and all requests of a placement,
-/// which are longer than those of a release.
+/// The longest call list, and so the longest sorted form: 7,319,594 bytes. The longest volume, and all
+/// requests of a placement, which are longer than those of a release.
 pub const MAX_CALL_LIST: usize = MAX_VOLUME + MAX_REQUESTS * PIECE_FIELD;
 
 /// The longest change list of a placement: 476,805 bytes.

@@ -84,6 +84,7 @@ impl fmt::Display for Live {
 #[cfg(test)]
 mod tests {
     use super::{extent_of, Live};
+    use crate::fields::Bodies;
     use crate::key::{key_type, Key, Position, Tree};
     use crate::key_ref::Keys;
     use crate::kinds::{DeviceSector, FileSector};
@@ -92,7 +93,8 @@ mod tests {
     fn named(key: &Key) -> Option<Live> {
         let mut field = Vec::new();
         key.put(Tree::Backpointers, &mut field);
-        Live::of_backpointer(Keys::new(&field).next().expect("a key"))
+        let mut keys = Keys::new(Bodies::together(&field));
+        Live::of_backpointer(keys.next().expect("a key"))
     }
 
     /// The backpointer of a piece of 96 sectors from sector 3 on, generation 7, of file 4,096.

@@ -1,10 +1,11 @@
 //! The refusals: docs/FORMAT.md, "Refusals".
 
+use crate::fields::BrokenLayout;
 use std::error::Error;
 use std::fmt;
 
-/// Why a call refuses. A call answers with the first whose test fails, in this order; among 12 and
-/// 13 the walk decides, and among 15 to 19 the lowest bucket.
+/// Why a call refuses. A call answers with the first whose test fails, in this order, 22 directly after
+/// 2; among 12 and 13 the walk decides, and among 15 to 19 the lowest bucket.
 #[derive(Debug, Clone, Copy, PartialEq, Eq, PartialOrd, Ord, Hash)]
 #[repr(u32)]
 pub enum Refusal {
@@ -50,11 +51,13 @@ pub enum Refusal {
     NoBatch = 20,
     /// The output is too short for the answer.
     OutputTooShort = 21,
+    /// Two keys of a tree stand at one position, or a reserved bucket stands twice.
+    StandsTwice = 22,
 }
 
 impl Refusal {
     /// All refusals, by number.
-    pub const ALL: [Refusal; 21] = [
+    pub const ALL: [Refusal; 22] = [
         Refusal::ScratchTooShort,
         Refusal::BrokenLayout,
         Refusal::LimitPassed,
@@ -76,14 +79,15 @@ impl Refusal {
         Refusal::GenerationRecordTooShort,
         Refusal::NoBatch,
         Refusal::OutputTooShort,
+        Refusal::StandsTwice,
     ];
 
-    /// Its number, 1 to 21.
+    /// Its number, 1 to 22.
     pub const fn number(self) -> u32 {
         self as u32
     }
 
-    /// The refusal of a number; none for 0 and above 21.
+    /// The refusal of a number; none for 0 and above 22.
     pub fn from_number(number: u32) -> Option<Refusal> {
         Refusal::ALL.into_iter().find(|r| r.number() == number)
     }
@@ -112,6 +116,7 @@ impl Refusal {
             Refusal::GenerationRecordTooShort => "a generation record is too short",
             Refusal::NoBatch => "the batch is 0",
             Refusal::OutputTooShort => "the output is too short",
+            Refusal::StandsTwice => "a position of a tree or a reserved bucket stands twice",
         }
     }
 }
@@ -124,20 +129,26 @@ impl fmt::Display for Refusal {
 
 impl Error for Refusal {}
 
+impl From<BrokenLayout> for Refusal {
+    fn from(_: BrokenLayout) -> Refusal {
+        Refusal::BrokenLayout
+    }
+}
+
 #[cfg(test)]
 mod tests {
     use super::Refusal;
 
-    /// Numbers run from 1 to 21, and each gives its refusal again.
+    /// Numbers run from 1 to 22, and each gives its refusal again.
     #[test]
     fn numbers() {
         let numbers: Vec<u32> = Refusal::ALL.iter().map(|r| r.number()).collect();
-        assert_eq!(numbers, (1..=21).collect::<Vec<u32>>());
+        assert_eq!(numbers, (1..=22).collect::<Vec<u32>>());
         for refusal in Refusal::ALL {
             assert_eq!(Refusal::from_number(refusal.number()), Some(refusal));
         }
         assert_eq!(Refusal::from_number(0), None);
-        assert_eq!(Refusal::from_number(22), None);
+        assert_eq!(Refusal::from_number(23), None);
         assert_eq!(Refusal::from_number(u32::MAX), None);
     }
 
@@ -148,6 +159,6 @@ mod tests {
         assert_eq!(words[20], "refused 21: the output is too short");
         words.sort();
         words.dedup();
-        assert_eq!(words.len(), 21);
+        assert_eq!(words.len(), 22);
     }
 }

@@ -79,16 +79,17 @@ impl Volume {
     }
 
     /// The volume in `bytes`, which a `Volume` gave by [`bytes`](Volume::bytes) or
-    /// [`into_bytes`](Volume::into_bytes), or that is clean.
+    /// [`into_bytes`](Volume::into_bytes), or that is clean. Its fields may stand in any order: the
+    /// volume that is opened is its sorted form.
     ///
-    /// What is checked: the layout and the limits; that bucket sectors are above 0; that runs have
-    /// buckets and share none; that each live piece lies inside its bucket and has its generation,
-    /// and no two overlap; that each dirty count is the sum of its live pieces' sectors; that each
-    /// bucket with an alloc key is in exactly one of free, in use and waiting, and reserved where
-    /// it is not free; that LRU keys and generation records are those of the buckets; and that no
-    /// other key stands in any tree. Volumes that histories from clean volumes reach pass, which is
-    /// tested. Journal numbers, clocks, flags and roots are not checked, and options are judged by
-    /// the steps that use them.
+    /// What is checked: the layout; that nothing stands twice; the limits; that bucket sectors are
+    /// above 0; that runs have buckets and share none; that each live piece lies inside its bucket and
+    /// has its generation, and no two overlap; that each dirty count is the sum of its live pieces'
+    /// sectors; that each bucket with an alloc key is in exactly one of free, in use and waiting, and
+    /// reserved where it is not free; that LRU keys and generation records are those of the buckets;
+    /// and that no other key stands in any tree. Volumes that histories from clean volumes reach pass,
+    /// which is tested. Journal numbers, clocks, flags and roots are not checked, and options are
+    /// judged by the steps that use them.
     ///
     /// What cannot be checked, and stays with the caller: that the bytes are the last that the
     /// history reached and no older ones; that they are opened once, since two volumes of the same
@@ -101,7 +102,7 @@ impl Volume {
     /// [`Error::NotReached`] with the first fault.
     pub fn open(bytes: &[u8]) -> Result<Volume, Error> {
         let mut list = Buffer::new(MAX_CALL_LIST);
-        // Apply with no change tests layout and limits, and writes the same volume.
+        // Apply with no change tests all that a call tests of a volume, and writes its sorted form.
         list.answer(|out| apply(bytes, &[], out))?;
         let volume = Volume {
             list,
@@ -116,7 +117,7 @@ impl Volume {
         Ok(volume)
     }
 
-    /// The volume's bytes: a call list without requests.
+    /// The volume's bytes: a call list without requests, in order.
     pub fn bytes(&self) -> &[u8] {
         self.list.list()
     }

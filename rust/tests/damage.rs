@@ -2,7 +2,7 @@
 //! which shares no code with it.
 
 use lists::call_list::{DISCARD, PLACE, RELEASE};
-use lists::model::verdict;
+use lists::model::{verdict, SORT};
 use lists::vectors::{applies, calls, hex};
 use zerglaz::{Refusal, SUMS};
 
@@ -19,7 +19,8 @@ fn text(name: &str) -> String {
 }
 
 /// Every damaged copy of a list: each byte changed to a few values, the list cut at each length, a
-/// field twice, a field left out, and two neighbouring fields swapped.
+/// field twice, beside itself and at both ends, a field left out, each two fields swapped, and the fields
+/// turned round and reversed.
 fn damaged(list: &[u8]) -> Vec<Vec<u8>> {
     let mut out = Vec::new();
     for i in 0..list.len() {
@@ -36,17 +37,24 @@ fn damaged(list: &[u8]) -> Vec<Vec<u8>> {
     }
     let fields = fields(list);
     for i in 0..fields.len() {
-        let mut twice = fields.clone();
-        twice.insert(i, fields[i].clone());
-        out.push(twice.concat());
+        for at in [0, i, fields.len()] {
+            let mut twice = fields.clone();
+            twice.insert(at, fields[i].clone());
+            out.push(twice.concat());
+        }
         let mut without = fields.clone();
         without.remove(i);
         out.push(without.concat());
-        if i + 1 < fields.len() {
+        for j in i + 1..fields.len() {
             let mut swapped = fields.clone();
-            swapped.swap(i, i + 1);
+            swapped.swap(i, j);
             out.push(swapped.concat());
         }
+        let mut turned = fields.clone();
+        turned.rotate_left(i);
+        out.push(turned.concat());
+        turned.reverse();
+        out.push(turned.concat());
     }
     out
 }
@@ -68,7 +76,7 @@ fn number(answer: Result<usize, Refusal>) -> u32 {
     answer.map_or_else(Refusal::number, |_| 0)
 }
 
-/// Hold a call to the model on every damaged copy of some lists; both 0 and 2 must be met.
+/// Hold a call to the model on every damaged copy of some lists; 0 and 2 must be met.
 fn hold(
     name: &str,
     lists: &[Vec<u8>],
@@ -76,7 +84,7 @@ fn hold(
     model: impl Fn(&[u8]) -> u32,
 ) {
     assert_eq!(lists.len(), LISTS, "{name}");
-    let mut met = [0usize; 22];
+    let mut met = [0usize; 23];
     for list in lists {
         assert_eq!((call(list), model(list)), (0, 0), "{name}: the list itself");
         for l in damaged(list) {
@@ -87,8 +95,8 @@ fn hold(
     }
     let all: usize = met.iter().sum();
     println!(
-        "{name}: {all} lists, {} accepted, {} refused 2",
-        met[0], met[2]
+        "{name}: {all} lists, {} accepted, {} refused 2, {} refused 22",
+        met[0], met[2], met[22]
     );
     assert!(met[0] > 0 && met[2] > 0, "{name}: {met:?}");
 }
@@ -102,6 +110,7 @@ fn hold_call(name: &str, call: u8) {
     let made = |l: &[u8]| match call {
         PLACE => number(zerglaz::place(l, &mut out)),
         RELEASE => number(zerglaz::release(l, &mut scratch, &mut out)),
+        SORT => number(zerglaz::sort(l, &mut out)),
         _ => number(zerglaz::discard(l, &mut out)),
     };
     hold(name, &lists, made, |l| verdict(call, l, SUMS, ROOM));
@@ -120,6 +129,11 @@ fn release() {
 #[test]
 fn discard() {
     hold_call("discard", DISCARD);
+}
+
+#[test]
+fn sort() {
+    hold_call("sort", SORT);
 }
 
 /// Hold apply to the model where its volume is damaged, and where its change list is.

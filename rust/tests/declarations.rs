@@ -1,4 +1,4 @@
-//! Each of the four functions that `src/ffi.rs` and `include/zerglaz.h` declare, held to answers
+//! Each of the five functions that `src/ffi.rs` and `include/zerglaz.h` declare, held to answers
 //! that are written out here by hand from docs/FORMAT.md and its source; and the header's names,
 //! version and limits, held to the crate's.
 
@@ -6,6 +6,7 @@ mod common;
 
 use common::ARCHIVE;
 use lists::lent::Due;
+use lists::model::SORT;
 use zerglaz::{
     key_type, limits, Batch, Bucket, Call, CallList, ChangeList, Counters, DeviceSector, Head, Key,
     Piece, Placed, Position, Refusal, Released, Root, Row, Tree, SUMS,
@@ -210,6 +211,86 @@ fn apply() {
     assert_eq!(held, Ok(3));
 }
 
+/// The bytes of a field.
+fn field(tag: u8, body: &[u8]) -> Vec<u8> {
+    let length = (body.len() as u16).to_le_bytes();
+    [&[tag], &length[..], body].concat()
+}
+
+/// A list whose fields stand in no order: two pieces to place around two runs, a need-discard key, two
+/// reserved buckets and the head. Its sorted form is written out by hand.
+#[test]
+fn sort() {
+    let mut head = vec![1, 128, 0, 1, 0, 1, 0];
+    head.extend([0; 4 + 4 + 8 + 8 + 8]);
+    let head = field(1, &head);
+    let key = |tag, size, inode: u8, offset: u8| {
+        let mut body = vec![25, size, 0, 0, 0];
+        body.extend([0; 4 + 8 + 8 + 8 + 4]);
+        body[17] = inode;
+        body[25] = offset;
+        field(tag, &body)
+    };
+    let piece = |sectors| field(65, &[sectors, 0, sectors, 0, 0, 7, 0, 0, 0, 0, 0, 0, 0]);
+    let reserved = |low| field(64, &[low, 1, 0, 0]);
+    let (low_run, high_run, waits) = (key(11, 40, 0, 40), key(11, 5, 0, 90), key(12, 0, 9, 3));
+    let list = [
+        piece(96),
+        high_run.clone(),
+        reserved(9),
+        waits.clone(),
+        head.clone(),
+        reserved(2),
+        low_run.clone(),
+        piece(64),
+    ];
+    let sorted = [
+        head,
+        low_run,
+        high_run,
+        waits,
+        reserved(2),
+        reserved(9),
+        piece(96),
+        piece(64),
+    ];
+    let (list, sorted) = (list.concat(), sorted.concat());
+    assert_eq!(ARCHIVE.hold_rooms(SORT, &list, &sorted), Ok(3));
+    assert_eq!(ARCHIVE.hold_rooms(SORT, &sorted, &sorted), Ok(3));
+    let mut change = vec![0; limits::MAX_PLACE_CHANGE];
+    let length = zerglaz::place(&sorted, &mut change).expect("room");
+    change.truncate(length);
+    assert_eq!(ARCHIVE.hold_rooms(1, &list, &change), Ok(3));
+}
+
+/// A run or a reserved bucket that stands twice, at both ends of a list, is refused after the layout and
+/// before the limits, by each function.
+#[test]
+fn doubles() {
+    let run = field(11, &[0; 37]);
+    let bucket = field(64, &[0, 0, 1, 0]);
+    for (call, byte) in [(Call::Place, 1), (Call::Release, 2), (Call::Discard, 3)] {
+        let once = list(call, 8).to_bytes();
+        for twice in [&run, &bucket] {
+            let mut twice = [twice, &once[..], twice].concat();
+            let due = Due::refused(22);
+            assert_eq!(ARCHIVE.hold(byte, &twice, SUMS, 100, due), Ok(()));
+            assert_eq!(ARCHIVE.hold(SORT, &twice, 0, 1_000, due), Ok(()));
+            assert_eq!(ARCHIVE.hold_apply(&twice, &[], 1_000, due), Ok(()));
+            let broken = Due::refused(2);
+            assert_eq!(ARCHIVE.hold_apply(&twice, &[76], 1_000, broken), Ok(()));
+            twice.push(0);
+            assert_eq!(ARCHIVE.hold(byte, &twice, SUMS, 100, broken), Ok(()));
+            assert_eq!(ARCHIVE.hold(SORT, &twice, 0, 1_000, broken), Ok(()));
+        }
+        // Once it passes a limit, or does nothing.
+        let once = [&bucket, &once[..]].concat();
+        let due = Due::refused(3);
+        assert_eq!(ARCHIVE.hold(byte, &once, SUMS, 100, due), Ok(()));
+        assert_eq!(ARCHIVE.hold(SORT, &once, 0, 1_000, due), Ok(()));
+    }
+}
+
 /// Each function refuses with its own numbers, through the crate's own calls too.
 #[test]
 fn refusals() {
@@ -237,6 +318,10 @@ fn refusals() {
     );
     let next = zerglaz::apply(&place, &[], &mut out[..41]);
     assert_eq!(next, Err(Refusal::OutputTooShort));
+    let sorted = zerglaz::sort(&place, &mut out[..41]);
+    assert_eq!(sorted, Err(Refusal::OutputTooShort));
+    let twice = [&place[..], &field(64, &[0; 4]), &field(64, &[0; 4])].concat();
+    assert_eq!(zerglaz::sort(&twice, &mut out), Err(Refusal::StandsTwice));
     assert_eq!(out, [7; 100]);
 }
 
@@ -249,6 +334,7 @@ fn empty_slices() {
         assert_eq!(held, Ok(()));
     }
     assert_eq!(ARCHIVE.hold_apply(&[], &[], 0, Due::refused(2)), Ok(()));
+    assert_eq!(ARCHIVE.hold(SORT, &[], 0, 0, Due::refused(2)), Ok(()));
 }
 
 /// The C header, its blanks made single.
@@ -283,7 +369,7 @@ fn header_names_the_refusals() {
     assert!(list.contains("ZERGLAZ_ACCEPTED = 0,"));
     for refusal in Refusal::ALL {
         let (name, number) = (c_name(refusal), refusal.number());
-        let end = if number == 21 { " " } else { "," };
+        let end = if number == 22 { " " } else { "," };
         assert!(list.contains(&format!(" {name} = {number}{end}")), "{name}");
     }
     assert_eq!(number("SUMS"), SUMS);
@@ -370,6 +456,7 @@ fn header_declares_the_calls() {
             "uint32_t zerglaz_apply(const uint8_t *volume, size_t volume_len, \
              const uint8_t *change, size_t change_len, {answer}"
         ),
+        format!("uint32_t zerglaz_sort({list}, {answer}"),
     ];
     for declaration in declarations {
         assert!(header.contains(&declaration), "{declaration}");

@@ -1,16 +1,18 @@
-//! Random histories through the archive: each number is the model's, each answer is applied by the
-//! archive and by the model with the same bytes, and demand 3 is counted on the volume after each
-//! step.
+//! Random histories through the archive, their lists in any order: each number is the model's, each
+//! answer is applied by the archive and by the model with the same bytes, and demand 3 is counted on the
+//! volume after each step.
 
 mod common;
 
 use common::ARCHIVE;
 use lists::apply::apply;
-use lists::call_list::{CallList, RELEASE};
+use lists::call_list::RELEASE;
 use lists::history::{History, Tally};
 use lists::lent::Due;
-use lists::model::{verdict, SUMS};
+use lists::model::{verdict, SORT, SUMS};
+use lists::order::without_requests;
 use lists::rng::Rng;
+use lists::sort::sort;
 use std::collections::BTreeSet;
 use zerglaz::limits::RETIRED_GENERATION;
 use zerglaz::{CallListRef, ChangeListRef};
@@ -31,15 +33,27 @@ fn call(rng: &mut Rng, call: u8, list: &[u8]) -> Option<Vec<u8>> {
     };
     let number = answer.map_or_else(|refusal| refusal.number(), |_| 0);
     assert_eq!(number, verdict(call, list, scratch, room));
+    hold_sort(list);
     out.truncate(answer.ok()?);
     hold_apply(list, &out);
     Some(out)
 }
 
-/// The archive's apply gives the model's next volume, or its number; that volume passes the checks
-/// of `Volume::open`.
+/// The archive's sorted form is the model's.
+fn hold_sort(list: &[u8]) {
+    let (number, sorted) = sort(list, usize::MAX);
+    let due = Due {
+        number,
+        bytes: &sorted,
+    };
+    let held = ARCHIVE.hold(SORT, list, 0, list.len(), due);
+    held.unwrap_or_else(|why| panic!("sort: {why}"));
+}
+
+/// The archive's apply gives the model's next volume, or its number, the list without its requests
+/// standing as it does; that volume passes the checks of `Volume::open`.
 fn hold_apply(list: &[u8], change: &[u8]) {
-    let volume = CallList::read(list).expect("a call list").volume().bytes();
+    let volume = without_requests(list);
     let (number, next) = apply(&volume, change, usize::MAX);
     let due = Due {
         number,
@@ -68,6 +82,7 @@ fn demand_3() {
     println!("{HISTORIES} histories of {STEPS} steps: {sum:?}");
     assert!(sum.placed > 300 && sum.released > 300 && sum.discarded > 300 && sum.refused > 300);
     assert!(sum.highest_generation > 0);
+    assert!(sum.in_order > 500 && sum.in_order < HISTORIES * STEPS / 2);
 }
 
 /// One long history, in which buckets come round often: until they have had every generation but

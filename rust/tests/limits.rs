@@ -7,6 +7,8 @@ use lists::call_list::{
 };
 use lists::key::Key;
 use lists::model;
+use lists::order::shuffled;
+use lists::rng::Rng;
 use zerglaz::limits::{
     BASE_END, KEPT_BACK, MAX_BUCKETS, MAX_CALL_LIST, MAX_DISCARD_CHANGE, MAX_JOURNAL_RESERVE,
     MAX_KEYS, MAX_PIECE_SECTORS, MAX_PLACE_CHANGE, MAX_RELEASE_CHANGE, MAX_REQUESTS, MAX_RESERVED,
@@ -92,6 +94,8 @@ fn volume() {
     let bytes = volume.bytes();
     assert_eq!(bytes.len(), MAX_VOLUME);
     attains(MAX_VOLUME, |out| zerglaz::apply(&bytes, &[], out));
+    let other = shuffled(&mut Rng::new(2), &bytes);
+    attains(MAX_VOLUME, |out| zerglaz::apply(&other, &[], out));
     volume.insert(ALLOC, long_key(22, 2, 0));
     let more = zerglaz::apply(&volume.bytes(), &[], &mut vec![0; MAX_VOLUME + 1_000]);
     assert_eq!(more, Err(Refusal::LimitPassed));
@@ -120,7 +124,8 @@ fn runs() -> impl Iterator<Item = Key> {
     empty.chain([last])
 }
 
-/// The longest call list is a placement, and its change list is the longest of a placement.
+/// The longest call list is a placement, its change list is the longest of a placement, and its sorted
+/// form is as long as it is.
 #[test]
 fn place() {
     let mut list = list(PLACE);
@@ -130,6 +135,9 @@ fn place() {
     let bytes = list.bytes();
     assert_eq!(bytes.len(), MAX_CALL_LIST);
     attains(MAX_PLACE_CHANGE, |out| zerglaz::place(&bytes, out));
+    let other = shuffled(&mut Rng::new(1), &bytes);
+    attains(MAX_PLACE_CHANGE, |out| zerglaz::place(&other, out));
+    attains(MAX_CALL_LIST, |out| zerglaz::sort(&other, out));
     list.places.push(list.places[0].clone());
     let more = zerglaz::place(&list.bytes(), &mut vec![0; MAX_PLACE_CHANGE]);
     assert_eq!(more, Err(Refusal::LimitPassed));

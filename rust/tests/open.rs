@@ -1,8 +1,10 @@
 //! Volumes that `Volume::open` takes, and each fault by which it refuses one.
 
+use lists::order::{doubled, shuffled};
+use lists::rng::Rng;
 use zerglaz::{
-    key_type, Bucket, CallList, DeviceSector, Error, Fault, FileSector, Format, Key, Live, Piece,
-    Position, Refusal, Tree, Volume,
+    key_type, Bucket, CallList, CallListRef, DeviceSector, Error, Fault, FileSector, Format, Key,
+    Live, Piece, Position, Refusal, Tree, Volume,
 };
 
 /// A volume of 60 buckets of 128 sectors: bucket 0 waits, bucket 1 was discarded, bucket 2 holds a
@@ -77,6 +79,24 @@ fn reached() {
     assert_eq!(opened_with_other_heads(), Ok(()));
 }
 
+/// The fields of a volume in any order open the same volume, and its bytes are in order.
+#[test]
+fn any_order() {
+    let bytes = volume().into_bytes();
+    for seed in 0..40 {
+        let other = shuffled(&mut Rng::new(seed), &bytes);
+        let opened = Volume::open(&other).expect("a volume that was reached");
+        assert_eq!(opened.bytes(), bytes);
+        let list = CallListRef::read(&other).expect("a volume");
+        assert_eq!(list.check(), Ok(()));
+        assert_eq!(
+            (list.usage(), list.buckets()),
+            (opened.usage(), opened.buckets())
+        );
+        assert!(list.live().eq(opened.live()));
+    }
+}
+
 /// What may change between steps may change between openings.
 fn opened_with_other_heads() -> Result<(), Error> {
     opened(|list| {
@@ -104,6 +124,12 @@ fn refused() {
     assert_eq!(far, refused(Refusal::LimitPassed));
     let none = opened(|list| list.head.bucket_sectors = 0);
     assert_eq!(none, refused(Refusal::NoBucketSectors));
+    for seed in 0..40 {
+        let twice = doubled(&mut Rng::new(seed), &bytes);
+        assert_eq!(open(&twice), refused(Refusal::StandsTwice));
+        let read = CallListRef::read(&twice).map(|_| ());
+        assert_eq!(read, Err(Refusal::StandsTwice));
+    }
 }
 
 /// Freespace keys.

@@ -1,9 +1,11 @@
 //! The sizes at which a call changes its tables: a list of at most 3,072 bytes is read with a short
 //! one, and a discard of at most 64 alloc and 16 need-discard keys searches these. Keys that a call
-//! does not look at leave its answer as it is on both sides of each size.
+//! does not look at leave its answer as it is on both sides of each size, in any order of the fields.
 
 use lists::call_list::{CallList, ALLOC, DISCARD, LRU, NEED_DISCARD, PLACE, RELEASE};
 use lists::key::{Key, KEY_BYTES, VALUE_MAX};
+use lists::order::shuffled;
+use lists::rng::Rng;
 use lists::timed::{self, Volume};
 use zerglaz::SUMS;
 
@@ -12,8 +14,18 @@ const LEAST: usize = 3 + KEY_BYTES;
 /// The longest list that is read with a short table.
 const SHORT: usize = 3_072;
 
-/// The change list of a call, which accepts.
+/// The change list of a call, which accepts, in this order and in some others.
 fn answer(call: u8, list: &[u8]) -> Vec<u8> {
+    let answer = answer_to(call, list);
+    let mut rng = Rng::new(list.len() as u64);
+    for _ in 0..3 {
+        assert_eq!(answer_to(call, &shuffled(&mut rng, list)), answer);
+    }
+    answer
+}
+
+/// The change list of a call, which accepts.
+fn answer_to(call: u8, list: &[u8]) -> Vec<u8> {
     let mut out = vec![0; 1 << 20];
     let written = match call {
         PLACE => zerglaz::place(list, &mut out),

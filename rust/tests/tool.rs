@@ -4,6 +4,9 @@
 #[allow(dead_code)]
 mod lines;
 
+use lists::order::{doubled, shuffled, without_requests};
+use lists::rng::Rng;
+use lists::sort::sorted_form;
 use lists::vectors::{applies, calls};
 use std::fs::File;
 use std::io::Write;
@@ -130,6 +133,33 @@ fn calls_and_applies() {
     }
 }
 
+/// Lists and volumes in any order: the calls and apply give the stored bytes, sort the sorted form, and a
+/// volume is shown as it is in order.
+#[test]
+fn any_order() {
+    let mut rng = Rng::new(22);
+    for name in ["place", "release", "discard"] {
+        let accepted = calls(&vectors(name)).into_iter().filter(|v| v.number == 0);
+        for v in accepted.step_by(25) {
+            let other = shuffled(&mut rng, &v.list);
+            assert_eq!(written(&["call"], &other), v.answer, "{}", v.id);
+            let sorted = sorted_form(&v.list).expect("whole fields");
+            assert_eq!(written(&["sort"], &other), sorted, "{}", v.id);
+            let hex = text(&["sort", "--hex"], &other);
+            assert_eq!(written(&["sort"], hex.as_bytes()), sorted, "{}", v.id);
+            let list = file(&format!("list-{}", v.id), &other);
+            let next = written(&["apply", &list], &v.answer);
+            let due = lists::apply::apply(&without_requests(&v.list), &v.answer, usize::MAX);
+            assert_eq!((0, next), due, "{}", v.id);
+        }
+    }
+    let volume = volume().into_bytes();
+    let other = shuffled(&mut rng, &volume);
+    for command in ["show", "draw"] {
+        assert_eq!(text(&[command], &other), text(&[command], &volume));
+    }
+}
+
 /// The examples are hexadecimal text; a call list's requests are left out where a volume is asked
 /// for.
 #[test]
@@ -208,15 +238,25 @@ fn refusals() {
     let told = "zerglaz: refused 11: too few buckets are free\n";
     assert_eq!(failure(&["call", &too_much], &[]), (1, told.into()));
     let change = [76, 0, 1];
-    let volume = volume().into_bytes();
-    let volume = file("volume-of-refusals", &volume);
+    let bytes = volume().into_bytes();
+    let volume = file("volume-of-refusals", &bytes);
     let told = "zerglaz: refused 2: a list breaks its layout or is another call's\n";
     assert_eq!(failure(&["apply", &volume], &change), (1, told.into()));
     assert_eq!(failure(&["call"], &change), (1, told.into()));
-    let told = "zerglaz: the list breaks its layout\n";
-    for command in ["lines", "show", "draw"] {
+    for command in ["show", "draw", "sort"] {
         assert_eq!(failure(&[command], &change), (1, told.into()));
     }
+    let twice = doubled(&mut Rng::new(1), &bytes);
+    let told = "zerglaz: refused 22: a position of a tree or a reserved bucket stands twice\n";
+    for command in ["call", "show", "draw", "sort"] {
+        assert_eq!(failure(&[command], &twice), (1, told.into()));
+    }
+    assert_eq!(
+        failure(&["apply", &file("twice", &twice)], &[]),
+        (1, told.into())
+    );
+    let told = "zerglaz: the list breaks its layout\n";
+    assert_eq!(failure(&["lines"], &change), (1, told.into()));
     let told = "zerglaz: line 2 is no hexadecimal text\n";
     assert_eq!(failure(&["lines"], b"4c 00 00\nxy"), (1, told.into()));
 }
@@ -224,7 +264,7 @@ fn refusals() {
 /// Other words than the commands: status 2, with what the program takes.
 #[test]
 fn usage() {
-    let wrong: [&[&str]; 9] = [
+    let wrong: [&[&str]; 10] = [
         &[],
         &["list"],
         &["lines", "a", "b"],
@@ -233,6 +273,7 @@ fn usage() {
         &["apply"],
         &["apply", "-", "-"],
         &["call", "a", "b"],
+        &["sort", "a", "b"],
         &["--help", "me"],
     ];
     for words in wrong {

@@ -1,4 +1,5 @@
-/* The four calls from C, by the header: the printed case of docs/FORMAT.md, "The program bucketlines", its apply, and refusals. */
+/* The five calls from C, by the header: the printed case of docs/FORMAT.md, "The program bucketlines", its apply, its fields in another order,
+ * its sorted form, and refusals. */
 #include <zerglaz.h>
 
 #include <stdio.h>
@@ -84,6 +85,18 @@ static struct list before(void) {
     return list;
 }
 
+/* Its fields in another order, the need-discard key so often. */
+static struct list mixed(int often) {
+    struct list list = {{0}, 0};
+    put_key(&list, 12, 25, 0, 8, 5, NULL, 0);
+    put_key(&list, 4, 27, 0, 0, 5, waiting, 8);
+    put_head(&list, 3);
+    for (int i = 1; i < often; i++) {
+        put_key(&list, 12, 25, 0, 8, 5, NULL, 0);
+    }
+    return list;
+}
+
 /* The change list that is printed there. */
 static struct list printed(void) {
     struct list list = {{0}, 0};
@@ -146,6 +159,27 @@ int main(void) {
     memset(out, 0xa5, sizeof out);
     number = zerglaz_apply(volume.bytes, volume.length, change.bytes, change.length, out, sizeof out, &written);
     expect("apply", number == ZERGLAZ_ACCEPTED && holds(&next, written));
+    memset(out, 0xa5, sizeof out);
+    struct list other = mixed(1), twice = mixed(2);
+    number = zerglaz_sort(other.bytes, other.length, out, other.length - 1, &written);
+    expect("sort, a short output", number == ZERGLAZ_OUTPUT_TOO_SHORT && untouched(written));
+    number = zerglaz_sort(twice.bytes, twice.length, out, sizeof out, &written);
+    expect("sort, a key twice", number == ZERGLAZ_STANDS_TWICE && untouched(written));
+    number = zerglaz_discard(twice.bytes, twice.length, out, sizeof out, &written);
+    expect("discard, a key twice", number == ZERGLAZ_STANDS_TWICE && untouched(written));
+    number = zerglaz_apply(twice.bytes, twice.length, change.bytes, change.length, out, sizeof out, &written);
+    expect("apply, a key twice", number == ZERGLAZ_STANDS_TWICE && untouched(written));
+    number = zerglaz_sort(other.bytes, other.length, out, sizeof out, &written);
+    expect("sort", number == ZERGLAZ_ACCEPTED && holds(&volume, written));
+    memset(out, 0xa5, sizeof out);
+    number = zerglaz_sort(volume.bytes, volume.length, out, sizeof out, &written);
+    expect("sort, in order", number == ZERGLAZ_ACCEPTED && holds(&volume, written));
+    memset(out, 0xa5, sizeof out);
+    number = zerglaz_discard(other.bytes, other.length, out, sizeof out, &written);
+    expect("discard, in another order", number == ZERGLAZ_ACCEPTED && holds(&change, written));
+    memset(out, 0xa5, sizeof out);
+    number = zerglaz_apply(other.bytes, other.length, change.bytes, change.length, out, sizeof out, &written);
+    expect("apply, in another order", number == ZERGLAZ_ACCEPTED && holds(&next, written));
 #ifdef INSTALLED_VERSION
     expect("the version", strcmp(ZERGLAZ_VERSION, INSTALLED_VERSION) == 0);
 #endif

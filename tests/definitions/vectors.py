@@ -40,10 +40,10 @@ def read(call):
 
 
 def spread(vectors, count):
-    """The first few of each number in turn, so that every number is met before any is met often."""
+    """The first few of each number in turn, so that every number is met before any is met often; lists in another order count apart."""
     by_number = {}
     for v in vectors:
-        by_number.setdefault(v[1], []).append(v)
+        by_number.setdefault((v[1], "-order-" in v[0]), []).append(v)
     out, turn = [], 0
     while len(out) < count and any(len(vs) > turn for vs in by_number.values()):
         for number in sorted(by_number):
@@ -60,7 +60,7 @@ def write(copy, chosen):
     proofs.mkdir()
     (proofs / "Lib.antt").write_text("pub mod Vectors\n")
     lines = ["use mathlib.Core.Path.{_≡_, refl}", "use mathlib.Core.List.{List, [], _∷_}",
-             "use Rattle.calls.specs.Answers.{Answer, place, release, discard, apply}", ""]
+             "use Rattle.calls.specs.Answers.{Answer, place, release, discard, apply, sort}", ""]
     for i, (name, number, term, answer) in enumerate(chosen):
         call = term.split()[0]
         lines += [f"-- {name}", f"v{i} : {term} ≡ record {{ number = {number}; written = {answer} }}", f"unfolding {call}", f"v{i} = refl", ""]
@@ -70,8 +70,9 @@ def write(copy, chosen):
 def main():
     if len(sys.argv) != 2 or not sys.argv[1].isdigit():
         sys.exit(__doc__)
-    share = -(-int(sys.argv[1]) // 4)
-    chosen = [v for call in ("place", "release", "discard", "apply") for v in spread(read(call), share)]
+    calls = ("place", "release", "discard", "apply", "sort")
+    share = -(-int(sys.argv[1]) // len(calls))
+    chosen = [v for call in calls for v in spread(read(call), share)]
     workspace.prove(["calls"])
     copy = workspace.make("calls", "definitions")
     write(copy, chosen)

@@ -1,4 +1,5 @@
-//! Apply, written from the source of docs/FORMAT.md alone: a volume and a change list give the next volume.
+//! Apply, written from the source of docs/FORMAT.md alone: a volume, its fields in any order, and a
+//! change list give the next volume, which is in order.
 
 use crate::call_list::{CallList, TREES};
 use crate::change_list::{self, Batch};
@@ -22,13 +23,16 @@ pub fn apply(volume: &[u8], change: &[u8], out: usize) -> (u32, Vec<u8>) {
     }
 }
 
-/// The next volume's bytes, or 2 or 3.
+/// The next volume's bytes, or 2, 22 or 3.
 fn next_volume(volume: &[u8], change: &[u8]) -> Result<Vec<u8>, u32> {
     let volume = CallList::read(volume).ok_or(2u32)?;
     if volume.requests() != 0 {
         return Err(2);
     }
     let batches = change_list::read(change).ok_or(2u32)?;
+    if volume.stands_twice() {
+        return Err(22);
+    }
     if passes_a_limit(&volume) {
         return Err(3);
     }

@@ -1,8 +1,9 @@
-//! The call list, which every call reads, and the layout that refusal 2 tests.
+//! The call list, which every call reads in whatever order its fields stand, the layout that refusal 2
+//! tests, and what refusal 22 finds twice.
 
 use crate::fields::{number, put, split, Field};
-use crate::key::Key;
-use std::collections::BTreeMap;
+use crate::key::{Key, Position};
+use std::collections::{BTreeMap, BTreeSet};
 
 /// The calls by their call byte.
 pub const PLACE: u8 = 1;
@@ -62,7 +63,7 @@ pub struct Release {
     pub sectors: u16,
 }
 
-/// A call list, or a volume where it has no requests.
+/// A call list, or a volume where it has no requests; keys by position and reserved buckets by number.
 #[derive(Debug, Clone, PartialEq, Eq, Default)]
 pub struct CallList {
     pub head: Head,
@@ -143,7 +144,23 @@ impl CallList {
         }
     }
 
-    /// The list's bytes.
+    /// Whether it holds requests of a call that it does not name.
+    pub fn holds_others_requests(&self) -> bool {
+        (self.head.call != PLACE && !self.places.is_empty())
+            || (self.head.call != RELEASE && !self.releases.is_empty())
+    }
+
+    /// Refusal 22: two keys of a tree stand at one position, or a reserved bucket stands twice.
+    pub fn stands_twice(&self) -> bool {
+        let twice = |keys: &Vec<Key>| {
+            let positions: BTreeSet<Position> = keys.iter().map(Key::position).collect();
+            positions.len() < keys.len()
+        };
+        let reserved: BTreeSet<u32> = self.reserved.iter().copied().collect();
+        self.trees.values().any(twice) || reserved.len() < self.reserved.len()
+    }
+
+    /// The list's bytes, in order: those of its sorted form.
     pub fn bytes(&self) -> Vec<u8> {
         let mut out = Vec::new();
         put(&mut out, HEAD, &self.head.body());
@@ -164,52 +181,52 @@ impl CallList {
         out
     }
 
-    /// The list in `bytes`, of whichever call, or none where it breaks its layout.
+    /// The list in `bytes`, of whichever call, or none where it breaks its layout. Its fields stand in
+    /// any order; requests keep theirs.
     pub fn read(bytes: &[u8]) -> Option<CallList> {
         let fields = split(bytes)?;
-        let heads = fields.iter().filter(|f| f.tag == HEAD).count();
-        if heads != 1 || fields.windows(2).any(|w| w[0].tag > w[1].tag) {
+        if fields.iter().filter(|f| f.tag == HEAD).count() != 1 {
             return None;
         }
         let mut list = CallList::default();
         for field in fields {
             list.take(field)?;
         }
+        for keys in list.trees.values_mut() {
+            keys.sort_by_key(Key::position);
+        }
+        list.reserved.sort();
         Some(list)
     }
 
     /// Take one field at the list's end, or none where it breaks the layout.
     fn take(&mut self, field: Field) -> Option<()> {
+        let body = field.body;
         match field.tag {
-            HEAD => self.head = Head::read(field.body)?,
-            RESERVED => self.take_reserved(field.body)?,
-            PLACED => self.places.push(Place::read(field.body)?),
-            RELEASED => self.releases.push(Release::read(field.body)?),
-            tree if TREES.contains(&tree) => self.take_key(tree, Key::read(field.body)?)?,
+            HEAD => self.head = Head::read(body)?,
+            RESERVED => self
+                .reserved
+                .push(u32::from_le_bytes(body.try_into().ok()?)),
+            PLACED => self.places.push(Place::read(body)?),
+            RELEASED => self.releases.push(Release::read(body)?),
+            tree if TREES.contains(&tree) => {
+                let key = Key::read(body).filter(|key| key.snapshot == 0)?;
+                self.trees.entry(tree).or_default().push(key);
+            }
             _ => return None,
         }
         Some(())
     }
+}
 
-    /// Take a key: its snapshot is 0 and it stands after the key before it.
-    fn take_key(&mut self, tree: u8, key: Key) -> Option<()> {
-        let keys = self.trees.entry(tree).or_default();
-        let ascends = keys.last().is_none_or(|k| k.position() < key.position());
-        if key.snapshot != 0 || !ascends {
-            return None;
-        }
-        keys.push(key);
-        Some(())
-    }
-
-    /// Take a reserved bucket: four bytes, above the one before it.
-    fn take_reserved(&mut self, body: &[u8]) -> Option<()> {
-        let bucket = u32::from_le_bytes(body.try_into().ok()?);
-        if self.reserved.last().is_some_and(|&b| b >= bucket) {
-            return None;
-        }
-        self.reserved.push(bucket);
-        Some(())
+/// The call byte of a list: that of its one field 1, wherever it stands; 0 where there is none or more
+/// than one.
+pub fn call_byte(list: &[u8]) -> u8 {
+    let fields = split(list).unwrap_or_default();
+    let mut heads = fields.iter().filter(|f| f.tag == HEAD);
+    match (heads.next(), heads.next()) {
+        (Some(head), None) => head.body.first().copied().unwrap_or(0),
+        _ => 0,
     }
 }
 

@@ -2,11 +2,12 @@
 
 use crate::call_list::RELEASE;
 use crate::generate::{list, Size};
-use crate::model::SUMS;
+use crate::model::{SORT, SUMS};
+use crate::order::{doubled, shuffled};
 use crate::rng::Rng;
 use crate::spoil::{damage, numbers, spoil};
 
-/// A call to make: the list, the scratch's sums and what is asked of the output.
+/// A call to make, or a sort: the list, the scratch's sums and what is asked of the output.
 #[derive(Debug, Clone, PartialEq, Eq)]
 pub struct Candidate {
     pub call: u8,
@@ -26,24 +27,34 @@ pub enum Room {
     Under(usize),
 }
 
-/// The candidate of a seed: `wanted` is 0 for an accepted list, or the number to spoil towards.
+/// The candidate of a seed: `wanted` is 0 for an accepted list, or the number to spoil towards. A list
+/// to sort names any call, and stands in any order.
 pub fn candidate(seed: u64, call: u8, size: Size, wanted: u32) -> Candidate {
     let mut rng = Rng::new(seed ^ u64::from(call) << 56 ^ u64::from(wanted) << 48);
-    let mut l = list(&mut rng, call, size);
+    let named = match call {
+        SORT => rng.from_to(1, 3) as u8,
+        call => call,
+    };
+    let mut l = list(&mut rng, named, size);
     if wanted != 0 {
         spoil(&mut rng, &mut l, wanted);
         // A second fault at times, so that the order of refusals is seen.
         if rng.one_in(4) {
-            let second = rng.pick(numbers(call));
+            let others: Vec<u32> = numbers(call).iter().copied().filter(|&n| n != 22).collect();
+            let second = rng.pick(&others);
             spoil(&mut rng, &mut l, second);
         }
     }
-    let bytes = l.bytes();
-    let list = if wanted == 2 || (wanted == 1 && rng.one_in(3)) {
-        damage(&mut rng, &bytes)
-    } else {
-        bytes
-    };
+    let mut list = l.bytes();
+    if wanted == 2 || (wanted == 1 && rng.one_in(3)) {
+        list = damage(&mut rng, &list);
+    }
+    if wanted == 22 {
+        list = doubled(&mut rng, &list);
+    }
+    if call == SORT && !rng.one_in(8) {
+        list = shuffled(&mut rng, &list);
+    }
     Candidate {
         call,
         list,
@@ -79,6 +90,16 @@ fn room(rng: &mut Rng, wanted: u32) -> Room {
         (21, _) => Room::Under(rng.from_to(1, 4) as usize),
         (_, 0) => Room::Exact,
         _ => Room::Over(rng.from_to(1, 100) as usize),
+    }
+}
+
+impl Candidate {
+    /// The same call, its list in another order.
+    pub fn shuffled(&self, rng: &mut Rng) -> Candidate {
+        Candidate {
+            list: shuffled(rng, &self.list),
+            ..self.clone()
+        }
     }
 }
 

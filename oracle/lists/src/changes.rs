@@ -7,6 +7,7 @@ use crate::candidate::Room;
 use crate::change_list::{self, Batch, Placed, Row, EXTENTS};
 use crate::generate::{list, Size};
 use crate::key::Key;
+use crate::order::{doubled, shuffled};
 use crate::rng::Rng;
 use crate::spoil::{damage, spoil};
 
@@ -18,7 +19,7 @@ pub struct Applied {
     pub room: Room,
 }
 
-/// The apply of a seed: `wanted` is 0, 2, 3 or 21.
+/// The apply of a seed: `wanted` is 0, 2, 3, 21 or 22.
 pub fn applied(seed: u64, size: Size, wanted: u32) -> Applied {
     let mut rng = Rng::new(seed ^ 4 << 56 ^ u64::from(wanted) << 48);
     let call = rng.from_to(1, 3) as u8;
@@ -40,6 +41,16 @@ pub fn applied(seed: u64, size: Size, wanted: u32) -> Applied {
             _ => change = damage(&mut rng, &change),
         }
     }
+    if wanted == 22 {
+        volume = doubled(&mut rng, &volume);
+        // A limit too at times, or no change.
+        match rng.below(4) {
+            0 => pass_a_limit(&mut rng, &mut batches),
+            1 => batches.clear(),
+            _ => (),
+        }
+        change = change_list::bytes(&batches);
+    }
     let room = match (wanted, rng.below(3)) {
         (21, 0) => Room::Under(usize::MAX),
         (21, _) => Room::Under(rng.from_to(1, 4) as usize),
@@ -50,6 +61,16 @@ pub fn applied(seed: u64, size: Size, wanted: u32) -> Applied {
         volume,
         change,
         room,
+    }
+}
+
+impl Applied {
+    /// The same apply, its volume in another order.
+    pub fn shuffled(&self, rng: &mut Rng) -> Applied {
+        Applied {
+            volume: shuffled(rng, &self.volume),
+            ..self.clone()
+        }
     }
 }
 

@@ -1,17 +1,19 @@
 //! Lists at the edges of the rules of docs/FORMAT.md: each way to break the layout, both sides of each
-//! limit, and both sides of each refusal, by name. Some are accepted and some refused.
+//! limit, and both sides of each refusal, by name. Some are accepted and some refused. Those of the order
+//! of fields and of refusal 22 are in `order_edges`.
 
 use crate::call_list::{
     CallList, Head, Place, Release, ALLOC, BUCKET_GENS, FREESPACE, LRU, NEED_DISCARD, PLACE,
     RELEASE,
 };
-use crate::fields::{put, split};
+use crate::fields::{joined, put, split};
 use crate::key::Key;
+use crate::order_edges::order_edges;
 
 /// A list by name.
 pub type Edge = (String, Vec<u8>);
 
-/// The edges of a call.
+/// The edges of a call; last those of the order of its fields.
 pub fn edges(call: u8) -> Vec<Edge> {
     let base = base(call);
     let mut edges = layout_edges(&base);
@@ -21,6 +23,15 @@ pub fn edges(call: u8) -> Vec<Edge> {
         RELEASE => release_edges(&base),
         _ => discard_edges(&base),
     });
+    edges.extend(order_edges(&base));
+    edges
+}
+
+/// The edges that lists of every call have: of the layout, of the limits and of the order.
+pub fn list_edges(base: &CallList) -> Vec<Edge> {
+    let mut edges = layout_edges(base);
+    edges.extend(limit_edges(base));
+    edges.extend(order_edges(base));
     edges
 }
 
@@ -61,7 +72,7 @@ pub fn base(call: u8) -> CallList {
 }
 
 /// A run by its end and size.
-fn run(end: u64, size: u32) -> Key {
+pub(crate) fn run(end: u64, size: u32) -> Key {
     Key {
         size,
         ..Key::at(25, 0, end)
@@ -69,7 +80,7 @@ fn run(end: u64, size: u32) -> Key {
 }
 
 /// A piece to place.
-fn piece(file: u16, stored: u16, kind: u8) -> Place {
+pub(crate) fn piece(file: u16, stored: u16, kind: u8) -> Place {
     Place {
         file,
         stored,
@@ -93,14 +104,18 @@ fn alloc(bucket: u64, data_type: u8, dirty: u32) -> Key {
 }
 
 /// A list changed, by name.
-fn edge(base: &CallList, name: &str, change: impl Fn(&mut CallList)) -> Edge {
+pub(crate) fn edge(base: &CallList, name: &str, change: impl Fn(&mut CallList)) -> Edge {
     let mut l = base.clone();
     change(&mut l);
     (name.to_string(), l.bytes())
 }
 
 /// A list with its fields changed, by name.
-fn field_edge(base: &CallList, name: &str, change: impl Fn(&mut Vec<(u8, Vec<u8>)>)) -> Edge {
+pub(crate) fn field_edge(
+    base: &CallList,
+    name: &str,
+    change: impl Fn(&mut Vec<(u8, Vec<u8>)>),
+) -> Edge {
     let bytes = base.bytes();
     let mut fields: Vec<(u8, Vec<u8>)> = split(&bytes)
         .expect("a base list has fields")
@@ -250,7 +265,7 @@ fn limit_edges(base: &CallList) -> Vec<Edge> {
     }));
     edges.push(edge(base, "limit passed and layout broken", |l| {
         l.head.base = 1 << 40;
-        l.reserved.push(70);
+        l.head.roots = 8;
     }));
     edges
 }
@@ -652,14 +667,17 @@ fn discard_edges(base: &CallList) -> Vec<Edge> {
     edges
 }
 
-/// The edges of apply: a volume and a change list by name.
+/// The edges of apply: a volume and a change list by name; last those of the order of the volume's
+/// fields.
 pub fn apply_edges() -> Vec<(String, Vec<u8>, Vec<u8>)> {
     let volume = base(2).volume();
-    let mut edges: Vec<(String, Vec<u8>, Vec<u8>)> = layout_edges(&volume)
-        .into_iter()
-        .chain(limit_edges(&volume))
-        .map(|(name, volume)| (format!("volume {name}"), volume, vec![76, 0, 0]))
-        .collect();
+    let named = |(name, volume): Edge| -> (String, Vec<u8>, Vec<u8>) {
+        (format!("volume {name}"), volume, vec![76, 0, 0])
+    };
+    let layout = layout_edges(&volume).into_iter();
+    let limits = limit_edges(&volume).into_iter();
+    let mut edges: Vec<_> = layout.chain(limits).map(named).collect();
+    let order = order_edges(&volume).into_iter().map(named);
     let volume = volume.bytes();
     let own_request = base(2).bytes();
     edges.push(("volume with requests".to_string(), own_request, Vec::new()));
@@ -671,8 +689,41 @@ pub fn apply_edges() -> Vec<(String, Vec<u8>, Vec<u8>)> {
         edges.push((format!("change {name}"), volume.clone(), change));
     }
     edges.push(("change cut".to_string(), volume.clone(), vec![76, 0]));
-    edges.push(("change past its end".to_string(), volume, vec![76, 1, 0]));
+    let past = "change past its end".to_string();
+    edges.push((past, volume.clone(), vec![76, 1, 0]));
+    edges.extend(order);
+    edges.extend(change_order(&volume));
     edges
+}
+
+/// Change lists over a volume that stands in another order, or in which a bucket stands twice.
+fn change_order(volume: &[u8]) -> Vec<(String, Vec<u8>, Vec<u8>)> {
+    let mut fields = split(volume).expect("a base list has fields");
+    fields.reverse();
+    let reversed = joined(fields.iter().copied());
+    let bucket = fields.iter().find(|f| f.tag == 64).copied();
+    fields.push(bucket.expect("a base list has one"));
+    let twice = joined(fields);
+    let deleted = Key::at(0, 0, 50).body();
+    let mut change = Vec::new();
+    put(&mut change, 11, &deleted);
+    put(&mut change, 71, &[9, 0, 0, 0]);
+    put(&mut change, 75, &[7, 0, 0, 0]);
+    put(&mut change, 76, &[]);
+    let mut far = Vec::new();
+    put(&mut far, 71, &[0, 0, 1, 0]);
+    put(&mut far, 76, &[]);
+    let named = |name: &str, volume: &[u8], change: &[u8]| {
+        (name.to_string(), volume.to_vec(), change.to_vec())
+    };
+    vec![
+        named("volume reversed, a change", &reversed, &change),
+        named("volume reversed, change cut", &reversed, &change[..9]),
+        named("volume reversed, bucket 65,536 taken", &reversed, &far),
+        named("bucket twice, a change", &twice, &change),
+        named("bucket twice, change cut", &twice, &change[..9]),
+        named("bucket twice, bucket 65,536 taken", &twice, &far),
+    ]
 }
 
 /// The fields of a change list, by name.

@@ -7,25 +7,37 @@ pub struct Field<'a> {
     pub body: &'a [u8],
 }
 
-/// The fields of `list` in order; none where a field passes the list's end.
+/// The fields of `list` as they stand; none where a field passes the list's end.
 pub fn split(list: &[u8]) -> Option<Vec<Field<'_>>> {
+    let (fields, rest) = split_whole(list);
+    rest.is_empty().then_some(fields)
+}
+
+/// The fields at the front of `list` that are whole, and the bytes that are left.
+pub fn split_whole(list: &[u8]) -> (Vec<Field<'_>>, &[u8]) {
     let mut fields = Vec::new();
     let mut rest = list;
-    while !rest.is_empty() {
-        if rest.len() < 3 {
-            return None;
-        }
-        let length = number(rest, 1, 2) as usize;
-        if rest.len() < 3 + length {
-            return None;
+    while rest.len() >= 3 {
+        let end = 3 + number(rest, 1, 2) as usize;
+        if rest.len() < end {
+            break;
         }
         fields.push(Field {
             tag: rest[0],
-            body: &rest[3..3 + length],
+            body: &rest[3..end],
         });
-        rest = &rest[3 + length..];
+        rest = &rest[end..];
     }
-    Some(fields)
+    (fields, rest)
+}
+
+/// The bytes of fields.
+pub fn joined<'a>(fields: impl IntoIterator<Item = Field<'a>>) -> Vec<u8> {
+    let mut out = Vec::new();
+    for field in fields {
+        put(&mut out, field.tag, field.body);
+    }
+    out
 }
 
 /// Append a field of `tag` and `body` to `out`.

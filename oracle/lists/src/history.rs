@@ -1,5 +1,5 @@
-//! Random histories from clean volumes, with what docs/FORMAT.md, "Clean volumes and histories", claims
-//! (demand 3) counted after each step.
+//! Random histories from clean volumes, their lists in any order, with what docs/FORMAT.md, "Clean volumes
+//! and histories", claims (demand 3) counted after each step.
 
 use crate::apply::apply;
 use crate::call_list::{CallList, Head, Release, ALLOC, DISCARD, FREESPACE, NEED_DISCARD};
@@ -9,6 +9,7 @@ use crate::fields::number;
 use crate::generate::{block, piece};
 use crate::key::Key;
 use crate::model::{runs, start, EXTENT};
+use crate::order::{shuffled, without_requests};
 use crate::rng::Rng;
 use std::collections::{BTreeMap, BTreeSet};
 
@@ -26,6 +27,7 @@ pub struct Live {
 /// What a history did.
 #[derive(Debug, Clone, Default, PartialEq, Eq)]
 pub struct Tally {
+    pub in_order: u64,
     pub placed: u64,
     pub released: u64,
     pub discarded: u64,
@@ -37,6 +39,7 @@ pub struct Tally {
 impl Tally {
     /// Add what another history did.
     pub fn add(&mut self, other: &Tally) {
+        self.in_order += other.in_order;
         self.placed += other.placed;
         self.released += other.released;
         self.discarded += other.discarded;
@@ -49,6 +52,7 @@ impl Tally {
 /// A history under way.
 pub struct History {
     rng: Rng,
+    order: Rng,
     volume: CallList,
     offered: BTreeSet<u64>,
     live: Vec<Live>,
@@ -63,6 +67,7 @@ impl History {
         let offered = free_buckets(&volume);
         History {
             rng,
+            order: Rng::new(!seed),
             volume,
             offered,
             live: Vec::new(),
@@ -70,15 +75,16 @@ impl History {
         }
     }
 
-    /// One step: `answer` gives a call's change list, or none where it refuses. An error says
-    /// how the step breaks demand 3.
+    /// One step, its list in any order: `answer` gives a call's change list, or none where it refuses.
+    /// An error says how the step breaks demand 3.
     pub fn step(&mut self, answer: &mut Call) -> Result<(), String> {
         let list = self.next_call();
-        let Some(change) = answer(list.head.call, &list.bytes()) else {
+        let bytes = self.in_some_order(&list);
+        let Some(change) = answer(list.head.call, &bytes) else {
             self.tally.refused += 1;
             return Ok(());
         };
-        let (refused, next) = apply(&list.volume().bytes(), &change, usize::MAX);
+        let (refused, next) = apply(&without_requests(&bytes), &change, usize::MAX);
         if refused != 0 {
             self.tally.dropped += 1;
             return Ok(());
@@ -86,6 +92,16 @@ impl History {
         self.volume = CallList::read(&next).ok_or("apply wrote a broken volume")?;
         self.move_live(&list, &change)?;
         self.claim()
+    }
+
+    /// The list's bytes, in order once in four times.
+    fn in_some_order(&mut self, list: &CallList) -> Vec<u8> {
+        let bytes = list.bytes();
+        if self.order.one_in(4) {
+            self.tally.in_order += 1;
+            return bytes;
+        }
+        shuffled(&mut self.order, &bytes)
     }
 
     /// The next call's list on the volume reached.

@@ -1,8 +1,8 @@
-//! The four calls on outputs and scratches that are watched: each is lent filled with a pattern and
+//! The five calls on outputs and scratches that are watched: each is lent filled with a pattern and
 //! with guards on both sides, and afterwards held to what one outcome leaves of it.
 
 use crate::call_list::{PLACE, RELEASE};
-use crate::model::SUMS;
+use crate::model::{SORT, SUMS};
 
 /// Bytes before and after a lent output, and sums before and after a lent scratch.
 const GUARD: usize = 64;
@@ -12,13 +12,14 @@ const UNWRITTEN: usize = 0xdead_beef;
 /// A call on a list and an output, by number and `written`.
 pub type OnList = fn(&[u8], &mut [u8], &mut usize) -> u32;
 
-/// The four calls under test.
+/// The five calls under test.
 #[derive(Clone, Copy)]
 pub struct Calls {
     pub place: OnList,
     pub release: fn(&[u8], &mut [u32], &mut [u8], &mut usize) -> u32,
     pub discard: OnList,
     pub apply: fn(&[u8], &[u8], &mut [u8], &mut usize) -> u32,
+    pub sort: OnList,
 }
 
 /// What a call is to answer: the number, and the bytes where it is 0.
@@ -41,12 +42,13 @@ impl<'a> Due<'a> {
 }
 
 impl Calls {
-    /// Make a call with a scratch of `scratch` sums and an output of `out` bytes, and hold its whole
-    /// outcome to what is due.
+    /// Make a call, or a sort, with a scratch of `scratch` sums and an output of `out` bytes, and hold its
+    /// whole outcome to what is due.
     pub fn hold(&self, call: u8, list: &[u8], scratch: usize, out: usize, due: Due) -> Held {
         match call {
             RELEASE => self.hold_release(list, scratch, out, due),
             PLACE => watch(out, due, |out, written| (self.place)(list, out, written)),
+            SORT => watch(out, due, |out, written| (self.sort)(list, out, written)),
             _ => watch(out, due, |out, written| (self.discard)(list, out, written)),
         }
     }
@@ -166,7 +168,7 @@ fn sum_at(i: usize) -> u32 {
 
 #[cfg(test)]
 mod tests {
-    use super::{Calls, Due, OnList, RELEASE, SUMS};
+    use super::{Calls, Due, OnList, RELEASE, SORT, SUMS};
 
     /// A discard that answers to any list with two bytes.
     fn two(_: &[u8], out: &mut [u8], written: &mut usize) -> u32 {
@@ -193,6 +195,7 @@ mod tests {
             },
             discard,
             apply: |_, _, out, written| two(&[], out, written),
+            sort: two,
         }
     }
 
@@ -200,7 +203,7 @@ mod tests {
     #[test]
     fn what_is_due_passes() {
         let calls = calls(two);
-        for call in 1..=3 {
+        for call in [1, 2, 3, SORT] {
             assert_eq!(calls.hold_rooms(call, &[], &[8, 9]), Ok(3));
             let due = Due::accepted(&[8, 9]);
             assert_eq!(calls.hold(call, &[], SUMS + 9, 100, due), Ok(()));
@@ -235,6 +238,11 @@ mod tests {
         for fault in faults {
             let due = Due::accepted(&[8, 9]);
             assert!(calls(fault).hold(3, &[], 0, 10, due).is_err());
+            let sort = Calls {
+                sort: fault,
+                ..calls(two)
+            };
+            assert!(sort.hold(SORT, &[], 0, 10, due).is_err());
         }
     }
 

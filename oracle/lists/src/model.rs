@@ -1,13 +1,19 @@
 //! The number that the order of docs/FORMAT.md, "Refusals", gives a call, written from its source alone.
 //!
-//! Refusal 2 is `CallList::read` with the call's own tests here. The model gives numbers and the
-//! answer's length, which 21 needs, and none of the answer's bytes.
+//! Refusal 2 is `CallList::read` with the call's own tests here, and 22 is `CallList::stands_twice`. The
+//! model gives numbers and the answer's length, which 21 needs, and none of the answer's bytes, but for
+//! those of sort (`sort`).
 
 use crate::call_list::{
     CallList, Place, Release, ALLOC, BUCKET_GENS, DISCARD, FREESPACE, NEED_DISCARD, PLACE, RELEASE,
 };
 use crate::key::Key;
+use crate::sort::sort;
 use std::collections::{BTreeMap, BTreeSet};
+
+/// Apply and sort among the calls, where a number stands for each: no call byte is one of these.
+pub const APPLY: u8 = 254;
+pub const SORT: u8 = 255;
 
 /// Four-byte sums that a release's scratch holds.
 pub const SUMS: usize = 65_536;
@@ -38,17 +44,23 @@ const ROW3_FIELD: usize = 43;
 const SECTORS_FIELD: usize = 11;
 const END_FIELD: usize = 3;
 
-/// The number that `call` answers to `list`, its scratch of `scratch` sums and its output of
+/// The number that `call`, or sort, answers to `list`, its scratch of `scratch` sums and its output of
 /// `out` bytes; 0 where it accepts.
 pub fn verdict(call: u8, list: &[u8], scratch: usize, out: usize) -> u32 {
+    if call == SORT {
+        return sort(list, out).0;
+    }
     if call == RELEASE && scratch < SUMS {
         return 1;
     }
     let Some(l) = CallList::read(list) else {
         return 2;
     };
-    if l.head.call != call || holds_others_requests(&l) {
+    if l.head.call != call || l.holds_others_requests() {
         return 2;
+    }
+    if l.stands_twice() {
+        return 22;
     }
     if passes_a_limit(&l) {
         return 3;
@@ -73,12 +85,6 @@ pub fn answer_length(l: &CallList) -> Option<usize> {
         DISCARD => discard(l).ok(),
         _ => None,
     }
-}
-
-/// Whether the list holds requests of a call that it does not name.
-fn holds_others_requests(l: &CallList) -> bool {
-    (l.head.call != PLACE && !l.places.is_empty())
-        || (l.head.call != RELEASE && !l.releases.is_empty())
 }
 
 /// Refusal 3, of call lists and volumes.

@@ -9,17 +9,18 @@ use crate::key::Key;
 use crate::model::{next_fit, runs};
 use crate::rng::Rng;
 
-/// The numbers that a call can answer, 0 aside.
+/// The numbers that a call, apply or sort can answer, 0 aside, in the order of their tests.
 pub fn numbers(call: u8) -> &'static [u32] {
     match call {
-        PLACE => &[2, 3, 4, 5, 6, 7, 8, 9, 10, 11, 12, 13, 21],
-        RELEASE => &[1, 2, 3, 4, 14, 15, 16, 17, 18, 19, 21],
-        DISCARD => &[2, 3, 20, 21],
-        _ => &[2, 3, 21],
+        PLACE => &[2, 22, 3, 4, 5, 6, 7, 8, 9, 10, 11, 12, 13, 21],
+        RELEASE => &[1, 2, 22, 3, 4, 14, 15, 16, 17, 18, 19, 21],
+        DISCARD => &[2, 22, 3, 20, 21],
+        _ => &[2, 22, 3, 21],
     }
 }
 
-/// Change a list towards `number`, 3 to 20; the model says what it answers then.
+/// Change a list towards `number`, 3 to 20; the model says what it answers then. Towards 2 and 22 its
+/// bytes are changed (`damage`, `order::doubled`).
 pub fn spoil(rng: &mut Rng, l: &mut CallList, number: u32) {
     match number {
         3 => pass_a_limit(rng, l),
@@ -294,7 +295,8 @@ fn shorten_a_record(rng: &mut Rng, l: &mut CallList) {
     );
 }
 
-/// A list with one field or byte damaged; most break the layout.
+/// A list with one field or byte damaged; most break the layout, and one that stands twice or elsewhere
+/// does not.
 pub fn damage(rng: &mut Rng, list: &[u8]) -> Vec<u8> {
     let fields: Vec<(u8, Vec<u8>)> = split(list)
         .unwrap_or_default()

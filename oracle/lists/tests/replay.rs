@@ -1,17 +1,22 @@
-//! Replays `vectors/` without the Rust text: the model gives each number, each answer decodes,
-//! and the lists at the limits are made again.
+//! Replays `vectors/` without the Rust text: the model gives each number, in any order of the fields
+//! too, each answer decodes, and the lists at the limits are made again.
 
 use lists::apply::apply;
 use lists::call_list::{CallList, DISCARD, PLACE, RELEASE};
 use lists::change_list::{self, Batch};
-use lists::model::{answer_length, verdict, KEYS, SUMS};
+use lists::model::{answer_length, verdict, KEYS, SORT, SUMS};
+use lists::order::shuffled;
+use lists::rng::Rng;
+use lists::sort::{sort, sorted_form};
 use lists::spoil::numbers;
 use lists::vectors::{self, Held, Vector};
 use lists::{changes, limits};
-use std::collections::BTreeSet;
+use std::collections::{BTreeMap, BTreeSet};
 
-/// The calls and their files.
+/// The calls that write change lists, and their files.
 const CALLS: [(u8, &str); 3] = [(PLACE, "place"), (RELEASE, "release"), (DISCARD, "discard")];
+/// All calls on one list, and their files.
+const ON_LISTS: [(u8, &str); 4] = [CALLS[0], CALLS[1], CALLS[2], (SORT, "sort")];
 
 /// A file of `vectors/`.
 fn file(name: &str) -> String {
@@ -19,14 +24,51 @@ fn file(name: &str) -> String {
     std::fs::read_to_string(&path).unwrap_or_else(|e| panic!("{path}: {e}"))
 }
 
-/// The model gives each vector's number, and a refused one has no answer.
+/// The model gives each vector's number, as its list stands and in other orders, and a refused one has no
+/// answer.
 #[test]
 fn numbers_of_calls() {
-    for (call, name) in CALLS {
+    let mut rng = Rng::new(9);
+    for (call, name) in ON_LISTS {
         for v in vectors::calls(&file(name)) {
-            let number = verdict(call, &v.list, v.scratch, v.out);
-            assert_eq!(number, v.number, "{}", v.id);
+            let number = |list: &[u8]| verdict(call, list, v.scratch, v.out);
+            assert_eq!(number(&v.list), v.number, "{}", v.id);
+            for _ in 0..4 {
+                assert_eq!(number(&shuffled(&mut rng, &v.list)), v.number, "{}", v.id);
+            }
             assert!(v.number == 0 || v.answer.is_empty(), "{}", v.id);
+        }
+    }
+}
+
+/// Lists of one sorted form have one answer, and some stand in two orders.
+#[test]
+fn one_answer_in_every_order() {
+    for (call, name) in ON_LISTS {
+        let mut answers: BTreeMap<Vec<u8>, Vec<u8>> = BTreeMap::new();
+        let mut again = 0;
+        for v in vectors::calls(&file(name)) {
+            if v.number == 0 {
+                let form = sorted_form(&v.list).expect("whole fields");
+                let before = answers.insert(form, v.answer.clone());
+                again += usize::from(before.is_some());
+                assert!(before.is_none_or(|answer| answer == v.answer), "{}", v.id);
+            }
+        }
+        assert!(again >= 20 || call == SORT, "{name}: {again}");
+    }
+}
+
+/// A sorted form is the model's, by fields and by what is read, and its own sorted form.
+#[test]
+fn sorted_forms() {
+    for v in vectors::calls(&file("sort")) {
+        assert_eq!(sort(&v.list, v.out), (v.number, v.answer.clone()));
+        if v.number == 0 {
+            let read = CallList::read(&v.list).expect("a call list");
+            assert_eq!(read.bytes(), v.answer, "{}", v.id);
+            let again = sort(&v.answer, v.answer.len());
+            assert_eq!(again, (0, v.answer), "{}", v.id);
         }
     }
 }
@@ -47,22 +89,33 @@ fn answers_decode() {
     }
 }
 
-/// A list that is read gives its own bytes again.
+/// A list that is read gives the bytes of its sorted form, which most have.
 #[test]
 fn lists_give_their_bytes_again() {
     for (_, name) in CALLS {
+        let (mut in_order, mut others) = (0, 0);
         for v in vectors::calls(&file(name)) {
-            if let Some(l) = CallList::read(&v.list) {
-                assert_eq!(l.bytes(), v.list, "{}", v.id);
+            let Some(l) = CallList::read(&v.list) else {
+                continue;
+            };
+            let form = sorted_form(&v.list).expect("whole fields");
+            assert_eq!(l.bytes(), form, "{}", v.id);
+            match form == v.list {
+                true => in_order += 1,
+                false => others += 1,
             }
         }
+        assert!(
+            in_order > 150 && others > 60,
+            "{name}: {in_order}, {others}"
+        );
     }
 }
 
 /// The files hold enough vectors of every kind, under different names.
 #[test]
 fn vectors_are_enough() {
-    for (call, name) in CALLS {
+    for (call, name) in ON_LISTS {
         let vectors = vectors::calls(&file(name));
         let names: BTreeSet<&String> = vectors.iter().map(|v| &v.id).collect();
         assert_eq!(names.len(), vectors.len());
@@ -76,18 +129,25 @@ fn vectors_are_enough() {
     }
 }
 
-/// Apply gives each apply vector's number and next volume.
+/// Apply gives each apply vector's number and next volume, its volume in any order.
 #[test]
 fn applies() {
+    let mut rng = Rng::new(10);
     for v in vectors::applies(&file("apply")) {
-        let answer = apply(&v.volume, &v.change, v.out);
-        assert_eq!(answer, (v.number, v.next), "{}", v.id);
+        let due = (v.number, v.next);
+        assert_eq!(apply(&v.volume, &v.change, v.out), due, "{}", v.id);
+        for _ in 0..4 {
+            let other = shuffled(&mut rng, &v.volume);
+            assert_eq!(apply(&other, &v.change, v.out), due, "{}", v.id);
+        }
     }
 }
 
-/// The lists at the limits are made again, with their numbers and their answers' lengths.
+/// The lists at the limits are made again, with their numbers, in another order too, and their answers'
+/// lengths.
 #[test]
 fn limits_are_made_again() {
+    let mut rng = Rng::new(11);
     let mut full = [0; 4];
     for v in vectors::limits(&file("limits")) {
         let (list, what) = limits::list(limits::SEED, v.call, v.index);
@@ -95,6 +155,9 @@ fn limits_are_made_again() {
         assert_eq!(Held::of(&bytes), v.list, "{what}");
         let number = verdict(v.call, &bytes, SUMS, v.answer.length);
         assert_eq!(number, v.number, "{what}");
+        let other = shuffled(&mut rng, &bytes);
+        let number = verdict(v.call, &other, SUMS, v.answer.length);
+        assert_eq!(number, v.number, "{what}, in another order");
         if number == 0 {
             assert_eq!(answer_length(&list), Some(v.answer.length), "{what}");
         }

@@ -2,11 +2,12 @@
 
 use crate::{run, Outcome};
 use lists::apply::apply;
-use lists::call_list::{CallList, ALLOC};
+use lists::call_list::{call_byte, CallList, ALLOC};
 use lists::change_list;
 use lists::fields::{put, split};
 use lists::key::Key;
 use lists::model::{answer_length, verdict, SUMS};
+use lists::sort::sort;
 
 /// The Rust's texts, each with the number whose refusal it is.
 pub const TEXTS: [(u32, &str); 10] = [
@@ -32,14 +33,30 @@ pub fn number_of(text: &str) -> Option<u32> {
 
 /// Whether a refusal is one that is added to the Rust's (docs/DIFFERENCES.md).
 pub fn added(call: u8, number: u32) -> bool {
-    matches!(number, 1..=3 | 6 | 9 | 10 | 14 | 16 | 17 | 19..=21)
+    matches!(number, 1..=3 | 6 | 9 | 10 | 14 | 16 | 17 | 19..=22)
         || (number == 4 && call == lists::call_list::RELEASE)
 }
 
 /// The model's number with a long scratch and output, for the call that the list names.
 pub fn number(list: &[u8]) -> u32 {
-    let call = list.get(3).copied().unwrap_or(0);
-    verdict(call, list, SUMS, usize::MAX)
+    verdict(call_byte(list), list, SUMS, usize::MAX)
+}
+
+/// Whether a list of this number is left out of the comparison: what is refused 2 or 22 cannot be given
+/// to the Rust, and it has none of the limits of 3.
+pub fn left_out(number: u32) -> bool {
+    matches!(number, 2 | 3 | 22)
+}
+
+/// How the model differs on a list and on the same list in another order, if it does: they have one
+/// number and one sorted form.
+pub fn told_apart(list: &[u8], other: &[u8]) -> Option<String> {
+    let numbers = (number(list), number(other));
+    if numbers.0 != numbers.1 {
+        return Some(format!("in another order the model gives {numbers:?}"));
+    }
+    let sorted = (sort(list, usize::MAX), sort(other, usize::MAX));
+    (sorted.0 != sorted.1).then(|| "in another order it has another sorted form".into())
 }
 
 /// How the Rust's outcome disagrees with the model's number, if it does.
@@ -48,7 +65,7 @@ pub fn disagreement(list: &[u8], outcome: &Outcome) -> Option<String> {
     let number = number(list);
     let wrong = match (number, outcome) {
         (0, Outcome::Accepted(answer)) => return malformed(&l, answer),
-        (2 | 3, _) => return None,
+        (n, _) if left_out(n) => return None,
         (0, _) => true,
         (n, Outcome::Refused(text)) => !agrees(n, added(l.head.call, n), number_of(text)),
         (15 | 18, Outcome::Panicked) => !short_value(&l),
@@ -111,7 +128,7 @@ pub fn shrink(list: &[u8], disagrees: impl Fn(&[u8]) -> bool) -> Vec<u8> {
         .collect();
     let mut width = fields.len().max(1);
     while width > 0 {
-        let mut i = 1;
+        let mut i = 0;
         while i < fields.len() {
             let mut fewer = fields.clone();
             fewer.drain(i..(i + width).min(fields.len()));

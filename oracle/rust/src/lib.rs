@@ -1,5 +1,6 @@
 //! The Rust's own functions over call lists: a list goes in, the change list comes out as
-//! docs/FORMAT.md, "Change list", orders it, or the Rust's refusal.
+//! docs/FORMAT.md, "Change list", orders it, or the Rust's refusal. A list in another order is given to
+//! them in order, since the Rust reads its trees so.
 
 // The taken text is whole items, of which not every constant or field is read here.
 #![allow(dead_code)]
@@ -53,7 +54,8 @@ pub enum Outcome {
     Refused(String),
     /// It panicked.
     Panicked,
-    /// The list breaks its layout, so there is nothing to run.
+    /// The list breaks its layout, or a position or a reserved bucket stands twice in it, which no tree
+    /// and no set of the Rust can hold: there is nothing to run.
     Unreadable,
 }
 
@@ -94,9 +96,9 @@ pub struct Ready {
 }
 
 impl Ready {
-    /// Read a call list, or none where it breaks its layout.
+    /// Read a call list, its keys in order, or none where it breaks its layout or something stands twice.
     pub fn read(list: &[u8]) -> Option<Ready> {
-        let list = CallList::read(list)?;
+        let list = CallList::read(list).filter(|l| !l.stands_twice())?;
         let writer = Writer::new(Notes::default(), &list);
         Some(Ready { list, writer })
     }

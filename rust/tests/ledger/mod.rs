@@ -3,6 +3,7 @@
 use lists::call_list::{CallList, ALLOC, NEED_DISCARD};
 use lists::fields::number;
 use lists::key::Key;
+use lists::order::shuffled;
 use lists::rng::Rng;
 use std::collections::BTreeMap;
 use zerglaz::{
@@ -68,7 +69,7 @@ impl Ledger {
             150..170 => self.delete_wrongly(rng),
             170..192 => self.discard(),
             192..199 => self.choose(rng),
-            _ => self.open(),
+            _ => self.open(rng),
         }?;
         self.same_pieces()?;
         if self.steps % 25 == 0 {
@@ -210,10 +211,14 @@ impl Ledger {
         Ok("options")
     }
 
-    /// Go on with the volume's bytes.
-    fn open(&mut self) -> Made {
-        let opened = Volume::open(self.volume.bytes());
-        self.volume = opened.map_err(|error| error.to_string())?;
+    /// Go on with the volume's bytes, in any order.
+    fn open(&mut self, rng: &mut Rng) -> Made {
+        let mixed = shuffled(rng, self.volume.bytes());
+        let opened = Volume::open(&mixed).map_err(|error| error.to_string())?;
+        if opened.bytes() != self.volume.bytes() {
+            return Err("another order opened another volume".into());
+        }
+        self.volume = opened;
         Ok("opened")
     }
 

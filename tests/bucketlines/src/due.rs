@@ -2,16 +2,17 @@
 //! archive's answer.
 
 use crate::lines;
-use lists::call_list::{DISCARD, PLACE, RELEASE};
+use lists::call_list::{call_byte, DISCARD, PLACE, RELEASE};
 use lists::model::{verdict, SUMS};
 
 /// The longest list that is read, and the length of the output.
 pub const LONGEST: usize = 32_768;
 pub const OUTPUT: usize = 65_536;
 
-/// The call that a list's call byte names; a list that names none is refused 2 by each.
+/// The call that a list's call byte names, in its one field 1, wherever that stands; a list that names
+/// none, or has not one field 1, is refused 2 by each.
 pub fn call_of(list: &[u8]) -> u8 {
-    list.get(3).copied().unwrap_or(0)
+    call_byte(list)
 }
 
 /// The number of any list.

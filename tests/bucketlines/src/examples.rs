@@ -1,14 +1,15 @@
 //! The examples: a small volume from its first piece to a bucket that is used again, two calls that
-//! are refused, and a second release that is not.
+//! are refused, a second release that is not, and a list whose fields stand in another order, and twice.
 
 use crate::due::{answer, OUTPUT};
+use lists::fields::{self, split};
 use zerglaz::{Bucket, Call, CallList, DeviceSector, Head, Piece, Released};
 
 /// An example: the name of its file, a title and the list.
 pub struct Example {
     pub name: &'static str,
     pub title: &'static str,
-    pub list: CallList,
+    pub list: Vec<u8>,
 }
 
 /// All of them, in order.
@@ -23,39 +24,67 @@ pub fn examples() -> Vec<Example> {
         Example {
             name: "1-place",
             title: "a photograph's two pieces, of 96 and 64 sectors, go to a clean volume of 40 free buckets of 128 sectors",
-            list: placed,
+            list: placed.to_bytes(),
         },
         Example {
             name: "2-release",
             title: "the piece of 96 sectors is deleted: its bucket holds nothing more and waits for its discard",
-            list: released,
+            list: released.to_bytes(),
         },
         Example {
             name: "3-discard",
             title: "what waits is discarded: the bucket is free again",
-            list: discarded,
+            list: discarded.to_bytes(),
         },
         Example {
             name: "4-place-again",
             title: "another piece of 96 sectors gets that bucket, in its next generation",
-            list: placed_again,
+            list: placed_again.to_bytes(),
         },
         Example {
             name: "5-release-twice",
             title: "right after example 2 its piece is deleted once more: refused, since nothing else holds sectors in that bucket",
-            list: released_twice,
+            list: released_twice.to_bytes(),
         },
         Example {
             name: "6-place-too-much",
             title: "nine pieces of 128 sectors for the clean volume: 9 buckets and 32 kept back are more than 40",
-            list: too_many,
+            list: too_many.to_bytes(),
         },
         Example {
             name: "7-release-twice-accepted",
             title: "of a bucket's two pieces of 64 sectors the first is deleted a second time: accepted, since the other's sectors are there; the bucket counts as empty while the other lies in it",
-            list: released_again(),
+            list: released_again().to_bytes(),
+        },
+        Example {
+            name: "8-place-in-any-order",
+            title: "the fields of example 1 in another order, its pieces in their own: the same answer",
+            list: in_another_order(&placed),
+        },
+        Example {
+            name: "9-place-joined",
+            title: "two exports of the clean volume joined, both with its run of free buckets: refused",
+            list: joined(&placed),
         },
     ]
+}
+
+/// The fields of a placement of two pieces on one run, from the last to the first but for the pieces.
+fn in_another_order(list: &CallList) -> Vec<u8> {
+    let list = list.to_bytes();
+    let fields = split(&list).expect("whole fields");
+    let [head, run, first, second] = fields[..] else {
+        panic!("a head, a run and two pieces");
+    };
+    fields::joined([first, run, second, head])
+}
+
+/// A placement of two pieces on one run, which stands twice.
+fn joined(list: &CallList) -> Vec<u8> {
+    let list = list.to_bytes();
+    let fields = split(&list).expect("whole fields");
+    let run = fields[1];
+    fields::joined(fields.into_iter().chain([run]))
 }
 
 /// Two pieces of 64 sectors share a bucket, and the first is released twice. The second release is

@@ -7,6 +7,8 @@ use bucketlines::stored::{told, vector};
 use lists::call_list::{CallList, Place, BACKPOINTERS, FREESPACE, PLACE};
 use lists::key::{Key, VALUE_MAX};
 use lists::model::answer_length;
+use lists::order::shuffled;
+use lists::rng::Rng;
 use std::io::Write;
 use std::process::Stdio;
 use std::time::Duration;
@@ -55,6 +57,8 @@ fn longest_list() {
         assert_eq!(list.len(), LONGEST, "{id}");
         assert_eq!(due::number(&list), v.number, "{id}");
         assert_eq!(printed(&list), told(&v), "{id}");
+        let other = shuffled(&mut Rng::new(22), &list);
+        assert_eq!(printed(&other), told(&v), "{id}, in another order");
         let longer = padded(&v.list, LONGEST + 1);
         assert_eq!(longer.len(), LONGEST + 1, "{id}");
         assert_eq!(printed(&longer), "refused 3\n", "{id}");

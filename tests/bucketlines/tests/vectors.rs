@@ -1,9 +1,13 @@
-//! Every stored vector, and lists of the generator, against all that the program prints.
+//! Every stored vector, and lists of the generator, against all that the program prints, as they stand
+//! and in another order of their fields.
 
 use bucketlines::due::{self, call_of, LONGEST, OUTPUT};
 use bucketlines::program::printed;
 use bucketlines::stored::{text, told, vector, vectors};
 use lists::call_list::{DISCARD, PLACE, RELEASE};
+use lists::fields::joined;
+use lists::order::shuffled;
+use lists::rng::Rng;
 use lists::vectors::Vector;
 use std::collections::BTreeSet;
 
@@ -22,8 +26,9 @@ fn holds(v: &Vector, call: u8) -> bool {
     fits && v.number != 1 && v.number != 21 && !names_another
 }
 
-/// Hold the program to the vectors of a call. Gives the numbers met.
+/// Hold the program to the vectors of a call, and each list in another order too. Gives the numbers met.
 fn hold(call: u8, name: &str) -> BTreeSet<u32> {
+    let mut rng = Rng::new(u64::from(call));
     let (mut told_by_vectors, mut others, mut met) = (0, 0, BTreeSet::new());
     for v in vectors(name) {
         let due = if holds(&v, call) {
@@ -35,6 +40,8 @@ fn hold(call: u8, name: &str) -> BTreeSet<u32> {
             due::lines(&v.list)
         };
         assert_eq!(printed(&v.list), due, "{name}: {}", v.id);
+        let other = shuffled(&mut rng, &v.list);
+        assert_eq!(printed(&other), due, "{name}: {}, in another order", v.id);
     }
     println!(
         "{name}: {told_by_vectors} vectors tell what is due, {others} more are judged by the model"
@@ -46,21 +53,23 @@ fn hold(call: u8, name: &str) -> BTreeSet<u32> {
 #[test]
 fn place() {
     let met = hold(PLACE, "place");
-    assert!(met.into_iter().eq((0..=13).filter(|&n| n != 1)));
+    let due = (0..=13).filter(|&n| n != 1).chain([22]);
+    assert!(met.into_iter().eq(due));
 }
 
 /// Every release vector.
 #[test]
 fn release() {
     let met = hold(RELEASE, "release");
-    assert!(met.into_iter().eq([0, 2, 3, 4].into_iter().chain(14..=19)));
+    let due = [0, 2, 3, 4].into_iter().chain(14..=19).chain([22]);
+    assert!(met.into_iter().eq(due));
 }
 
 /// Every discard vector.
 #[test]
 fn discard() {
     let met = hold(DISCARD, "discard");
-    assert!(met.into_iter().eq([0, 2, 3, 20]));
+    assert!(met.into_iter().eq([0, 2, 3, 20, 22]));
 }
 
 /// An accepted answer that is longer than the program's output is refused 21.
@@ -84,13 +93,49 @@ fn limits() {
     }
 }
 
-/// Lists of the generator, accepted ones and spoilt ones.
+/// Every list to sort, which names any call.
+#[test]
+fn lists_to_sort() {
+    for v in vectors("sort") {
+        assert_eq!(printed(&v.list), due::lines(&v.list), "{}", v.id);
+    }
+}
+
+/// Lists of the generator, accepted ones and spoilt ones, in order and in another.
 #[test]
 fn generated() {
+    let mut rng = Rng::new(88);
     for (call, name) in FILES {
         for i in 0..GENERATED {
             let list = lists::candidate::nth(call, i, 88).list;
-            assert_eq!(printed(&list), due::lines(&list), "{name} {i}");
+            let due = due::lines(&list);
+            assert_eq!(printed(&list), due, "{name} {i}");
+            let other = shuffled(&mut rng, &list);
+            assert_eq!(printed(&other), due, "{name} {i}, in another order");
+        }
+    }
+}
+
+/// The call byte is read in field 1, wherever that stands: first, last and between; with no field 1, with
+/// two and with one that names no call a list is refused 2.
+#[test]
+fn call_byte() {
+    for (file, id) in [("place", "p1"), ("release", "p6"), ("discard", "printed")] {
+        let v = vector(file, id);
+        let fields = lists::fields::split(&v.list).expect("whole fields");
+        for at in 0..fields.len() {
+            let mut moved = fields.clone();
+            let head = moved.remove(0);
+            moved.insert(at, head);
+            assert_eq!(printed(&joined(moved.clone())), told(&v), "{id} {at}");
+            moved.insert(fields.len() - at, head);
+            assert_eq!(printed(&joined(moved)), "refused 2\n", "{id} {at}");
+        }
+        assert_eq!(printed(&v.list[42..]), "refused 2\n", "{id}");
+        for byte in [0, 4, 255] {
+            let mut last = [&v.list[42..], &v.list[..42]].concat();
+            last[v.list.len() - 39] = byte;
+            assert_eq!(printed(&last), "refused 2\n", "{id} {byte}");
         }
     }
 }

@@ -1,51 +1,71 @@
-//! archive N [SEED]: the archive's four calls beside the model and the Rust's functions. N lists and
-//! N / 4 damaged ones of each call, 2 N applies and N / 20 histories. Every number is the model's,
-//! every answer the Rust's, every next volume the model's, in outputs of every length and with guards
-//! around them. Prints counts and disagreements; a number that is met too seldom is a failure too, and
-//! so are two neighbouring numbers that no one list meets.
+//! archive N [SEED]: the archive's five calls beside the model and the Rust's functions. N lists and
+//! N / 4 damaged ones of each call and of sort, lists past the limits, 2 N applies and N / 20 histories.
+//! Each list and volume is held as it stands and in another order, with one outcome. Every number is the
+//! model's, every answer the Rust's on the list in order, every next volume and every sorted form the
+//! model's, in outputs of every length and with guards around them. Prints counts and disagreements; a
+//! number that is met too seldom is a failure too, and so are two neighbouring numbers that no one list
+//! meets.
 
 use lists::apply::apply;
-use lists::call_list::{CallList, RELEASE};
+use lists::call_list::{DISCARD, PLACE, RELEASE};
 use lists::candidate::{nth, Candidate, Room};
 use lists::changes::{applied, Applied};
-use lists::edges::{apply_edges, edges};
+use lists::edges::{apply_edges, base, edges, list_edges};
+use lists::fields::split;
 use lists::generate::{self, Size};
 use lists::history::{History, Tally};
 use lists::lent::{Calls, Due};
-use lists::model::{verdict, SUMS};
+use lists::model::{verdict, APPLY, SORT, SUMS};
+use lists::order::{doubled, without_requests};
 use lists::rng::Rng;
+use lists::sort::sort;
 use lists::spoil::{damage, numbers, spoil};
 use lists::vectors::hex;
+use lists::{limits, past_limits};
 use oracle::compare::shrink;
 use oracle::{run, Outcome};
 use std::collections::BTreeMap;
 use std::process::ExitCode;
 
-/// The archive's four calls.
+/// The archive's five calls.
 const ARCHIVE: Calls = Calls {
     place: zerglaz::ffi::place,
     release: zerglaz::ffi::release,
     discard: zerglaz::ffi::discard,
     apply: zerglaz::ffi::apply,
+    sort: zerglaz::ffi::sort,
 };
-/// Apply among the calls, where they are counted.
-const APPLY: u8 = 4;
 /// The calls by name.
-const NAMES: [&str; 5] = ["", "place", "release", "discard", "apply"];
+const NAMES: [(u8, &str); 5] = [
+    (PLACE, "place"),
+    (RELEASE, "release"),
+    (DISCARD, "discard"),
+    (APPLY, "apply"),
+    (SORT, "sort"),
+];
+/// The calls that read a list and nothing else.
+const ON_LISTS: [u8; 4] = [PLACE, RELEASE, DISCARD, SORT];
 /// How often each number of each call is met at least.
 const LEAST: u64 = 200;
 /// How many seeds are tried for a list that meets two numbers.
 const TRIES: u64 = 10_000;
-/// How many disagreements are shown.
+/// How many disagreements are shown, and how long a list is whose bytes are.
 const SHOWN: u64 = 20;
+const LONG: usize = 65_536;
 /// The seed where none is given.
 const SEED: u64 = 20_261_115;
 
 /// What was counted.
-#[derive(Default)]
 struct Counts {
+    /// The other orders.
+    rng: Rng,
     /// Lists and applies by call and number.
     met: BTreeMap<(u8, u32), u64>,
+    /// Lists and volumes that stood in two orders.
+    orders: u64,
+    /// Lists whose answer is the Rust's, and lists that cannot be given to it: refused 2 or 22.
+    answered: u64,
+    not_given: u64,
     /// Disagreements.
     wrong: u64,
 }
@@ -58,14 +78,30 @@ fn main() -> ExitCode {
         return ExitCode::FAILURE;
     };
     let seed = args.next().and_then(Result::ok).unwrap_or(SEED);
-    let mut counts = Counts::default();
-    for call in 1..=3 {
+    let mut counts = Counts {
+        rng: Rng::new(seed),
+        met: BTreeMap::new(),
+        orders: 0,
+        answered: 0,
+        not_given: 0,
+        wrong: 0,
+    };
+    for call in ON_LISTS {
         counts.lists(call, lists, seed);
+        counts.at_the_limits(call, seed);
     }
     counts.applies(2 * lists, seed);
-    let apart: u64 = (1..=3).map(|call| counts.neighbours(call, seed)).sum();
+    let apart: u64 = ON_LISTS
+        .map(|call| counts.neighbours(call, seed))
+        .iter()
+        .sum();
     let seldom = counts.print() + apart;
     counts.histories(lists / 20, seed);
+    println!("held in two orders: {}", counts.orders);
+    println!(
+        "answers of the Rust: {}; lists that cannot be given to it, refused 2 or 22: {}",
+        counts.answered, counts.not_given
+    );
     println!("disagreements: {}", counts.wrong);
     ExitCode::from(u8::from(counts.wrong + seldom > 0))
 }
@@ -73,7 +109,7 @@ fn main() -> ExitCode {
 impl Counts {
     /// Hold a call's edges, its lists and its damaged lists.
     fn lists(&mut self, call: u8, lists: u64, seed: u64) {
-        for (_, list) in edges(call) {
+        for list in edges_of(call) {
             self.list(&lent(call, list, Room::Exact));
         }
         for i in 0..lists {
@@ -86,6 +122,38 @@ impl Counts {
         }
     }
 
+    /// Hold a call's lists at the limits, and its lists and volumes past them.
+    fn at_the_limits(&mut self, call: u8, seed: u64) {
+        let named = named(call, seed);
+        for index in 0..limits::LISTS {
+            let (list, what) = limits::list(seed, named, index);
+            self.named(what, |counts| {
+                counts.list(&lent(call, list.bytes(), Room::Over(9)));
+            });
+        }
+        for index in 0..past_limits::LISTS {
+            let (list, what) = past_limits::list(seed, named, index);
+            let applied = Applied {
+                volume: without_requests(&list),
+                change: Vec::new(),
+                room: Room::Over(9),
+            };
+            self.named(what, |counts| {
+                counts.list(&lent(call, list, Room::Over(9)));
+                counts.apply(&applied);
+            });
+        }
+    }
+
+    /// Hold something, and print what it was where it disagrees.
+    fn named(&mut self, what: &str, hold: impl FnOnce(&mut Counts)) {
+        let before = self.wrong;
+        hold(self);
+        if self.wrong > before {
+            println!("  {what}");
+        }
+    }
+
     /// Hold a list that meets two neighbouring numbers at once, for each two; how many have none.
     fn neighbours(&mut self, call: u8, seed: u64) -> u64 {
         let mut none = 0;
@@ -95,28 +163,42 @@ impl Counts {
                 Some(candidate) => drop(self.list(&candidate)),
                 None => {
                     none += 1;
-                    println!("{}: no list meets {pair:?}", NAMES[usize::from(call)]);
+                    println!("{}: no list meets {pair:?}", name(call));
                 }
             }
         }
         none
     }
 
-    /// Hold one call, and count its number.
+    /// Hold one call as its list stands and in another order, and the sorted form of both; count its
+    /// number. Gives the answer where it is accepted.
     fn list(&mut self, candidate: &Candidate) -> Option<Vec<u8>> {
-        match hold(candidate) {
-            Ok(made) => {
-                *self.met.entry((candidate.call, made.number)).or_default() += 1;
-                (made.number == 0).then_some(made.answer)
-            }
+        let other = candidate.shuffled(&mut self.rng);
+        let answer = match answer(candidate.call, &candidate.list) {
+            Ok(answer) => answer,
             Err(why) => {
-                self.report(&why, || {
-                    let fails = |list: &[u8]| hold(&with(candidate, list)).is_err();
-                    hex(&shrink(&candidate.list, fails))
-                });
-                None
+                let fails = |list: &[u8]| self::answer(candidate.call, list).is_err();
+                self.report(&why, || smallest(&candidate.list, fails));
+                return None;
+            }
+        };
+        self.orders += 1;
+        if candidate.call != SORT {
+            self.answered += u64::from(answer.number == 0);
+            self.not_given += u64::from(matches!(answer.number, 2 | 22));
+        }
+        let mut number = None;
+        for (c, order) in [(candidate, "as it stands"), (&other, "in another order")] {
+            match hold(c, &answer) {
+                Ok(held) => number = Some(held),
+                Err(why) => self.report(&format!("{}, {order}: {why}", name(c.call)), || {
+                    smallest(&c.list, |list| fails(&with(c, list)))
+                }),
             }
         }
+        let number = number?;
+        *self.met.entry((candidate.call, number)).or_default() += 1;
+        (number == 0).then_some(answer.bytes)
     }
 
     /// Hold the edges of apply and `count` applies.
@@ -129,18 +211,22 @@ impl Counts {
             });
         }
         for i in 0..count {
-            let wanted = [0, 2, 3, 0, 2, 21][(i % 6) as usize];
+            let wanted = [0, 2, 3, 22, 2, 21][(i % 6) as usize];
             self.apply(&applied(seed.wrapping_add(i), Size::nth(i / 6), wanted));
         }
     }
 
-    /// Hold one apply, and count its number.
+    /// Hold one apply as its volume stands and in another order, and count its number.
     fn apply(&mut self, applied: &Applied) {
+        let other = applied.shuffled(&mut self.rng);
+        self.orders += 1;
         match hold_apply(applied) {
             Ok(number) => *self.met.entry((APPLY, number)).or_default() += 1,
-            Err(why) => self.report(&why, || {
-                format!("{} {}", hex(&applied.volume), hex(&applied.change))
-            }),
+            Err(why) => self.report(&format!("apply: {why}"), || shown(applied)),
+        }
+        if let Err(why) = hold_apply(&other) {
+            let why = format!("apply, its volume in another order: {why}");
+            self.report(&why, || shown(&other));
         }
     }
 
@@ -174,14 +260,14 @@ impl Counts {
     /// Print how often each number was met; how many were met too seldom.
     fn print(&self) -> u64 {
         let mut seldom = 0;
-        for call in 1..=APPLY {
+        for (call, name) in NAMES {
             let met = |number: u32| self.met.get(&(call, number)).copied().unwrap_or(0);
             let all: u64 = self
                 .met
-                .range((call, 0)..(call + 1, 0))
+                .range((call, 0)..=(call, u32::MAX))
                 .map(|(_, n)| n)
                 .sum();
-            println!("{}: {all} held", NAMES[usize::from(call)]);
+            println!("{name}: {all} held");
             for &number in [0].iter().chain(numbers(call)) {
                 let few = met(number) < LEAST;
                 seldom += u64::from(few);
@@ -193,43 +279,112 @@ impl Counts {
     }
 }
 
-/// What a call that was held answered.
-struct Made {
-    number: u32,
-    answer: Vec<u8>,
+/// A call's name.
+fn name(call: u8) -> &'static str {
+    let found = NAMES.iter().find(|(of, _)| *of == call);
+    found.map_or("no call", |(_, name)| name)
 }
 
-/// Hold a call in its own scratch and output and, where the list is accepted, in outputs of every
-/// kind; its answer is the Rust's, and goes through apply.
-fn hold(c: &Candidate) -> Result<Made, String> {
-    let accepted = verdict(c.call, &c.list, SUMS, usize::MAX) == 0;
-    let answer = if accepted {
-        rust_answer(&c.list)?
-    } else {
-        Vec::new()
+/// The call that a list names: any where it is to be sorted.
+fn named(call: u8, seed: u64) -> u8 {
+    match call {
+        SORT => (seed % 3) as u8 + 1,
+        call => call,
+    }
+}
+
+/// The edges of a call; those of sort are what lists of each call have in common.
+fn edges_of(call: u8) -> Vec<Vec<u8>> {
+    let edges = match call {
+        SORT => (PLACE..=DISCARD)
+            .flat_map(|call| list_edges(&base(call)))
+            .collect(),
+        call => edges(call),
     };
-    let out = c.room.length(answer.len());
+    edges.into_iter().map(|(_, list)| list).collect()
+}
+
+/// What is due for a list in an output and a scratch that are long enough.
+struct Answer {
+    number: u32,
+    bytes: Vec<u8>,
+}
+
+/// The model's number, and the bytes where it is 0: the Rust's of a call, the model's of sort.
+fn answer(call: u8, list: &[u8]) -> Result<Answer, String> {
+    let number = verdict(call, list, SUMS, usize::MAX);
+    let bytes = match (number, call) {
+        (0, SORT) => sort(list, usize::MAX).1,
+        (0, _) => rust_answer(list)?,
+        _ => Vec::new(),
+    };
+    Ok(Answer { number, bytes })
+}
+
+/// The Rust's answer to a list that the model accepts; it is given the list in order.
+fn rust_answer(list: &[u8]) -> Result<Vec<u8>, String> {
+    match run(&sort(list, usize::MAX).1) {
+        Outcome::Accepted(answer) => Ok(answer),
+        other => Err(format!("the model accepts and the Rust gives {other:?}")),
+    }
+}
+
+/// Whether a call is held to its own answer in vain.
+fn fails(c: &Candidate) -> bool {
+    answer(c.call, &c.list).is_ok_and(|answer| hold(c, &answer).is_err())
+}
+
+/// Hold a call in its own scratch and output and, where the list is accepted, in outputs of every kind;
+/// its answer goes through apply, and its list through sort. Gives its number.
+fn hold(c: &Candidate, answer: &Answer) -> Result<u32, String> {
+    let out = c.room.length(answer.bytes.len());
     let number = verdict(c.call, &c.list, c.scratch, out);
     let due = match number {
-        0 => Due::accepted(&answer),
+        0 => Due::accepted(&answer.bytes),
         _ => Due::refused(number),
     };
-    let named = |why: String| format!("{}: {why}", NAMES[usize::from(c.call)]);
-    ARCHIVE
-        .hold(c.call, &c.list, c.scratch, out, due)
-        .map_err(named)?;
-    if accepted {
-        ARCHIVE
-            .hold_rooms(c.call, &c.list, &answer)
-            .map_err(named)?;
-        let list = CallList::read(&c.list).ok_or("an accepted list that is not read")?;
-        hold_apply(&Applied {
-            volume: list.volume().bytes(),
-            change: answer.clone(),
-            room: Room::Exact,
-        })?;
+    if verdict(c.call, &c.list, SUMS, usize::MAX) != answer.number {
+        return Err("the model gives another number".into());
     }
-    Ok(Made { number, answer })
+    ARCHIVE.hold(c.call, &c.list, c.scratch, out, due)?;
+    if answer.number == 0 {
+        ARCHIVE.hold_rooms(c.call, &c.list, &answer.bytes)?;
+    }
+    hold_sort(&c.list).map_err(|why| format!("its sorted form: {why}"))?;
+    if answer.number == 0 && c.call != SORT {
+        let applied = hold_apply(&Applied {
+            volume: without_requests(&c.list),
+            change: answer.bytes.clone(),
+            room: Room::Exact,
+        });
+        applied.map_err(|why| format!("its apply: {why}"))?;
+    }
+    Ok(number)
+}
+
+/// Hold a list's sort to the model's, and the sorted form to being its own, with the fields of the list,
+/// each as often.
+fn hold_sort(list: &[u8]) -> Result<(), String> {
+    let (number, sorted) = sort(list, usize::MAX);
+    if number != 0 {
+        return ARCHIVE.hold(SORT, list, 0, list.len(), Due::refused(number));
+    }
+    let due = Due::accepted(&sorted);
+    ARCHIVE.hold(SORT, list, 0, sorted.len() + 9, due)?;
+    let again = ARCHIVE.hold(SORT, &sorted, 0, sorted.len(), due);
+    again.map_err(|why| format!("sorted again: {why}"))?;
+    if fields(list) != fields(&sorted) {
+        return Err("the sorted form has other fields".into());
+    }
+    Ok(())
+}
+
+/// The fields of a list, those of one tag and one body side by side.
+fn fields(list: &[u8]) -> Vec<(u8, &[u8])> {
+    let fields = split(list).unwrap_or_default();
+    let mut fields: Vec<_> = fields.iter().map(|f| (f.tag, f.body)).collect();
+    fields.sort_unstable();
+    fields
 }
 
 /// Hold an apply in its own output and, where it is accepted, in outputs of every kind.
@@ -241,21 +396,27 @@ fn hold_apply(a: &Applied) -> Result<u32, String> {
         0 => (0, Due::accepted(&next)),
         _ => (refused, Due::refused(refused)),
     };
-    let named = |why: String| format!("apply: {why}");
-    let held = ARCHIVE.hold_apply(&a.volume, &a.change, out, due);
-    held.map_err(named)?;
+    ARCHIVE.hold_apply(&a.volume, &a.change, out, due)?;
     if refused == 0 {
-        let held = ARCHIVE.hold_apply_rooms(&a.volume, &a.change, &next);
-        held.map_err(named)?;
+        ARCHIVE.hold_apply_rooms(&a.volume, &a.change, &next)?;
     }
     Ok(number)
 }
 
-/// The Rust's answer to a list that the model accepts.
-fn rust_answer(list: &[u8]) -> Result<Vec<u8>, String> {
-    match run(list) {
-        Outcome::Accepted(answer) => Ok(answer),
-        other => Err(format!("the model accepts and the Rust gives {other:?}")),
+/// The bytes of an apply, or how long they are where they are many.
+fn shown(a: &Applied) -> String {
+    let bytes = |list: &[u8]| match list.len() {
+        0..=LONG => hex(list),
+        long => format!("{long} bytes"),
+    };
+    format!("{} {}", bytes(&a.volume), bytes(&a.change))
+}
+
+/// The smallest list found that fails; of a long one its length.
+fn smallest(list: &[u8], fails: impl Fn(&[u8]) -> bool) -> String {
+    match list.len() {
+        0..=LONG => hex(&shrink(list, fails)),
+        long => format!("a list of {long} bytes"),
     }
 }
 
@@ -272,11 +433,13 @@ fn lent(call: u8, list: Vec<u8>, room: Room) -> Candidate {
 /// A list that is refused by `later`, and once `first` is spoilt too by `first`, if this seed gives one.
 fn both(call: u8, first: u32, later: u32, seed: u64) -> Option<Candidate> {
     let mut rng = Rng::new(seed);
-    let mut l = generate::list(&mut rng, call, Size::Small);
+    let mut l = generate::list(&mut rng, named(call, seed), Size::Small);
     spoil(&mut rng, &mut l, later);
     let mut list = l.bytes();
-    if later == 2 {
-        list = damage(&mut rng, &list);
+    match later {
+        2 => list = damage(&mut rng, &list),
+        22 => list = doubled(&mut rng, &list),
+        _ => (),
     }
     let out = if later == 21 { 0 } else { usize::MAX };
     if verdict(call, &list, SUMS, out) != later {
@@ -286,6 +449,7 @@ fn both(call: u8, first: u32, later: u32, seed: u64) -> Option<Candidate> {
     match first {
         1 => (),
         2 => list = damage(&mut rng, &list),
+        22 => list = doubled(&mut rng, &list),
         _ => list = l.bytes(),
     }
     let scratch = if first == 1 { 0 } else { SUMS };

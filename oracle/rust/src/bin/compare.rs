@@ -1,12 +1,16 @@
 //! compare N [SEED]: N lists for each call through the Rust's function and the model, and N / 20
-//! histories of 60 steps. Prints counts and each disagreement with the smallest list found.
+//! histories of 60 steps. Each list is put in another order too, where the model must give the same
+//! number and the same sorted form, which is what the Rust is given. Prints counts and each disagreement
+//! with the smallest list found.
 
 use lists::call_list::CallList;
 use lists::candidate::nth;
 use lists::edges::edges;
 use lists::history::{History, Tally};
+use lists::order::shuffled;
+use lists::rng::Rng;
 use lists::vectors::hex;
-use oracle::compare::{disagreement, disagrees, number, number_of, shrink};
+use oracle::compare::{disagreement, disagrees, left_out, number, number_of, shrink, told_apart};
 use oracle::{run, Outcome};
 use std::collections::BTreeMap;
 use std::process::ExitCode;
@@ -42,6 +46,7 @@ fn main() -> ExitCode {
 /// Compare the lists of one call, its edges first; the number of disagreements.
 fn compare_lists(call: u8, lists: u64, seed: u64, counts: &mut Counts) -> u64 {
     let mut wrong = 0;
+    let mut rng = Rng::new(seed);
     let edges = edges(call).into_iter().map(|(_, list)| list);
     for list in edges.chain((0..lists).map(|i| nth(call, i, seed).list)) {
         let outcome = run(&list);
@@ -57,6 +62,11 @@ fn compare_lists(call: u8, lists: u64, seed: u64, counts: &mut Counts) -> u64 {
         if let Some(why) = disagreement(&list, &outcome) {
             wrong += 1;
             report(wrong, &why, &list);
+        }
+        let other = shuffled(&mut rng, &list);
+        if let Some(why) = told_apart(&list, &other) {
+            wrong += 1;
+            println!("{why}\n  {}\n  {}", hex(&list), hex(&other));
         }
     }
     wrong
@@ -74,9 +84,18 @@ fn report(nth: u64, why: &str, list: &[u8]) {
 /// Print how many lists met which outcome.
 fn print_counts(counts: &Counts) {
     println!("call number rust lists");
+    let (mut compared, mut left) = (0, 0);
     for ((call, number, what), n) in counts {
         println!("{call} {number} {what}: {n}");
+        if left_out(*number) {
+            left += n;
+        } else {
+            compared += n;
+        }
     }
+    println!(
+        "compared: {compared}, in as many other orders; left out, since refused 2, 3 or 22: {left}"
+    );
 }
 
 /// Run histories; the number of steps that disagree or break demand 3.

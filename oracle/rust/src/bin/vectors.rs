@@ -5,10 +5,14 @@ use lists::call_list::{CallList, DISCARD, PLACE, RELEASE};
 use lists::candidate::candidate;
 use lists::cases::cases;
 use lists::changes::{applied, at_the_limits};
-use lists::edges::{apply_edges, edges};
+use lists::edges::{apply_edges, base, edges, list_edges};
 use lists::fields::split;
 use lists::generate::Size;
-use lists::model::{verdict, SUMS};
+use lists::model::{verdict, SORT, SUMS};
+use lists::order::shuffled;
+use lists::order_edges::order_edges;
+use lists::rng::Rng;
+use lists::sort::sort;
 use lists::spoil::numbers;
 use lists::vectors::{ApplyLimitVector, ApplyVector, Held, LimitVector, Vector};
 use lists::{apply::apply, changes, limits};
@@ -19,6 +23,16 @@ use std::path::Path;
 
 /// The seed of the stored vectors.
 const SEED: u64 = 1;
+/// The calls with their files.
+const CALLS: [(u8, &str); 4] = [
+    (PLACE, "place"),
+    (RELEASE, "release"),
+    (DISCARD, "discard"),
+    (SORT, "sort"),
+];
+
+/// A list by name.
+type Edge = (String, Vec<u8>);
 
 /// Features of the vectors chosen so far, and the lists among them.
 #[derive(Default)]
@@ -31,8 +45,11 @@ fn main() {
     oracle::quiet_panics();
     let dir = std::env::args().nth(1).expect("vectors DIR");
     let dir = Path::new(&dir);
-    for (call, name) in [(PLACE, "place"), (RELEASE, "release"), (DISCARD, "discard")] {
-        let vectors = call_vectors(call, name);
+    for (call, name) in CALLS {
+        let vectors = match call {
+            SORT => sort_vectors(),
+            call => call_vectors(call, name),
+        };
         let small = vectors
             .iter()
             .filter(|v| v.number == 0 && v.list.len() <= 400);
@@ -73,7 +90,8 @@ fn print_counts(numbers: impl Iterator<Item = u32>) {
     println!("  {counts:?}");
 }
 
-/// The vectors of one call: the worked cases, accepted lists by size, refused ones by number.
+/// The vectors of one call: the worked cases, accepted lists by size, refused ones by number; then the
+/// edges of the order, lists in which something stands twice, and lists in another order.
 fn call_vectors(call: u8, name: &str) -> Vec<Vector> {
     let mut chosen = Chosen::default();
     let mut vectors = Vec::new();
@@ -81,35 +99,104 @@ fn call_vectors(call: u8, name: &str) -> Vec<Vector> {
         let v = vector(call, list.bytes(), SUMS, |answer| answer);
         vectors.push(named(v, case.to_string()));
     }
-    for (edge, list) in edges(call) {
-        let v = vector(call, list, SUMS, |answer| answer);
-        chosen.lists.insert(v.list.clone());
-        vectors.push(named(v, format!("edge-{}", slug(&edge))));
-    }
+    let mut before = edges(call);
+    let order = before.split_off(before.len() - order_edges(&base(call)).len());
+    add_edges(&mut vectors, &mut chosen, call, before);
     let accepted = [(Size::Small, 60), (Size::Medium, 24), (Size::Large, 3)];
     for (size, count) in accepted {
         add(&mut vectors, &mut chosen, name, (call, size, 0), count);
     }
     let each = if call == DISCARD { 12 } else { 5 };
-    for &number in numbers(call) {
-        add(
-            &mut vectors,
-            &mut chosen,
-            name,
-            (call, Size::Small, number),
-            each,
-        );
+    for (size, count) in [(Size::Small, each), (Size::Medium, 1)] {
+        for &number in numbers(call).iter().filter(|&&number| number != 22) {
+            add(&mut vectors, &mut chosen, name, (call, size, number), count);
+        }
     }
-    for &number in numbers(call) {
+    add_edges(&mut vectors, &mut chosen, call, order);
+    for (size, count) in [(Size::Small, 12), (Size::Medium, 3)] {
+        add(&mut vectors, &mut chosen, name, (call, size, 22), count);
+    }
+    let mixed = in_another_order(&vectors, call, name);
+    vectors.extend(mixed);
+    vectors
+}
+
+/// The vectors of sort: the edges that lists of every call have, and lists by number.
+fn sort_vectors() -> Vec<Vector> {
+    let mut chosen = Chosen::default();
+    let mut vectors = Vec::new();
+    for (call, name) in [(PLACE, "place"), (RELEASE, "release"), (DISCARD, "discard")] {
+        let edges = match call {
+            RELEASE => list_edges(&base(call)),
+            _ => order_edges(&base(call)),
+        };
+        let named = |(edge, list)| (format!("{name} {edge}"), list);
+        let edges = edges.into_iter().map(named).collect();
+        add_edges(&mut vectors, &mut chosen, SORT, edges);
+    }
+    let wanted = [
+        (Size::Small, 0, 40),
+        (Size::Medium, 0, 12),
+        (Size::Large, 0, 2),
+        (Size::Small, 2, 15),
+        (Size::Small, 22, 15),
+        (Size::Small, 3, 15),
+        (Size::Small, 21, 8),
+        (Size::Medium, 2, 2),
+        (Size::Medium, 22, 4),
+        (Size::Medium, 3, 2),
+    ];
+    for (size, number, count) in wanted {
         add(
             &mut vectors,
             &mut chosen,
-            name,
-            (call, Size::Medium, number),
-            1,
+            "sort",
+            (SORT, size, number),
+            count,
         );
     }
     vectors
+}
+
+/// Add the vectors of edges, each under its name.
+fn add_edges(vectors: &mut Vec<Vector>, chosen: &mut Chosen, call: u8, edges: Vec<Edge>) {
+    for (edge, list) in edges {
+        let v = vector(call, list, SUMS, |answer| answer);
+        chosen.lists.insert(v.list.clone());
+        vectors.push(named(v, format!("edge-{}", slug(&edge))));
+    }
+}
+
+/// Stored lists in another order, with their own answers: short accepted ones, some longer ones, and one
+/// of each number whose test comes after the layout.
+fn in_another_order(vectors: &[Vector], call: u8, name: &str) -> Vec<Vector> {
+    let mut rng = Rng::new(SEED ^ u64::from(call) << 8);
+    let chosen = |v: &&Vector| !v.id.starts_with("edge") && split(&v.list).is_some();
+    let accepted = || vectors.iter().filter(chosen).filter(|v| v.number == 0);
+    let short = accepted().filter(|v| v.list.len() <= 400).take(30);
+    let longer = accepted().filter(|v| v.list.len() > 400).take(10);
+    let refused = numbers(call).iter().filter(|&&number| number > 2);
+    let refused = refused.filter_map(|&n| vectors.iter().filter(chosen).find(|v| v.number == n));
+    let mut mixed = Vec::new();
+    for v in short.chain(longer).chain(refused) {
+        let other = (0..9).map(|_| shuffled(&mut rng, &v.list));
+        let Some(list) = other.into_iter().find(|list| *list != v.list) else {
+            continue;
+        };
+        let other = vector(call, list, v.scratch, |_| v.out);
+        assert_eq!(
+            (other.number, &other.answer),
+            (v.number, &v.answer),
+            "{}",
+            v.id
+        );
+        let at = vectors.len() + mixed.len();
+        mixed.push(named(
+            other,
+            format!("{name}-order-{:02}-{at:03}", v.number),
+        ));
+    }
+    mixed
 }
 
 /// A name of letters, digits and hyphens.
@@ -168,7 +255,8 @@ fn push(vectors: &mut Vec<Vector>, name: &str, number: u32, v: Vector) {
     vectors.push(named(v, id));
 }
 
-/// The vector of a list: the model's number, and the Rust's answer where it is 0.
+/// The vector of a list: the model's number, and where it is 0 the Rust's answer, or the model's sorted
+/// form.
 fn vector(call: u8, list: Vec<u8>, scratch: usize, out: impl Fn(usize) -> usize) -> Vector {
     let scratch = if call == RELEASE { scratch } else { 0 };
     let outcome = run(&list);
@@ -177,6 +265,7 @@ fn vector(call: u8, list: Vec<u8>, scratch: usize, out: impl Fn(usize) -> usize)
         panic!("{why}");
     }
     let answer = match outcome {
+        _ if call == SORT => sort(&list, usize::MAX).1,
         Outcome::Accepted(answer) if unlimited == 0 => answer,
         _ => Vec::new(),
     };
@@ -248,14 +337,16 @@ fn features(v: &Vector) -> BTreeSet<String> {
     features
 }
 
-/// The applies: changes that the Rust made, then random ones.
+/// The applies: edges, changes that the Rust made, and random ones; then the edges of the order, volumes
+/// in which something stands twice, and volumes in another order.
 fn apply_vectors() -> Vec<ApplyVector> {
     let mut vectors = Vec::new();
-    for (edge, volume, change) in apply_edges() {
-        let v = apply_vector(vectors.len(), volume, change, usize::MAX);
-        let id = format!("edge-{}", slug(&edge));
-        vectors.push(ApplyVector { id, ..v });
-    }
+    let mut before = apply_edges();
+    let first = before
+        .iter()
+        .position(|(edge, _, _)| edge == "volume fields reversed");
+    let order = before.split_off(first.expect("an edge of the order"));
+    add_apply_edges(&mut vectors, before);
     for i in 0..60 {
         let call = (i % 3) as u8 + 1;
         let c = candidate(SEED + 5_000 + i, call, Size::Small, 0);
@@ -271,10 +362,31 @@ fn apply_vectors() -> Vec<ApplyVector> {
         (0, Size::Small, 40),
         (0, Size::Medium, 15),
         (2, Size::Small, 30),
+        (3, Size::Small, 20),
+        (21, Size::Small, 12),
     ];
-    let wanted = wanted
-        .iter()
-        .chain(&[(3, Size::Small, 20), (21, Size::Small, 12)]);
+    add_applies(&mut vectors, &wanted);
+    add_apply_edges(&mut vectors, order);
+    add_applies(
+        &mut vectors,
+        &[(22, Size::Small, 20), (22, Size::Medium, 4)],
+    );
+    let mixed = applies_in_another_order(&vectors);
+    vectors.extend(mixed);
+    vectors
+}
+
+/// Add the vectors of apply's edges, each under its name.
+fn add_apply_edges(vectors: &mut Vec<ApplyVector>, edges: Vec<(String, Vec<u8>, Vec<u8>)>) {
+    for (edge, volume, change) in edges {
+        let v = apply_vector(vectors.len(), volume, change, usize::MAX);
+        let id = format!("edge-{}", slug(&edge));
+        vectors.push(ApplyVector { id, ..v });
+    }
+}
+
+/// Add random applies by number and size.
+fn add_applies(vectors: &mut Vec<ApplyVector>, wanted: &[(u32, Size, u64)]) {
     for &(number, size, count) in wanted {
         let mut left = count;
         for i in 0..2_000 {
@@ -290,7 +402,37 @@ fn apply_vectors() -> Vec<ApplyVector> {
             }
         }
     }
-    vectors
+}
+
+/// Stored applies with their volumes in another order, and their own answers.
+fn applies_in_another_order(vectors: &[ApplyVector]) -> Vec<ApplyVector> {
+    let mut rng = Rng::new(SEED ^ 4 << 8);
+    let of = |number: u32, count: usize| {
+        let whole = |v: &&ApplyVector| split(&v.volume).is_some();
+        let random = vectors.iter().filter(|v| !v.id.starts_with("edge"));
+        random
+            .filter(move |v| v.number == number)
+            .filter(whole)
+            .take(count)
+    };
+    let mut mixed = Vec::new();
+    for v in of(0, 60)
+        .step_by(2)
+        .chain(of(22, 3))
+        .chain(of(3, 4))
+        .chain(of(21, 3))
+    {
+        let other = (0..9).map(|_| shuffled(&mut rng, &v.volume));
+        let Some(volume) = other.into_iter().find(|volume| *volume != v.volume) else {
+            continue;
+        };
+        let other = apply_vector(0, volume, v.change.clone(), v.out);
+        assert_eq!((other.number, &other.next), (v.number, &v.next), "{}", v.id);
+        let at = vectors.len() + mixed.len();
+        let id = format!("apply-order-{:02}-{at:03}", v.number);
+        mixed.push(ApplyVector { id, ..other });
+    }
+    mixed
 }
 
 /// The vector of an apply; an output of unstated length is as long as the next volume.

@@ -17,13 +17,15 @@ usage: zerglaz COMMAND [--hex] [FILE ..]
 
   call LIST            makes the call that a call list asks for, and writes its change list
   apply VOLUME CHANGE  writes the volume that a change list leads to
+  sort LIST            writes the sorted form of a call list
   lines CHANGE         prints a change list, a line a field, as bucketlines does
   show VOLUME          prints a table of a volume's buckets
   draw VOLUME          writes a picture of a volume, as SVG: a cell for each bucket
 
 A FILE is a list of bytes, or the same in hexadecimal text, where # begins a comment. A last
-FILE that is left out, or -, is the standard input. A VOLUME may be a call list: its requests
-are left out. With --hex, call and apply write hexadecimal text.
+FILE that is left out, or -, is the standard input. The fields of a LIST or a VOLUME may stand
+in any order. A VOLUME may be a call list: its requests are left out. With --hex, call, apply
+and sort write hexadecimal text.
 
 Exit status: 0; 1 where a call refuses, or bytes are no list of the kind or a volume that no
 history reaches; 2 for other words than these; 3 where a file cannot be read or written.
@@ -56,6 +58,10 @@ fn run(words: &[&str]) -> Result<(), Failure> {
             let (hex, [volume, change]) = files(rest)?;
             let (volume, change) = (input::read(volume)?, input::read(change)?);
             write_list(&lists::apply(&volume, &change)?, hex)
+        }
+        ["sort", rest @ ..] => {
+            let (hex, [list]) = files(rest)?;
+            write_list(&lists::sort(&input::read(list)?)?, hex)
         }
         ["lines", rest @ ..] => {
             let [change] = only_files(rest)?;

@@ -7,10 +7,7 @@ use bucketlines::program::in_repository;
 fn main() -> std::io::Result<()> {
     for example in examples() {
         let path = in_repository("examples").join(format!("{}.hex", example.name));
-        std::fs::write(
-            path,
-            hex_text::text(example.title, &example.list.to_bytes()),
-        )?;
+        std::fs::write(path, hex_text::text(example.title, &example.list))?;
     }
     Ok(())
 }
