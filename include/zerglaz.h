@@ -8,9 +8,9 @@
  * The caller's duties:
  *
  * A history is a list of place, release and discard calls; each reads the volume last reached, of
- * which nothing but field 1 and requests has changed. A piece is live from its applied placement to
- * the applied release that names it by first sector and length. docs/FORMAT.md, "Clean volumes and
- * histories", has both in full. In which order the fields of a list stand is no part of it.
+ * which nothing but field 1, requests and the order of fields has changed. A piece is live from its
+ * applied placement to the applied release that names it by first sector and length. docs/FORMAT.md,
+ * "Clean volumes and histories", has both in full.
  *
  * (1) The history starts from a clean volume.
  * (2) A release names pieces that are live, none twice.

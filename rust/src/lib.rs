@@ -59,8 +59,8 @@
 //! # The caller's duties
 //!
 //! A history is a list of place, release and discard calls; each reads the volume last reached, of
-//! which nothing but field 1 and requests has changed. A piece is live from its applied placement
-//! to the applied release that names it by first sector and length.
+//! which nothing but field 1, requests and the order of fields has changed. A piece is live from its
+//! applied placement to the applied release that names it by first sector and length.
 //!
 //! 1. The history starts from a clean volume.
 //! 2. A release names pieces that are live, none twice.

@@ -423,8 +423,8 @@ fn header_has_the_limits() {
 
 /// What a history and a live piece are, and the caller's duties, in the words that every page has.
 const DUTIES: &str = "A history is a list of place, release and discard calls; each reads the volume \
-    last reached, of which nothing but field 1 and requests has changed. A piece is live from its \
-    applied placement to the applied release that names it by first sector and length. \
+    last reached, of which nothing but field 1, requests and the order of fields has changed. A \
+    piece is live from its applied placement to the applied release that names it by first sector and length. \
     1. The history starts from a clean volume. \
     2. A release names pieces that are live, none twice. \
     3. An accepted change is applied whole before the next call, and data is written only to places \
