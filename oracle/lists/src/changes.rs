@@ -43,13 +43,16 @@ pub fn applied(seed: u64, size: Size, wanted: u32) -> Applied {
     }
     if wanted == 22 {
         volume = doubled(&mut rng, &volume);
-        // A limit too at times, or no change.
+        // At times a limit is passed too, or there is no change, or the change list is broken.
         match rng.below(4) {
             0 => pass_a_limit(&mut rng, &mut batches),
             1 => batches.clear(),
             _ => (),
         }
-        change = change_list::bytes(&batches);
+        change = match rng.one_in(6) {
+            true => damage_change(&mut rng, &batches),
+            false => change_list::bytes(&batches),
+        };
     }
     let room = match (wanted, rng.below(3)) {
         (21, 0) => Room::Under(usize::MAX),
