@@ -1,5 +1,5 @@
 -- The answer to a sort: the tests of the reader, then 21, then the sorted form.
-use mathlib.Core.Path.{_≡_, refl, ap, sym, _∙_}
+use mathlib.Core.Path.{_≡_, refl, ap, sym, subst, _∙_}
 use mathlib.Core.Bool.{Bool, and-true}
 use mathlib.Core.List.{List, [], _∷_, _++_}
 use Prim.Native.Nat.{ℕ, _+_, _≤_, _<_}
@@ -49,10 +49,16 @@ module _ (s : List ℕ) (room : ℕ) where
       (λ (t : Bool). answer (test 2 t ∷ test 22 (noneTwice (readVolume s)) ∷ test 3 (listWithin (readCall s)) ∷ []) (sortedForm s) room)
       (sym (listed s))
 
-  pub sort-refused : {n : ℕ} → n ≡ callRefusal (callByte s) s → 0 < callRefusal (callByte s) s → sort s room ≡ record { number = n; written = [] }
-  sort-refused {n} e l = answers ∙ read-refused (callByte s) s [] (sortedForm s) room n e l
+  pub sort-refused : {call n : ℕ} → call ≡ callByte s → n ≡ callRefusal call s → 0 < callRefusal call s → sort s room ≡ record { number = n; written = [] }
+  sort-refused {n = n} c e l =
+      let k = ap (λ (m : ℕ). callRefusal m s) c in
+      answers ∙ read-refused (callByte s) s [] (sortedForm s) room n (e ∙ k) (omega (arith, k))
 
--- a list that was read
+-- a list that was read, for the call that its head names
+pub read-own : {call : ℕ} {s index : List ℕ} {h : Head} {e : Ends} → call ≡ callByte s → (0 ≡ callRefusal call s) × ListRead call s index h e
+    → (0 ≡ callRefusal (callByte s) s) × ListRead (callByte s) s index h e
+read-own {s = s} {index} {h} {e} c q = subst (λ (n : ℕ). (0 ≡ callRefusal n s) × ListRead n s index h e) c q
+
 module _ {s : List ℕ} (r : Bytes s) (z : 0 ≡ callRefusal (callByte s) s) where
   -- its sorted form is as long
   form-long : length (sortedForm s) ≡ length s

@@ -89,5 +89,9 @@ module _ {xs s places : List ℕ} {at : ℕ} {ys : List ℕ} {p i : ℕ} (c : Co
       → Wrote ys p n (take (r .end - start) (drop start s)) zs q → Copying xs s places at zs q (r .next)
   copying-on t w = record { part = turn _ (c .part) (sym (t .bytes)) w }
 
+  -- fewer are left
+  pub copying-less : {start : ℕ} {r : Stretch} → Stretched s places i start r → i < length places → length places - r .next < length places - i
+  copying-less t l = omega (arith, t .on)
+
   pub copying-end : length places ≤ i → Emitted xs at (fieldsAt s places) ys p
   copying-end l = done (c .part) (fields-none s places i l)

@@ -6,7 +6,7 @@ use lib.ListN.{length, getD}
 use Rattle.wire.proofs.OutputLaws.{part-length}
 use Rattle.calls.proofs.lists.AllLaws.{all-nth}
 use Rattle.sort.specs.Form.{Placed}
-use Rattle.sort.proofs.StretchLaws.{Copying, copying-start, copying-on, copying-end}
+use Rattle.sort.proofs.StretchLaws.{Copying, copying-start, copying-on, copying-less, copying-end}
 use Rattle.sort.proofs.form.put_fields.Statement.{statement}
 use Rattle.sort.proofs.form.put_fields.Tie as tie
 
@@ -51,7 +51,7 @@ put-bytes-requires c κs = let s = c .before .before .pass-beside .ensures in om
 loop-less : tie.Need-loop-less Inv-loop μ-loop
 loop-less c =
     let p = c .before .before .before .before .before in
-    omega (arith, p .pass-beside .ensures .on, p .before .before .loop-test .taken)
+    copying-less (p .before .before .before .loop .inv) (p .pass-beside .ensures) (p .before .before .loop-test .taken)
 
 loop-again : tie.Need-loop-again Inv-loop μ-loop
 loop-again c =

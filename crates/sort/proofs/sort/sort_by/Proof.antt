@@ -3,7 +3,7 @@ use borrow.Author.Needs.{needs}
 use denote.Ref.{now}
 use lib.ListN.{length}
 use Rattle.calls.proofs.answers.OutcomeLaws.{refused}
-use Rattle.sort.proofs.OutcomeLaws.{sort-refused}
+use Rattle.sort.proofs.OutcomeLaws.{sort-refused, read-own}
 use Rattle.sort.proofs.sort.sort_by.Statement.{statement}
 use Rattle.sort.proofs.sort.sort_by.Tie as tie
 
@@ -23,7 +23,7 @@ write-form-requires : tie.Need-write-form-requires
 write-form-requires c κs =
     let v = c .before .before .before .before .before .before .before .before in
     let s = v .before .before .before .before .before .before in
-    let a = rw (v .before .before .call-byte .ensures, c .before .before .before .before .first .given .1) at (v .read-call .ensures) in
+    let a = read-own (v .before .before .call-byte .ensures) (rw (c .before .before .before .before .first .given .1) at (v .read-call .ensures)) in
     (a .0, a .1, s .pre .1)
 
 same-length : tie.Need-same-length
@@ -33,8 +33,10 @@ returns : tie.Need-returns
 returns c =
     let v = c .before .before .before .before .before in
     let s = v .before .before .before .before .before .before in
-    let a = rw (v .before .before .call-byte .ensures, c .before .number .given .1) at (v .read-call .ensures) in
-    refused (c .before .number .given .0 .0) (now (s .args .out)) (sort-refused (now (s .args .list)) (length (now (s .args .out))) (a .0) (a .1)) (s .pre .1)
+    let a = rw (c .before .number .given .1) at (v .read-call .ensures) in
+    refused (c .before .number .given .0 .0) (now (s .args .out))
+    (sort-refused (now (s .args .list)) (length (now (s .args .out))) (v .before .before .call-byte .ensures) (a .0) (a .1))
+    (s .pre .1)
 
 same-length-2 : tie.Need-same-length-2
 same-length-2 c = search needs
