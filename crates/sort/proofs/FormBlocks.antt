@@ -29,6 +29,7 @@ use Rattle.reader.specs.Table.{bodyBelow, sortedBodies, requestBodies, requestT
 use Rattle.reader.proofs.ListLaws.{bodies-none}
 use Rattle.reader.proofs.SortedBodyLaws.{keys-sorted-are, buckets-sorted-are}
 
+-- bodies with a tag
 abbrev block : ℕ → List (List ℕ) → Block
 block t bs = record { tag = t; has = bs }
 
@@ -100,6 +101,7 @@ module _ {s : List ℕ} (l : ListLaid s) where
 
 -- a list has the requests of its own call alone
 module _ (call : ℕ) (s : List ℕ) (h : laidOut (volumeShapes ++ requestShapes call) s ≡ true) where
+  -- none with a tag that is not among its shapes
   none-of : (ss : List Shape) (t : ℕ) → volumeShapes ++ requestShapes call ≡ ss → isOf (tagsOf ss) t ≡ false → bodies t (fields s) ≡ []
   unfolding laidOut
   none-of ss t e z =
@@ -108,6 +110,7 @@ module _ (call : ℕ) (s : List ℕ) (h : laidOut (volumeShapes ++ requestShapes
       (all-imp (λ f q n. false≢true (sym (ap (isOf (tagsOf ss)) n ∙ z) ∙ shaped-tag ss f (rw e at q)))
       (test-all (shaped (volumeShapes ++ requestShapes call)) (fields s) k))
 
+  -- so one block has them
   request-block :
       flat (block 65 (bodies 65 (fields s)) ∷ block 66 (bodies 66 (fields s)) ∷ [])
       ≡ flat (block (requestTag call) (requestBodies call (fields s)) ∷ [])
@@ -122,6 +125,7 @@ module _ (call : ℕ) (s : List ℕ) (h : laidOut (volumeShapes ++ requestShapes
       go false false p q =
           rw (none-of (volumeShapes ++ []) 65 (rw (p, q)) refl, none-of (volumeShapes ++ []) 66 (rw (p, q)) refl)
 
+  -- the sorted form
   pub form-is : ListLaid s
       → sortedForm s ≡ encodeField (field 1 (headBody (readVolume s .head))) ++ encode (flat (tableBlocks call (fields s)))
   unfolding flat

@@ -34,11 +34,13 @@ called : (s : List ℕ) → callLaidOut (callByte s) s ≡ laidOut (volumeShapes
 unfolding callLaidOut callByte
 called s = rw (eq-eqb (readVolume s .head .call) (readVolume s .head .call) refl) (and-true _)
 
+-- which is the layout that a sort asks for
 listed : (s : List ℕ) → callLaidOut (callByte s) s ≡ listLaidOut s
 unfolding listLaidOut callByte
 listed s = called s
 
 module _ (s : List ℕ) (room : ℕ) where
+  -- its tests are those of the reader
   answers : sort s room
       ≡ answer
       (test 2 (callLaidOut (callByte s) s) ∷ test 22 (noneTwice (readVolume s)) ∷ test 3 (listWithin (readCall s)) ∷ [])
@@ -64,6 +66,7 @@ module _ {s : List ℕ} (r : Bytes s) (z : 0 ≡ callRefusal (callByte s) s) whe
   form-long : length (sortedForm s) ≡ length s
   form-long = let p = passed (callByte s) s z in form-length r (sym (listed s) ∙ p .laid) (p .once)
 
+  -- no test is left but 21
   left : (room : ℕ) → sort s room ≡ answer [] (sortedForm s) room
   left room = answers s room ∙ read-on (callByte s) s [] (sortedForm s) room z
 

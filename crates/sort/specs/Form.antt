@@ -16,6 +16,7 @@ pub record Placed (s : List ℕ) (o : ℕ) : Type 0 where
 unfoldable pub bytesAt : List ℕ → ℕ → List ℕ
 bytesAt s o = take (3 + sizeAt s o) (drop (o - 3) s)
 
+-- the bytes of the fields at some places, one after the other
 unfoldable pub fieldsAt : List ℕ → List ℕ → List ℕ
 fieldsAt s os = each (bytesAt s) os
 
