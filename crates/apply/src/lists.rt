@@ -16,6 +16,7 @@ use merge::queue;
 use merge::queue::Parts;
 use reader::head::Head;
 use reader::table::Ends;
+use sorting::entries;
 
 // How far the next volume is written, and the greatest count of a section so far.
 pub struct Reached {
@@ -23,23 +24,7 @@ pub struct Reached {
     pub count: usize,
 }
 
-// The section at an index. The loop over the sections shows the bound, here and below.
-fn section_at(i: usize) -> u8
-    requires { ⌜ i < 7 ⌝ }
-    ensures { λ r. ⌜ r ≡ getD sections i 0 ⌝ }
-{
-    match i {
-        0 => 4,
-        1 => 10,
-        2 => 11,
-        3 => 12,
-        4 => 13,
-        5 => 14,
-        _ => 64,
-    }
-}
-
-// Where its places end in the table of the volume.
+// Where the places of the section at an index end in the table of the volume. The loop over the sections shows the bound, here and below.
 fn end_at(e: Ends, i: usize) -> usize
     requires { ⌜ i < 7 ⌝ }
     ensures { λ r. ⌜ r ≡ getD (endsOf e) i 0 ⌝ }
@@ -146,7 +131,7 @@ fn put_volume(
             list,
             &table[first..last],
             q.fits,
-            section_at(i),
+            entries::section_at(i),
         );
         from = to;
         first = last;

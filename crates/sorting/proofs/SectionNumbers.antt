@@ -1,7 +1,7 @@
 -- The numbers of the sections, in order.
 use mathlib.Core.Path.{_≡_, refl}
 use mathlib.Core.Bool.{Bool, true, false, _&&_, _||_}
-use mathlib.Core.List.{_∷_}
+use mathlib.Core.List.{List, _∷_}
 use mathlib.Core.Logic.{_⊎_, inl, inr}
 use Prim.Native.Nat.{ℕ, zero, suc, _≤_, _<_}
 use native.Mathlib.Omega.{arith}
@@ -92,3 +92,7 @@ follows-at (suc (suc (suc (suc (suc (suc zero)))))) h = follows 14 64 (omega ari
     last u (inl e) l = absurd (omega arith)
     last u (inr p) l = absurd (omega (arith, p .1))
 follows-at (suc (suc (suc (suc (suc (suc (suc i))))))) h = absurd (omega arith)
+
+-- the last of seven
+pub last-at : (l : List ℕ) (i : ℕ) → i < 7 → 6 ≤ i → getD l 6 0 ≡ getD l i 0
+last-at l i h k = let e : i ≡ 6 = omega arith in rw e

@@ -1,8 +1,8 @@
 // Where the keys of a section stand: in a volume, and queued in a change list. A reserved bucket is a key at inode 0 and its number.
 ghost use mathlib.Core.Path.{_≡_};
-ghost use Prim.Native.Nat.{_+_, _≤_};
-ghost use lib.ListN.{length};
-ghost use Rattle.sorting.specs.Entries.{isBucket, isEntry};
+ghost use Prim.Native.Nat.{_+_, _≤_, _<_};
+ghost use lib.ListN.{length, getD};
+ghost use Rattle.sorting.specs.Entries.{sections, isBucket, isEntry};
 ghost use Rattle.sorting.specs.EntryPlaces.{EntryAt, entryFrom, EntryStepped};
 use wire::bpos::Bpos;
 use wire::fields;
@@ -21,6 +21,22 @@ pub enum NextEntry {
 
 // The section of the reserved buckets.
 pub const BUCKETS: u8 = 64;
+
+// The section at an index, in the order of a volume. The caller's loop shows the bound.
+pub fn section_at(i: usize) -> u8
+    requires { ⌜ i < 7 ⌝ }
+    ensures { λ r. ⌜ r ≡ getD sections i 0 ⌝ }
+{
+    match i {
+        0 => 4,
+        1 => 10,
+        2 => 11,
+        3 => 12,
+        4 => 13,
+        5 => 14,
+        _ => 64,
+    }
+}
 
 // Whether a field is a bucket that is reserved, in a volume or by a change list, or unreserved.
 fn is_bucket(tag: u8, len: usize) -> bool

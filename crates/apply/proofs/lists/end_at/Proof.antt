@@ -1,7 +1,7 @@
 -- `end_at` meets its contract.
 use native.Mathlib.Omega.{arith}
 use borrow.Author.Needs.{needs}
-use Rattle.reader.proofs.ArrangedLaws.{last-at}
+use Rattle.sorting.proofs.SectionNumbers.{last-at}
 use Rattle.apply.specs.NextVolume.{endsOf}
 use Rattle.apply.proofs.lists.end_at.Statement.{statement}
 use Rattle.apply.proofs.lists.end_at.Tie as tie

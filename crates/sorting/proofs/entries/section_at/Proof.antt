@@ -1,10 +1,10 @@
 -- `section_at` meets its contract.
 use native.Mathlib.Omega.{arith}
 use borrow.Author.Needs.{needs}
 use Rattle.sorting.specs.Entries.{sections}
-use Rattle.reader.proofs.ArrangedLaws.{last-at}
-use Rattle.reader.proofs.arrange.section_at.Statement.{statement}
-use Rattle.reader.proofs.arrange.section_at.Tie as tie
+use Rattle.sorting.proofs.SectionNumbers.{last-at}
+use Rattle.sorting.proofs.entries.section_at.Statement.{statement}
+use Rattle.sorting.proofs.entries.section_at.Tie as tie
 
 returns : tie.Need-returns
 returns c = search needs
