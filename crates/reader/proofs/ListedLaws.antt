@@ -100,6 +100,12 @@ listed-above (reserved e l) = omega arith
 listed-above (piece c e l) = omega arith
 listed-above (freed c e l) = omega arith
 
+pub listed-below : {call t n : ℕ} → FieldListed call t n → t ≤ 66
+listed-below {t} (key k l m) = let b = key-tag-bounds t k in omega (arith, b .1)
+listed-below (reserved e l) = omega arith
+listed-below (piece c e l) = omega arith
+listed-below (freed c e l) = omega arith
+
 -- a tag of a tree, or one above them
 abbrev pub Tagged : ℕ → Type 0
 Tagged t = KeyTag t ⊎ (14 < t)

@@ -41,8 +41,8 @@ field-of t (b ∷ bs) zero h = refl
 field-of t (b ∷ bs) (suc i) h = field-of t bs i (omega arith)
 
 module _
-    (s : List ℕ) (call : ℕ) (any : Bool) (at m head last before : ℕ) (over ordered : Bool) (counts index : List ℕ)
-    (g : Going s call any at m head last before over ordered counts index) (e : length s ≤ at) where
+    (s : List ℕ) (call : ℕ) (any : Bool) (at m head last before : ℕ) (over : Bool) (counts index : List ℕ)
+    (g : Going s call any at m head last before over counts index) (e : length s ≤ at) where
   abbrev fs : List Field
   fs = others (fields s)
 
@@ -86,7 +86,7 @@ module _
 
     -- fields in order
 
-    module _ (h : ordered ≡ true) where
+    module _ (h : last ≡ 255 → ⊥) where
       all-ordered : inOrder follows fs ≡ true
       unfolding inOrder fieldsAfter
       all-ordered = sym (rw (nothing-left, others-none, append-nil (lastField s last before (g .len))) at (g .order h)) ∙ alone (eqb last 0)
@@ -235,7 +235,7 @@ module _
           }
 
       -- the places of a rank stand after those of the ranks below
-      module _ (o : ordered ≡ true) where
+      module _ (o : last ≡ 255 → ⊥) where
         in-ranks : InRanks fs
         in-ranks = ranked call fs (all-ordered o) listed
 
@@ -267,16 +267,16 @@ module _
               requests = table-is 7 (requestTag call) (requestBodies call (fields s)) (omega arith) rank-requests;
             }
 
-    pub ends-found : LaidFound call any s counts index head over ordered
-    ends-found =
+    pub ends-found : (ordered : Bool) → (ordered ≡ true → last ≡ 255 → ⊥) → LaidFound call any s counts index head over ordered
+    ends-found ordered told =
         record {
           laid = ends-laid;
           inside = g .inside some;
           first = ends-head;
           past = ends-past;
           counted = ends-counted;
-          once = ends-once;
-          table = λ o z. ends-indexed z o;
+          once = λ o. ends-once (told o);
+          table = λ o z. ends-indexed z (told o);
         }
 
 -- the one outcome of the pass, or the other

@@ -6,7 +6,7 @@ use mathlib.Core.List.{List, [], _∷_, _++_}
 use mathlib.Core.Bool.{Bool, true, false, not, _&&_, _||_, cond, and-false}
 use lib.ListN.{length, take, drop, getD, set, length-set, length-map}
 use lib.Dec.{eqb}
-use borrow.Author.Tests.{eq-eqb, ne-eqb, eqb-true, lt-ltb}
+use borrow.Author.Tests.{eq-eqb, ne-eqb, eqb-true, lt-ltb, le-ltb}
 use native.Mathlib.Omega.{arith}
 use Rattle.wire.specs.Fields.{Field, fields, fieldAt, stepOf, whole}
 use Rattle.wire.specs.declared.fields.NextField.the-variants.{Found, Stop}
@@ -23,7 +23,7 @@ use Rattle.reader.specs.Readings.{laidAs}
 use Rattle.reader.proofs.BoolLaws.{apart, and-left, and-right, fails}
 use Rattle.reader.proofs.ShapeLaws.{same-or}
 use Rattle.reader.proofs.ListLaws.{bodies-here, bodies-other}
-use Rattle.reader.proofs.ListedLaws.{FieldListed, listed, listed-above}
+use Rattle.reader.proofs.ListedLaws.{FieldListed, listed, listed-above, listed-below}
 use Rattle.reader.proofs.LayoutLaws.{any-head, any-beside, list-laid}
 use Rattle.reader.proofs.BesideLaws.{others-head, others-more, beside-bodies, others-within}
 use Rattle.reader.proofs.FieldRankLaws.{inRank, AllListed, rank-listed, rank-below}
@@ -57,15 +57,15 @@ head-most head = go (eqb head 0)
 abbrev pub lastField : List ℕ → ℕ → ℕ → ℕ → List Field
 lastField s last before len = cond (eqb last 0) [] (fieldAt s last before len ∷ [])
 
--- m fields beside field 1 were passed
-pub record Going (s : List ℕ) (call : ℕ) (any : Bool) (at m head last before : ℕ) (over ordered : Bool) (counts index : List ℕ) : Type 0 where
+-- m fields beside field 1 were passed; the last has the tag `last`, 0 where none was, and 255 where they are not in order
+pub record Going (s : List ℕ) (call : ℕ) (any : Bool) (at m head last before : ℕ) (over : Bool) (counts index : List ℕ) : Type 0 where
   pub walked : FieldsWalked s at
   pub heads : headBodies s head ++ bodies 1 (fields (drop at s)) ≡ bodies 1 (fields s)
   pub inside : (head ≡ 0 → ⊥) → head + 39 ≤ length s
   pub fine : allOf (anyFieldOk call any) (fields (drop at s)) ≡ allOf (anyFieldOk call any) (fields s)
   pub len : ℕ
   pub kept : (last ≡ 0) ⊎ ((before + len ≤ length s) × (leastOf last ≤ len))
-  pub order : ordered ≡ true → inOrder follows (lastField s last before len ++ others (fields (drop at s))) ≡ inOrder follows (others (fields s))
+  pub order : (last ≡ 255 → ⊥) → inOrder follows (lastField s last before len ++ others (fields (drop at s))) ≡ inOrder follows (others (fields s))
   pub width : length counts ≡ 8
   pub fits : Fits s index
   pub many : 3 * m ≤ at
@@ -74,7 +74,7 @@ pub record Going (s : List ℕ) (call : ℕ) (any : Bool) (at m head last before
 abbrev pub zeros : List ℕ
 zeros = 0 ∷ 0 ∷ 0 ∷ 0 ∷ 0 ∷ 0 ∷ 0 ∷ 0 ∷ []
 
-pub going-start : (s : List ℕ) (call : ℕ) (any : Bool) (index counts : List ℕ) → Fits s index → counts ≡ zeros → Going s call any 0 0 0 0 0 false true counts index
+pub going-start : (s : List ℕ) (call : ℕ) (any : Bool) (index counts : List ℕ) → Fits s index → counts ≡ zeros → Going s call any 0 0 0 0 0 false counts index
 going-start s call any index counts z e =
     record {
       walked = walked-none s;
@@ -109,8 +109,8 @@ module _ (s : List ℕ) (call : ℕ) (any : Bool) where
   miscounted n = list-laid s call any ∙ simp (ne-eqb (length (bodies 1 (fields s))) 1 n, and-false)
 
 module _
-    (s : List ℕ) (call : ℕ) (any : Bool) (at m head last before : ℕ) (over ordered : Bool) (counts index : List ℕ)
-    (g : Going s call any at m head last before over ordered counts index) where
+    (s : List ℕ) (call : ℕ) (any : Bool) (at m head last before : ℕ) (over : Bool) (counts index : List ℕ)
+    (g : Going s call any at m head last before over counts index) where
   pub breaks : stepOf at (drop at s) ≡ Stop → at < length s → laidAs call any s ≡ false
   breaks e h = cut s call any (whole-left s at (g .walked) e h)
 
@@ -170,7 +170,7 @@ module _
         others-same : others (fields (drop at s)) ≡ others (fields (drop (b + n) s))
         others-same = ap others (f .here) ∙ others-head (fieldAt s t b n) (fields (drop (b + n) s)) e
 
-        pub goes-head : Going s call any (b + n) m b last before over ordered counts index
+        pub goes-head : Going s call any (b + n) m b last before over counts index
         goes-head =
             record {
               walked = walked-more s at (g .walked) t b n f;
@@ -191,45 +191,46 @@ module _
       pub bad-beside : callFieldOk call (fieldAt s t b n) ≡ false → laidAs call any s ≡ false
       bad-beside h = bad (any-beside call any (fieldAt s t b n) beside ∙ h)
 
-      module _ (ok : callFieldOk call (fieldAt s t b n) ≡ true) where
-        pub next-listed : FieldListed call t n
-        next-listed = ok-listed s call t b n (f .within) ok
+    module _ (ok : callFieldOk call (fieldAt s t b n) ≡ true) where
+      next-listed : FieldListed call t n
+      next-listed = ok-listed s call t b n (f .within) ok
 
-        pub next-within : b + leastOf t ≤ length s
-        next-within = omega (arith, f .within, listed-least next-listed)
+      pub next-within : b + leastOf t ≤ length s
+      next-within = omega (arith, f .within, listed-least next-listed)
 
-        pub last-within : last ≡ t → before + leastOf t ≤ length s
-        last-within e =
-            ⊎-elim (λ z. absurd (omega (arith, listed-above next-listed)))
-            (λ k. rw (← e) (omega (arith, k .0, k .1))) (g .kept)
+      pub last-within : last ≡ t → before + leastOf t ≤ length s
+      last-within e =
+          ⊎-elim (λ z. absurd (omega (arith, listed-above next-listed)))
+          (λ k. rw (← e) (omega (arith, k .0, k .1))) (g .kept)
 
-        -- the order of the fields, with the one that comes
-        comes-beside : others (fields (drop at s)) ≡ fieldAt s t b n ∷ others (fields (drop (b + n) s))
-        comes-beside = ap others (f .here) ∙ others-more (fieldAt s t b n) (fields (drop (b + n) s)) beside
+      -- the order of the fields, with the one that comes
+      comes-beside : others (fields (drop at s)) ≡ fieldAt s t b n ∷ others (fields (drop (b + n) s))
+      comes-beside =
+          ap others (f .here) ∙ others-more (fieldAt s t b n) (fields (drop (b + n) s)) (λ e. omega (arith, listed-above next-listed))
 
-        abbrev orderedOn : List Field → Bool
-        orderedOn rest = follows (fieldFrom s last before) (fieldFrom s t b) && inOrder follows (fieldAt s t b n ∷ rest)
+      abbrev orderedOn : List Field → Bool
+      orderedOn rest = follows (fieldFrom s last before) (fieldFrom s t b) && inOrder follows (fieldAt s t b n ∷ rest)
 
-        -- it is the first of them, or stands after another
-        order-first : last ≡ 0 → (rest : List Field) → orderedOn rest ≡ inOrder follows (lastField s last before (g .len) ++ (fieldAt s t b n ∷ rest))
-        unfolding follows
-        order-first z rest = rw (z, lt-ltb 0 t (omega (arith, listed-above next-listed)))
+      -- it is the first of them, or stands after another
+      order-first : last ≡ 0 → (rest : List Field) → orderedOn rest ≡ inOrder follows (lastField s last before (g .len) ++ (fieldAt s t b n ∷ rest))
+      unfolding follows
+      order-first z rest = rw (z, lt-ltb 0 t (omega (arith, listed-above next-listed)))
 
-        order-later : (last ≡ 0 → ⊥) → leastOf last ≤ g .len → (rest : List Field)
-            → orderedOn rest ≡ inOrder follows (lastField s last before (g .len) ++ (fieldAt s t b n ∷ rest))
-        unfolding inOrder
-        order-later z l rest =
-            rw (ne-eqb last 0 z)
-            (ap (λ (x : Bool). x && inOrder follows (fieldAt s t b n ∷ rest))
-            (sym (follows-cut s last before (g .len) t b n l (listed-least next-listed))))
+      order-later : (last ≡ 0 → ⊥) → leastOf last ≤ g .len → (rest : List Field)
+          → orderedOn rest ≡ inOrder follows (lastField s last before (g .len) ++ (fieldAt s t b n ∷ rest))
+      unfolding inOrder
+      order-later z l rest =
+          rw (ne-eqb last 0 z)
+          (ap (λ (x : Bool). x && inOrder follows (fieldAt s t b n ∷ rest))
+          (sym (follows-cut s last before (g .len) t b n l (listed-least next-listed))))
 
-        order-here : ordered ≡ true → orderedOn (others (fields (drop (b + n) s))) ≡ inOrder follows (others (fields s))
-        order-here o =
-            ⊎-elim (λ z. order-first z (others (fields (drop (b + n) s))))
-            (λ z. order-later z (⊎-elim (λ k. absurd (z k)) (λ k. k .1) (g .kept)) (others (fields (drop (b + n) s))))
-            (same-or last 0)
-            ∙ ap (λ (fs : List Field). inOrder follows (lastField s last before (g .len) ++ fs)) (sym comes-beside)
-            ∙ g .order o
+      order-here : (last ≡ 255 → ⊥) → orderedOn (others (fields (drop (b + n) s))) ≡ inOrder follows (others (fields s))
+      order-here o =
+          ⊎-elim (λ z. order-first z (others (fields (drop (b + n) s))))
+          (λ z. order-later z (⊎-elim (λ k. absurd (z k)) (λ k. k .1) (g .kept)) (others (fields (drop (b + n) s))))
+          (same-or last 0)
+          ∙ ap (λ (fs : List Field). inOrder follows (lastField s last before (g .len) ++ fs)) (sym comes-beside)
+          ∙ g .order o
 
 -- a limit that is passed
 
@@ -262,14 +263,17 @@ pub passed-length :
 passed-length {b = b} {m = m} {index = index} {r = r} p = ap length (p .placed) ∙ set-length r index m b
 
 module _
-    (s : List ℕ) (call : ℕ) (any : Bool) (at m head last before : ℕ) (over ordered : Bool) (counts index : List ℕ)
-    (g : Going s call any at m head last before over ordered counts index) (t b n : ℕ) (e : stepOf at (drop at s) ≡ Found t b n)
-    (beside : t ≡ 1 → ⊥) (ok : callFieldOk call (fieldAt s t b n) ≡ true) where
+    (s : List ℕ) (call : ℕ) (any : Bool) (at m head last before : ℕ) (over : Bool) (counts index : List ℕ)
+    (g : Going s call any at m head last before over counts index) (t b n : ℕ) (e : stepOf at (drop at s) ≡ Found t b n)
+    (ok : callFieldOk call (fieldAt s t b n) ≡ true) where
   f : FieldAt s at t b n
   f = field-at s at t b n e
 
   l : FieldListed call t n
   l = ok-listed s call t b n (f .within) ok
+
+  beside : t ≡ 1 → ⊥
+  beside e = omega (arith, listed-above l)
 
   abbrev h : ℕ
   h = headSize head
@@ -312,17 +316,32 @@ module _
       (entry-free false refl w (room-true counts (rankOf t) b hq)) (here-at s at t b n e f)
       (listed-most l) (here-within true hp) (room-true counts (rankOf t) b hq)
 
-  passed-order : (o : Bool) → o ≡ (ordered && follows (fieldFrom s last before) (fieldFrom s t b)) → o ≡ true
-      → inOrder follows (lastField s t b n ++ others (fields (drop (b + n) s))) ≡ inOrder follows (others (fields s))
-  passed-order o z k =
-      let a = sym z ∙ k in
+  -- none stands in order after 255
+  last-some : follows (fieldFrom s last before) (fieldFrom s t b) ≡ true → last ≡ 255 → ⊥
+  unfolding follows
+  last-some z e =
+      apart (sym z ∙ rw (e, le-ltb 255 t (omega (arith, listed-below l)), ne-eqb 255 t (λ y. omega (arith, listed-below l))))
+
+  -- the tag, where the field stands in order after the last
+  abbrev nextTag : Bool → ℕ
+  nextTag q = cond q t 255
+
+  passed-order : (q : Bool) → follows (fieldFrom s last before) (fieldFrom s t b) ≡ q → (nextTag q ≡ 255 → ⊥)
+      → inOrder follows (lastField s (nextTag q) b n ++ others (fields (drop (b + n) s))) ≡ inOrder follows (others (fields s))
+  passed-order false z k = absurd (k refl)
+  passed-order true z k =
       rw (ne-eqb t 0 (λ y. omega (arith, listed-above l)))
-      (simp (and-right ordered _ a) at (order-here s call any at m head last before over ordered counts index g t b n f beside ok (and-left ordered _ a)))
+      (simp z at (order-here s call any at m head last before over counts index g t b n f ok (last-some z)))
+
+  least-next : (q : Bool) → leastOf (nextTag q) ≤ n
+  least-next true = listed-least l
+  least-next false = omega arith
 
   pub goes-on :
-      (counts′ index′ : List ℕ) (r o : Bool) → o ≡ (ordered && follows (fieldFrom s last before) (fieldFrom s t b))
-      → FieldNoted s over t b m counts counts′ index index′ r → Going s call any (b + n) (m + 1) head t b r o counts′ index′
-  goes-on counts′ index′ r o z p =
+      (counts′ index′ : List ℕ) (r : Bool) (tag : ℕ) → tag ≡ cond (follows (fieldFrom s last before) (fieldFrom s t b)) t 255
+      → FieldNoted s over t b m counts counts′ index index′ r → Going s call any (b + n) (m + 1) head tag b r counts′ index′
+  goes-on counts′ index′ r tag z p =
+      let q = follows (fieldFrom s last before) (fieldFrom s t b) in
       record {
         walked = walked-more s at (g .walked) t b n f;
         heads =
@@ -331,11 +350,11 @@ module _
             ∙ g .heads;
         inside = g .inside;
         fine =
-            passed-fine s call any at m head last before over ordered counts index g t b n f
+            passed-fine s call any at m head last before over counts index g t b n f
             (any-beside call any (fieldAt s t b n) beside ∙ ok);
         len = n;
-        kept = inr (f .within, listed-least l);
-        order = passed-order o z;
+        kept = inr (f .within, rw z (least-next q));
+        order = rw z (passed-order q refl);
         width = ap length (p .counted) ∙ set-length r counts (rankOf t) _ ∙ g .width;
         fits =
             let z = passed-length p in

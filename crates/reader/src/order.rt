@@ -1,6 +1,6 @@
 // The fields beside field 1: each by itself, and in order after the one before it.
 ghost use mathlib.Core.Path.{_≡_};
-ghost use mathlib.Core.Bool.{_&&_};
+ghost use mathlib.Core.Bool.{_&&_, cond};
 ghost use Prim.Native.Nat.{_+_, _≤_};
 ghost use lib.Dec.{eqb};
 ghost use lib.ListN.{length, drop};
@@ -68,20 +68,13 @@ fn follows(s: &[u8], last: u8, before: usize, tag: u8, start: usize) -> bool
     ascends(s, tag, before, start)
 }
 
-// Whether fields that were in order stay so with one more.
-pub fn stays_ordered(
-    s: &[u8],
-    ordered: bool,
-    last: u8,
-    before: usize,
-    tag: u8,
-    start: usize,
-) -> bool
+// A field's tag, where it stands in order after the last; else 255, after which none does.
+pub fn last_tag(s: &[u8], last: u8, before: usize, tag: u8, start: usize) -> u8
     requires { ⌜ (last ≡ tag → before + leastOf tag ≤ length (now s)) × (start + leastOf tag ≤ length (now s)) ⌝ }
-    ensures { λ r. ⌜ r ≡ (ordered && specs.follows (fieldFrom (now (s .entry)) last before) (fieldFrom (now (s .entry)) tag start)) ⌝ }
+    ensures { λ r. ⌜ r ≡ cond (specs.follows (fieldFrom (now (s .entry)) last before) (fieldFrom (now (s .entry)) tag start)) tag 255 ⌝ }
 {
-    if !ordered {
-        return false;
+    if follows(s, last, before, tag, start) {
+        return tag;
     }
-    follows(s, last, before, tag, start)
+    255
 }

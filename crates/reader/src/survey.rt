@@ -74,7 +74,6 @@ pub fn survey(s: &[u8], call: u8, any: bool, counts: &mut [usize; 8], index: &mu
 {
     let mut head: usize = 0;
     let mut over = false;
-    let mut ordered = true;
     let mut last: u8 = 0;
     let mut before: usize = 0;
     let mut at: usize = 0;
@@ -84,7 +83,15 @@ pub fn survey(s: &[u8], call: u8, any: bool, counts: &mut [usize; 8], index: &mu
             return Pass::Broken;
         };
         at = start + len;
-        if tag == 1 {
+        if order::field_ok(s, call, tag, start, len) {
+            over = passes(s, over, tag, start, n, counts, index);
+            last = order::last_tag(s, last, before, tag, start);
+            before = start;
+            n += 1;
+        } else {
+            if tag != 1 {
+                return Pass::Broken;
+            }
             if head != 0 {
                 return Pass::Broken;
             }
@@ -92,20 +99,12 @@ pub fn survey(s: &[u8], call: u8, any: bool, counts: &mut [usize; 8], index: &mu
                 return Pass::Broken;
             }
             head = start;
-        } else {
-            if !order::field_ok(s, call, tag, start, len) {
-                return Pass::Broken;
-            }
-            ordered = order::stays_ordered(s, ordered, last, before, tag, start);
-            over = passes(s, over, tag, start, n, counts, index);
-            last = tag;
-            before = start;
-            n += 1;
         }
     }
     if head == 0 {
         return Pass::Broken;
     }
+    let ordered = last != 255;
     Pass::Laid {
         head,
         over,

@@ -5,7 +5,7 @@ use native.Mathlib.Omega.{arith}
 use mathlib.Core.Bool.{true}
 use denote.Ref.{now}
 use lib.ListN.{length, drop}
-use borrow.Author.Tests.{not-true, not-false}
+use borrow.Author.Tests.{eqb-false, not-true, not-false}
 use Rattle.wire.specs.Fields.{fieldAt, stepOf}
 use Rattle.wire.specs.declared.fields.NextField.the-variants.{Found}
 use Rattle.wire.proofs.FieldLaws.{FieldAt, field-at}
@@ -16,11 +16,11 @@ use Rattle.reader.proofs.survey.survey.Statement.{statement}
 use Rattle.reader.proofs.survey.survey.Tie as tie
 
 abbrev Inv-loop : tie.InvT-loop
-Inv-loop s call any counts₀ index₀ head₀ over₀ ordered₀ last₀ before₀ at₀ n₀ counts index head over ordered last before at n =
-    Going s call any at n head last before over ordered counts index × (length index ≡ length index₀)
+Inv-loop s call any counts₀ index₀ head₀ over₀ last₀ before₀ at₀ n₀ counts index head over last before at n =
+    Going s call any at n head last before over counts index × (length index ≡ length index₀)
 
 abbrev μ-loop : tie.MeasureT-loop
-μ-loop s call any counts₀ index₀ head₀ over₀ ordered₀ last₀ before₀ at₀ n₀ counts index head over ordered last before at n = length s - at
+μ-loop s call any counts₀ index₀ head₀ over₀ last₀ before₀ at₀ n₀ counts index head over last before at n = length s - at
 
 -- the call's start, the turn of the loop and the field that it is at
 abbrev start : tie.At-loop Inv-loop μ-loop → tie.Start Inv-loop μ-loop
@@ -29,12 +29,15 @@ start l = l .before .before .before
 abbrev turn : tie.After-known-told Inv-loop μ-loop → tie.At-loop Inv-loop μ-loop
 turn c = c .before .before .before .before .before
 
--- the field that is no field 1, once it may stand in the list and once its place is noted
-abbrev beside : tie.Else4 Inv-loop μ-loop → tie.After-known-told Inv-loop μ-loop
-beside c = c .before .before .before
+-- the field, where it may stand beside field 1, and once its place is noted; and where it may not
+abbrev beside : tie.Then1 Inv-loop μ-loop → tie.After-known-told Inv-loop μ-loop
+beside c = c .before .before
 
-abbrev noted : tie.After-slice-known2 Inv-loop μ-loop → tie.Else4 Inv-loop μ-loop
-noted c = c .before .before .before .before .before .before
+abbrev noted : tie.After-slice-known2 Inv-loop μ-loop → tie.Then1 Inv-loop μ-loop
+noted c = c .before .before .before .before .before
+
+abbrev other : tie.Else1 Inv-loop μ-loop → tie.After-known-told Inv-loop μ-loop
+other c = c .before .before
 
 loop-holds : tie.Need-loop-holds Inv-loop μ-loop
 loop-holds c = let a = c .before .before in (going-start _ _ _ _ _ (a .pre .0) (a .pre .1), refl)
@@ -54,7 +57,7 @@ same-length c = c .before .before .before .before .loop .inv .1
 returns : tie.Need-returns Inv-loop μ-loop
 returns c =
     broken-found
-    (breaks _ _ _ _ _ _ _ _ _ _ _ _ (c .before .before .before .before .loop .inv .0)
+    (breaks _ _ _ _ _ _ _ _ _ _ _ (c .before .before .before .before .loop .inv .0)
     (sym (c .before .before .next-field .ensures) ∙ c .enum-told .given .1) (c .before .before .before .loop-test .taken))
 
 -- the field that the turn is at
@@ -73,99 +76,95 @@ took c = field-at _ _ _ _ _ (step c)
 add-at : tie.Need-add-at Inv-loop μ-loop
 add-at c = omega (arith, took c .within, start (turn c) .good .0 .0)
 
--- field 1
-same-length-2 : tie.Need-same-length-2 Inv-loop μ-loop
-same-length-2 c = turn (c .before .before) .loop .inv .1
+-- a field beside field 1
+field-ok-requires : tie.Need-field-ok-requires Inv-loop μ-loop
+field-ok-requires c κs = took c .within
 
-returns-2 : tie.Need-returns-2 Inv-loop μ-loop
-returns-2 c =
-    let f = c .before .before in
-    broken-found (second _ _ _ _ _ _ _ _ _ _ _ _ (turn f .loop .inv .0) _ _ _ (took f) (c .before .if1 .taken) (c .if2 .taken))
+fine :
+    (c : tie.Then1 Inv-loop μ-loop)
+    → let f = beside c in
+    let a = start (turn f) .args in
+    callFieldOk (a .call) (fieldAt (now (a .s)) (f .before .tag .given .0 .0) (f .before .tag .given .0 .1 .0) (f .before .tag .given .0 .1 .1 .0)) ≡ true
+fine c = sym (c .before .field-ok .ensures) ∙ c .if1 .taken
 
-head-field-ok-requires : tie.Need-head-field-ok-requires Inv-loop μ-loop
-head-field-ok-requires c κs = took (c .before .before) .within
+passes-requires : tie.Need-passes-requires Inv-loop μ-loop
+passes-requires c κs =
+    let o = c .before .before in
+    let f = beside o in
+    let g = turn f .loop .inv .0 in
+    (next-within _ _ _ _ _ _ _ _ _ _ _ g _ _ _ (took f) (fine o), next-free _ _ _ _ _ _ _ _ _ _ _ g _ _ _ (step f) (fine o))
 
-same-length-3 : tie.Need-same-length-3 Inv-loop μ-loop
-same-length-3 c = turn (c .before .before .before .before) .loop .inv .1
+last-tag-requires : tie.Need-last-tag-requires Inv-loop μ-loop
+last-tag-requires c κs =
+    let o = noted c in
+    let f = beside o in
+    let g = turn f .loop .inv .0 in
+    (last-within _ _ _ _ _ _ _ _ _ _ _ g _ _ _ (took f) (fine o), next-within _ _ _ _ _ _ _ _ _ _ _ g _ _ _ (took f) (fine o))
 
-returns-3 : tie.Need-returns-3 Inv-loop μ-loop
-returns-3 c =
-    let f = c .before .before .before .before in
-    broken-found
-    (bad-head _ _ _ _ _ _ _ _ _ _ _ _ (turn f .loop .inv .0) _ _ _ (took f) (c .before .before .before .if1 .taken)
-    (sym (c .before .head-field-ok .ensures) ∙ not-true _ (c .if3 .taken)))
+add-n : tie.Need-add-n Inv-loop μ-loop
+add-n c =
+    let f = beside (noted (c .before)) in
+    omega (arith, turn f .loop .inv .0 .many, took f .within, took f .on, start (turn f) .good .0 .0)
 
 loop-less : tie.Need-loop-less Inv-loop μ-loop
 loop-less c =
-    let o = c .before .before .before .before in
+    let o = beside (noted (c .before)) in
     let f = took o in
     omega (arith, f .within, f .on, o .before .before .before .before .loop-test .taken)
 
 loop-again : tie.Need-loop-again Inv-loop μ-loop
 loop-again c =
-    let f = c .before .before .before .before in (
-      goes-head _ _ _ _ _ _ _ _ _ _ _ _ (turn f .loop .inv .0) _ _ _ (took f) (c .before .before .before .if1 .taken) (c .before .before .if2 .left)
-          (sym (c .before .head-field-ok .ensures) ∙ not-false _ (c .if3 .left)),
-      turn f .loop .inv .1,
+    let o = noted (c .before) in
+    let f = beside o in
+    let p = c .before .before .before .passes .ensures in (
+      goes-on _ _ _ _ _ _ _ _ _ _ _ (turn f .loop .inv .0) _ _ _ (step f) (fine o) _ _ _ _ (c .last-tag .ensures) p,
+      passed-length p ∙ turn f .loop .inv .1,
     )
 
--- a field beside it
-field-ok-requires : tie.Need-field-ok-requires Inv-loop μ-loop
-field-ok-requires c κs = took (c .before) .within
+-- another field
+same-length-2 : tie.Need-same-length-2 Inv-loop μ-loop
+same-length-2 c = turn (other (c .before)) .loop .inv .1
+
+returns-2 : tie.Need-returns-2 Inv-loop μ-loop
+returns-2 c =
+    let e = c .before in
+    let f = other e in
+    broken-found
+    (bad-beside _ _ _ _ _ _ _ _ _ _ _ (turn f .loop .inv .0) _ _ _ (took f) (c .if2 .taken) (sym (e .before .field-ok .ensures) ∙ e .if1 .left))
+
+same-length-3 : tie.Need-same-length-3 Inv-loop μ-loop
+same-length-3 c = turn (other (c .before .before)) .loop .inv .1
+
+returns-3 : tie.Need-returns-3 Inv-loop μ-loop
+returns-3 c =
+    let f = other (c .before .before) in
+    broken-found (second _ _ _ _ _ _ _ _ _ _ _ (turn f .loop .inv .0) _ _ _ (took f) (c .before .if2 .left) (c .if3 .taken))
+
+head-field-ok-requires : tie.Need-head-field-ok-requires Inv-loop μ-loop
+head-field-ok-requires c κs = took (other (c .before .before)) .within
 
 same-length-4 : tie.Need-same-length-4 Inv-loop μ-loop
-same-length-4 c = turn (c .before .before .before) .loop .inv .1
+same-length-4 c = turn (other (c .before .before .before .before)) .loop .inv .1
 
 returns-4 : tie.Need-returns-4 Inv-loop μ-loop
 returns-4 c =
-    let f = c .before .before .before in
+    let f = other (c .before .before .before .before) in
     broken-found
-    (bad-beside _ _ _ _ _ _ _ _ _ _ _ _ (turn f .loop .inv .0) _ _ _ (took f) (c .before .before .if1 .left)
-    (sym (c .before .field-ok .ensures) ∙ not-true _ (c .if4 .taken)))
-
--- it may stand in the list
-fine :
-    (c : tie.Else4 Inv-loop μ-loop)
-    → let f = beside c in
-    let a = start (turn f) .args in
-    callFieldOk (a .call) (fieldAt (now (a .s)) (f .before .tag .given .0 .0) (f .before .tag .given .0 .1 .0) (f .before .tag .given .0 .1 .1 .0)) ≡ true
-fine c = sym (c .before .field-ok .ensures) ∙ not-false _ (c .if4 .left)
-
-stays-ordered-requires : tie.Need-stays-ordered-requires Inv-loop μ-loop
-stays-ordered-requires c κs =
-    let f = beside c in
-    let g = turn f .loop .inv .0 in (
-      last-within _ _ _ _ _ _ _ _ _ _ _ _ g _ _ _ (took f) (c .before .before .if1 .left) (fine c),
-      next-within _ _ _ _ _ _ _ _ _ _ _ _ g _ _ _ (took f) (c .before .before .if1 .left) (fine c),
-    )
-
-passes-requires : tie.Need-passes-requires Inv-loop μ-loop
-passes-requires c κs =
-    let o = c .before .before .before in
-    let f = beside o in
-    let g = turn f .loop .inv .0 in (
-      next-within _ _ _ _ _ _ _ _ _ _ _ _ g _ _ _ (took f) (o .before .before .if1 .left) (fine o),
-      next-free _ _ _ _ _ _ _ _ _ _ _ _ g _ _ _ (step f) (o .before .before .if1 .left) (fine o),
-    )
-
-add-n : tie.Need-add-n Inv-loop μ-loop
-add-n c =
-    let f = beside (noted c) in
-    omega (arith, turn f .loop .inv .0 .many, took f .within, took f .on, start (turn f) .good .0 .0)
+    (bad-head _ _ _ _ _ _ _ _ _ _ _ (turn f .loop .inv .0) _ _ _ (took f) (c .before .before .before .if2 .left)
+    (sym (c .before .head-field-ok .ensures) ∙ not-true _ (c .if4 .taken)))
 
 loop-less-2 : tie.Need-loop-less-2 Inv-loop μ-loop
 loop-less-2 c =
-    let o = beside (noted c) in
+    let o = other (c .before .before .before .before) in
     let f = took o in
     omega (arith, f .within, f .on, o .before .before .before .before .loop-test .taken)
 
 loop-again-2 : tie.Need-loop-again-2 Inv-loop μ-loop
 loop-again-2 c =
-    let o = noted c in
-    let f = beside o in (
-      goes-on _ _ _ _ _ _ _ _ _ _ _ _ (turn f .loop .inv .0) _ _ _ (step f) (o .before .before .if1 .left) (fine o) _ _ _ _
-          (c .before .before .before .before .before .stays-ordered .ensures) (c .before .before .passes .ensures),
-      passed-length (c .before .before .passes .ensures) ∙ turn f .loop .inv .1,
+    let f = other (c .before .before .before .before) in (
+      goes-head _ _ _ _ _ _ _ _ _ _ _ (turn f .loop .inv .0) _ _ _ (took f) (c .before .before .before .if2 .left) (c .before .before .if3 .left)
+          (sym (c .before .head-field-ok .ensures) ∙ not-false _ (c .if4 .left)),
+      turn f .loop .inv .1,
     )
 
 -- the end
@@ -173,13 +172,13 @@ same-length-5 : tie.Need-same-length-5 Inv-loop μ-loop
 same-length-5 c = c .before .before .loop .inv .1
 
 returns-5 : tie.Need-returns-5 Inv-loop μ-loop
-returns-5 c = broken-found (no-head _ _ _ _ _ _ _ _ _ _ _ _ (c .before .before .loop .inv .0) (c .before .loop-test .left) (c .if5 .taken))
+returns-5 c = broken-found (no-head _ _ _ _ _ _ _ _ _ _ _ (c .before .before .loop .inv .0) (c .before .loop-test .left) (c .if5 .taken))
 
 same-length-6 : tie.Need-same-length-6 Inv-loop μ-loop
 same-length-6 c = c .before .before .loop .inv .1
 
 returns-6 : tie.Need-returns-6 Inv-loop μ-loop
-returns-6 c = laid-found (ends-found _ _ _ _ _ _ _ _ _ _ _ _ (c .before .before .loop .inv .0) (c .before .loop-test .left) (c .if5 .left))
+returns-6 c = laid-found (ends-found _ _ _ _ _ _ _ _ _ _ _ (c .before .before .loop .inv .0) (c .before .loop-test .left) (c .if5 .left) _ (λ z. eqb-false _ 255 (not-true _ z)))
 
 pub survey-spec : {M : Type 1} → statement M
 survey-spec =
@@ -194,19 +193,19 @@ survey-spec =
     same-length
     returns
     add-at
-    same-length-2
-    returns-2
-    head-field-ok-requires
-    same-length-3
-    returns-3
+    field-ok-requires
+    passes-requires
+    last-tag-requires
+    add-n
     loop-less
     loop-again
-    field-ok-requires
+    same-length-2
+    returns-2
+    same-length-3
+    returns-3
+    head-field-ok-requires
     same-length-4
     returns-4
-    stays-ordered-requires
-    passes-requires
-    add-n
     loop-less-2
     loop-again-2
     same-length-5
