@@ -2,12 +2,13 @@
 use Prim.Native.Nat.{ℕ, _+_, _≤_}
 use mathlib.Core.Path.{_≡_}
 use mathlib.Core.Bool.{Bool, true, false}
-use mathlib.Core.List.{List}
+use mathlib.Core.List.{List, _∷_}
 use lib.ListN.{length, take, drop}
 use Rattle.calls.specs.CallList.{headOf, noneTwice}
 use Rattle.calls.specs.Limits.{listWithin}
 use Rattle.calls.specs.Answers.{readCall, readVolume}
-use Rattle.reader.specs.CallFields.{headWithin}
+use Rattle.wire.specs.Fields.{fields, fieldAt}
+use Rattle.reader.specs.CallFields.{headWithin, headFieldOk}
 use Rattle.reader.specs.Table.{rankEnd, endsIn, Indexed, Ended}
 use Rattle.reader.specs.Readings.{laidAs}
 use Rattle.reader.specs.declared.survey.Pass.{Pass}
@@ -30,6 +31,13 @@ pub record LaidFound (call : ℕ) (any : Bool) (s counts index : List ℕ) (head
   pub counted : over ≡ false → Counted call s counts index
   pub once : ordered ≡ true → noneTwice (readVolume s) ≡ true
   pub table : ordered ≡ true → over ≡ false → Indexed call s index (endsIn counts)
+
+-- a field 1 of this call, or of any, stands first, with its body at r; or r is 0
+pub record HeadFirst (call : ℕ) (any : Bool) (s : List ℕ) (r : ℕ) : Type 0 where
+  pub here : (r ≡ 0 → ⊥) → fields s ≡ fieldAt s 1 r 39 ∷ fields (drop (r + 39) s)
+  pub within : (r ≡ 0 → ⊥) → r + 39 ≤ length s
+  pub on : (r ≡ 0 → ⊥) → r ≡ 3
+  pub ok : (r ≡ 0 → ⊥) → headFieldOk call any (take 39 (drop r s)) ≡ true
 
 -- the one or the other
 pub record Surveyed (call : ℕ) (any : Bool) (s counts index : List ℕ) (r : Pass) : Type 0 where

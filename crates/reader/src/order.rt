@@ -1,6 +1,6 @@
 // The fields beside field 1: each by itself, and in order after the one before it.
 ghost use mathlib.Core.Path.{_≡_};
-ghost use mathlib.Core.Bool.{_&&_, cond};
+ghost use mathlib.Core.Bool.{_&&_};
 ghost use Prim.Native.Nat.{_+_, _≤_};
 ghost use lib.Dec.{eqb};
 ghost use lib.ListN.{length, drop};
@@ -54,8 +54,8 @@ fn ascends(s: &[u8], tag: u8, before: usize, start: usize) -> bool
     true
 }
 
-// Whether a field stands in order after another. Its length, and that of a field before with its tag, show the bounds here and below.
-fn follows(s: &[u8], last: u8, before: usize, tag: u8, start: usize) -> bool
+// Whether a field stands in order after another. Its length, and that of a field before with its tag, show the bounds.
+pub fn follows(s: &[u8], last: u8, before: usize, tag: u8, start: usize) -> bool
     requires { ⌜ (last ≡ tag → before + leastOf tag ≤ length (now s)) × (start + leastOf tag ≤ length (now s)) ⌝ }
     ensures { λ r. ⌜ r ≡ specs.follows (fieldFrom (now (s .entry)) last before) (fieldFrom (now (s .entry)) tag start) ⌝ }
 {
@@ -66,15 +66,4 @@ fn follows(s: &[u8], last: u8, before: usize, tag: u8, start: usize) -> bool
         return false;
     }
     ascends(s, tag, before, start)
-}
-
-// A field's tag, where it stands in order after the last; else 255, after which none does.
-pub fn last_tag(s: &[u8], last: u8, before: usize, tag: u8, start: usize) -> u8
-    requires { ⌜ (last ≡ tag → before + leastOf tag ≤ length (now s)) × (start + leastOf tag ≤ length (now s)) ⌝ }
-    ensures { λ r. ⌜ r ≡ cond (specs.follows (fieldFrom (now (s .entry)) last before) (fieldFrom (now (s .entry)) tag start)) tag 255 ⌝ }
-{
-    if follows(s, last, before, tag, start) {
-        return tag;
-    }
-    255
 }

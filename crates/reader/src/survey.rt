@@ -6,7 +6,7 @@ ghost use Prim.Native.Nat.{_+_, _≤_};
 ghost use lib.ListN.{length, take, drop};
 ghost use Rattle.reader.specs.CallFields.{headFieldOk, leastOf};
 ghost use Rattle.reader.specs.Table.{rankOf, Free, FieldNoted, Fits};
-ghost use Rattle.reader.specs.Surveyed.{Surveyed};
+ghost use Rattle.reader.specs.Surveyed.{HeadFirst, Surveyed};
 use crate::head;
 use crate::limits;
 use crate::order;
@@ -44,6 +44,22 @@ fn head_field_ok(s: &[u8], call: u8, any: bool, start: usize, len: usize) -> boo
     first.call == call
 }
 
+// Where the body of a field 1 of this call, or of any, starts that stands first; else 0.
+fn head_first(s: &[u8], call: u8, any: bool) -> usize
+    ensures { λ r. ⌜ HeadFirst call any (now (s .entry)) r ⌝ }
+{
+    let NextField::Found { tag, start, len } = fields::next_field(s, 0) else {
+        return 0;
+    };
+    if tag != 1 {
+        return 0;
+    }
+    if !head_field_ok(s, call, any, start, len) {
+        return 0;
+    }
+    start
+}
+
 // Whether a limit is passed, now or before: else the field's place is noted behind n others. The length that its tag asks shows the bound.
 fn passes(
     s: &[u8],
@@ -67,15 +83,14 @@ fn passes(
     !noted
 }
 
-// The pass over a list of a call, or with `any` of whatever call its head names. Counts of 0 and the table that is lent show the bounds.
-pub fn survey(s: &[u8], call: u8, any: bool, counts: &mut [usize; 8], index: &mut [u32]) -> Pass
-    requires { ⌜ Fits (now s) (now index) × (now counts ≡ 0 ∷ 0 ∷ 0 ∷ 0 ∷ 0 ∷ 0 ∷ 0 ∷ 0 ∷ []) ⌝ }
+// The pass over a list in any order, of a call or with `any` of whatever call its head names: field 1 may stand anywhere, and no order is told. The table that is lent shows the bound.
+fn survey_any(s: &[u8], call: u8, any: bool, counts: &mut [usize; 8], index: &mut [u32]) -> Pass
+    requires { ⌜ Fits (now s) (now index) ⌝ }
     ensures { λ r. ⌜ Surveyed call any (now (s .entry)) (now (counts .exit)) (now (index .exit)) r ⌝ }
 {
+    *counts = [0usize; 8];
     let mut head: usize = 0;
     let mut over = false;
-    let mut last: u8 = 0;
-    let mut before: usize = 0;
     let mut at: usize = 0;
     let mut n: usize = 0;
     while at < s.len() {
@@ -85,8 +100,6 @@ pub fn survey(s: &[u8], call: u8, any: bool, counts: &mut [usize; 8], index: &mu
         at = start + len;
         if order::field_ok(s, call, tag, start, len) {
             over = passes(s, over, tag, start, n, counts, index);
-            last = order::last_tag(s, last, before, tag, start);
-            before = start;
             n += 1;
         } else {
             if tag != 1 {
@@ -104,10 +117,46 @@ pub fn survey(s: &[u8], call: u8, any: bool, counts: &mut [usize; 8], index: &mu
     if head == 0 {
         return Pass::Broken;
     }
-    let ordered = last != 255;
     Pass::Laid {
         head,
         over,
-        ordered,
+        ordered: false,
+    }
+}
+
+// The pass over a list that begins with field 1 and whose other fields are in order, with counts of 0; where it is not one, over it again in any order. The same shows the bound.
+pub fn survey(s: &[u8], call: u8, any: bool, counts: &mut [usize; 8], index: &mut [u32]) -> Pass
+    requires { ⌜ Fits (now s) (now index) × (now counts ≡ 0 ∷ 0 ∷ 0 ∷ 0 ∷ 0 ∷ 0 ∷ 0 ∷ 0 ∷ []) ⌝ }
+    ensures { λ r. ⌜ Surveyed call any (now (s .entry)) (now (counts .exit)) (now (index .exit)) r ⌝ }
+{
+    let head = head_first(s, call, any);
+    if head == 0 {
+        return survey_any(s, call, any, counts, index);
+    }
+    let mut over = false;
+    let mut last: u8 = 0;
+    let mut before: usize = 0;
+    let mut at: usize = head + 39;
+    let mut n: usize = 0;
+    while at < s.len() {
+        let NextField::Found { tag, start, len } = fields::next_field(s, at) else {
+            return survey_any(s, call, any, counts, index);
+        };
+        if !order::field_ok(s, call, tag, start, len) {
+            return survey_any(s, call, any, counts, index);
+        }
+        if !order::follows(s, last, before, tag, start) {
+            return survey_any(s, call, any, counts, index);
+        }
+        over = passes(s, over, tag, start, n, counts, index);
+        last = tag;
+        before = start;
+        at = start + len;
+        n += 1;
+    }
+    Pass::Laid {
+        head,
+        over,
+        ordered: true,
     }
 }
