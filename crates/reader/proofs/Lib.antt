@@ -17,6 +17,7 @@ pub mod RankLaws
 pub mod BesideLaws
 pub mod ListRefusalLaws
 pub mod SurveyLaws
+pub mod SurveyStartLaws
 pub mod SurveyEndLaws
 pub mod ShapeLaws
 pub mod FieldRankLaws

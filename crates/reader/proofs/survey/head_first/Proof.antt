@@ -4,7 +4,7 @@ use borrow.Author.Needs.{needs}
 use borrow.Author.Tests.{not-false}
 use denote.Ref.{now}
 use Rattle.wire.proofs.FieldLaws.{FieldAt, field-at}
-use Rattle.reader.proofs.SurveyLaws.{head-none, head-found}
+use Rattle.reader.proofs.SurveyStartLaws.{head-none, head-found}
 use Rattle.reader.proofs.survey.head_first.Statement.{statement}
 use Rattle.reader.proofs.survey.head_first.Tie as tie
 

@@ -12,7 +12,8 @@ use Rattle.wire.specs.Fields.{fieldAt, stepOf}
 use Rattle.wire.specs.declared.fields.NextField.the-variants.{Found}
 use Rattle.wire.proofs.FieldLaws.{FieldAt, field-at}
 use Rattle.reader.specs.CallFields.{callFieldOk}
-use Rattle.reader.proofs.SurveyLaws.{Going, first-going, next-within, last-within, next-free, passed-length, next-below, goes-after}
+use Rattle.reader.proofs.SurveyLaws.{Going, next-within, last-within, next-free, passed-length, next-below, goes-after}
+use Rattle.reader.proofs.SurveyStartLaws.{first-going}
 use Rattle.reader.proofs.SurveyEndLaws.{ends-found, laid-found}
 use Rattle.reader.proofs.survey.survey.Statement.{statement}
 use Rattle.reader.proofs.survey.survey.Tie as tie

@@ -11,7 +11,8 @@ use Rattle.wire.specs.Fields.{fieldAt, stepOf}
 use Rattle.wire.specs.declared.fields.NextField.the-variants.{Found}
 use Rattle.wire.proofs.FieldLaws.{FieldAt, field-at}
 use Rattle.reader.specs.CallFields.{callFieldOk}
-use Rattle.reader.proofs.SurveyLaws.{Going, going-start, breaks, second, bad-head, goes-head, bad-beside, next-within, next-free, passed-length, goes-on, loosen}
+use Rattle.reader.proofs.SurveyLaws.{Going, going-start, breaks, second, bad-head, goes-head, bad-beside, next-within, next-free, passed-length, goes-on}
+use Rattle.reader.proofs.SurveyStartLaws.{loosen}
 use Rattle.reader.proofs.SurveyEndLaws.{no-head, ends-found, broken-found, laid-found}
 use Rattle.reader.proofs.survey.survey_any.Statement.{statement}
 use Rattle.reader.proofs.survey.survey_any.Tie as tie
