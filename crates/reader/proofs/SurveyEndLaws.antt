@@ -17,10 +17,11 @@ use Rattle.calls.specs.Answers.{readCall, readVolume}
 use Rattle.calls.specs.Sorting.{twice}
 use Rattle.calls.proofs.encoding.Blocks.{field}
 use Rattle.reader.specs.CallFields.{anyFieldOk, others, follows, ascends, headWithin, fieldWithin}
-use Rattle.reader.specs.Table.{mostOf, rankEnd, bodyBelow, sortedBodies, Indexed, Ended, endsIn, requestBodies, requestTag, Tabled}
+use Rattle.reader.specs.Table.{mostOf, rankEnd, Fits, bodyBelow, sortedBodies, Indexed, Ended, endsIn, requestBodies, requestTag, Tabled}
 use Rattle.reader.specs.Readings.{laidAs}
-use Rattle.reader.specs.Surveyed.{Counted, LaidFound, Surveyed}
+use Rattle.reader.specs.Surveyed.{Counted, LaidFound, Surveyed, OrderSurveyed}
 use Rattle.reader.specs.declared.survey.Pass.the-variants.{Broken, Laid}
+use Rattle.reader.specs.declared.survey.OrderedPass.the-variants.{InOrder, OutOfOrder}
 use Rattle.reader.proofs.BoolLaws.{apart}
 use Rattle.reader.proofs.ShapeLaws.{KeyTag}
 use Rattle.reader.proofs.ListedLaws.{key-tag-bounds}
@@ -293,4 +294,19 @@ laid-found {head = head} {over = over} {ordered = ordered} f =
           let b : over ≡ o = cc in
           let c : ordered ≡ d = cc in
           rw (← a, ← b, ← c) f;
+    }
+
+-- the pass over a list in order, likewise
+pub unordered-found : {call : ℕ} {any : Bool} {s counts index : List ℕ} → Fits s index → OrderSurveyed call any s counts index OutOfOrder
+unordered-found w = record { found = λ h o e. absurd (let z : _≡_ {A = ℕ} 0 1 = cc in omega arith); fits = w }
+
+pub ordered-found : {call : ℕ} {any : Bool} {s counts index : List ℕ} {head : ℕ} {over : Bool}
+    → Fits s index → LaidFound call any s counts index head over true → OrderSurveyed call any s counts index (InOrder head over)
+ordered-found {head = head} {over = over} w f =
+    record {
+      found = λ h o e.
+          let a : head ≡ h = cc in
+          let b : over ≡ o = cc in
+          rw (← a, ← b) f;
+      fits = w;
     }

@@ -9,10 +9,12 @@ use Rattle.calls.specs.Limits.{listWithin}
 use Rattle.calls.specs.Answers.{readCall, readVolume}
 use Rattle.wire.specs.Fields.{fields, fieldAt}
 use Rattle.reader.specs.CallFields.{headWithin, headFieldOk}
-use Rattle.reader.specs.Table.{rankEnd, endsIn, Indexed, Ended}
+use Rattle.reader.specs.Table.{rankEnd, endsIn, Fits, Indexed, Ended}
 use Rattle.reader.specs.Readings.{laidAs}
 use Rattle.reader.specs.declared.survey.Pass.{Pass}
 use Rattle.reader.specs.declared.survey.Pass.the-variants.{Broken, Laid}
+use Rattle.reader.specs.declared.survey.OrderedPass.{OrderedPass}
+use Rattle.reader.specs.declared.survey.OrderedPass.the-variants.{InOrder}
 
 -- fields within the limits, but for the head's: they are counted, and where they are in order the table has their places
 pub record Counted (call : ℕ) (s counts index : List ℕ) : Type 0 where
@@ -43,3 +45,8 @@ pub record HeadFirst (call : ℕ) (any : Bool) (s : List ℕ) (r : ℕ) : Type 0
 pub record Surveyed (call : ℕ) (any : Bool) (s counts index : List ℕ) (r : Pass) : Type 0 where
   pub broken : r ≡ Broken → laidAs call any s ≡ false
   pub found : (head : ℕ) (over ordered : Bool) → r ≡ Laid head over ordered → LaidFound call any s counts index head over ordered
+
+-- a list in order is found so; of any other nothing is told
+pub record OrderSurveyed (call : ℕ) (any : Bool) (s counts index : List ℕ) (r : OrderedPass) : Type 0 where
+  pub found : (head : ℕ) (over : Bool) → r ≡ InOrder head over → LaidFound call any s counts index head over true
+  pub fits : Fits s index

@@ -6,7 +6,7 @@ ghost use Prim.Native.Nat.{_+_, _≤_};
 ghost use lib.ListN.{length, take, drop};
 ghost use Rattle.reader.specs.CallFields.{headFieldOk, leastOf};
 ghost use Rattle.reader.specs.Table.{rankOf, Free, FieldNoted, Fits};
-ghost use Rattle.reader.specs.Surveyed.{HeadFirst, Surveyed};
+ghost use Rattle.reader.specs.Surveyed.{HeadFirst, Surveyed, OrderSurveyed};
 use crate::head;
 use crate::limits;
 use crate::order;
@@ -24,6 +24,14 @@ pub enum Pass {
         over: bool,
         ordered: bool,
     },
+}
+
+// What the pass over a list in order finds.
+enum OrderedPass {
+    // It is one: where the body of field 1 starts, whether a limit beside the head's is passed.
+    InOrder { head: usize, over: bool },
+    // It is none.
+    OutOfOrder,
 }
 
 // Whether a field 1 is one of this call, or of any. A field's length shows the bound.
@@ -124,14 +132,20 @@ fn survey_any(s: &[u8], call: u8, any: bool, counts: &mut [usize; 8], index: &mu
     }
 }
 
-// The pass over a list that begins with field 1 and whose other fields are in order, with counts of 0; where it is not one, over it again in any order. The same shows the bound.
-pub fn survey(s: &[u8], call: u8, any: bool, counts: &mut [usize; 8], index: &mut [u32]) -> Pass
+// The pass over a list that begins with field 1 and whose other fields are in order, with counts of 0. The same shows the bound.
+fn survey_ordered(
+    s: &[u8],
+    call: u8,
+    any: bool,
+    counts: &mut [usize; 8],
+    index: &mut [u32],
+) -> OrderedPass
     requires { ⌜ Fits (now s) (now index) × (now counts ≡ 0 ∷ 0 ∷ 0 ∷ 0 ∷ 0 ∷ 0 ∷ 0 ∷ 0 ∷ []) ⌝ }
-    ensures { λ r. ⌜ Surveyed call any (now (s .entry)) (now (counts .exit)) (now (index .exit)) r ⌝ }
+    ensures { λ r. ⌜ OrderSurveyed call any (now (s .entry)) (now (counts .exit)) (now (index .exit)) r ⌝ }
 {
     let head = head_first(s, call, any);
     if head == 0 {
-        return survey_any(s, call, any, counts, index);
+        return OrderedPass::OutOfOrder;
     }
     let mut over = false;
     let mut last: u8 = 0;
@@ -140,13 +154,13 @@ pub fn survey(s: &[u8], call: u8, any: bool, counts: &mut [usize; 8], index: &mu
     let mut n: usize = 0;
     while at < s.len() {
         let NextField::Found { tag, start, len } = fields::next_field(s, at) else {
-            return survey_any(s, call, any, counts, index);
+            return OrderedPass::OutOfOrder;
         };
         if !order::field_ok(s, call, tag, start, len) {
-            return survey_any(s, call, any, counts, index);
+            return OrderedPass::OutOfOrder;
         }
         if !order::follows(s, last, before, tag, start) {
-            return survey_any(s, call, any, counts, index);
+            return OrderedPass::OutOfOrder;
         }
         over = passes(s, over, tag, start, n, counts, index);
         last = tag;
@@ -154,6 +168,17 @@ pub fn survey(s: &[u8], call: u8, any: bool, counts: &mut [usize; 8], index: &mu
         at = start + len;
         n += 1;
     }
+    OrderedPass::InOrder { head, over }
+}
+
+// The pass over a list in order; where it is none, over it again in any order. The same shows the bound.
+pub fn survey(s: &[u8], call: u8, any: bool, counts: &mut [usize; 8], index: &mut [u32]) -> Pass
+    requires { ⌜ Fits (now s) (now index) × (now counts ≡ 0 ∷ 0 ∷ 0 ∷ 0 ∷ 0 ∷ 0 ∷ 0 ∷ 0 ∷ []) ⌝ }
+    ensures { λ r. ⌜ Surveyed call any (now (s .entry)) (now (counts .exit)) (now (index .exit)) r ⌝ }
+{
+    let OrderedPass::InOrder { head, over } = survey_ordered(s, call, any, counts, index) else {
+        return survey_any(s, call, any, counts, index);
+    };
     Pass::Laid {
         head,
         over,
