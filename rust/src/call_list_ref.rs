@@ -76,10 +76,10 @@ impl<'a> CallListRef<'a> {
         })
     }
 
-    /// Keys and reserved buckets ascend, and snapshots are 0.
+    /// Keys stand together and ascend, snapshots are 0, and reserved buckets ascend.
     fn is_in_order(&self) -> bool {
-        let keys = |tree| in_order(self.keys(tree));
-        Tree::STORED.into_iter().all(keys) && self.reserved().is_sorted_by(|a, b| a < b)
+        let keys = |keys: &Stretch<'a>| keys.together().is_some_and(in_order);
+        self.trees.iter().all(keys) && self.reserved().is_sorted_by(|a, b| a < b)
     }
 
     /// What it says of the volume and of the call.
@@ -160,12 +160,15 @@ fn read_all<'a, T>(
 }
 
 /// Each key stands above the one before it, and has snapshot 0.
-fn in_order(mut keys: Keys) -> bool {
+fn in_order(keys: Fields) -> bool {
     let mut last: Option<Position> = None;
-    keys.all(|key| {
-        let above = last.is_none_or(|last| last < key.position);
-        last = Some(key.position);
-        above && key.position.snapshot == 0
+    let mut positions = keys.map(|field| Ok(KeyRef::read(field?.1)?.position));
+    positions.all(|position: Result<Position, BrokenLayout>| {
+        position.is_ok_and(|position| {
+            let above = last.is_none_or(|last| last < position);
+            last = Some(position);
+            above && position.snapshot == 0
+        })
     })
 }
 

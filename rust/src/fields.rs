@@ -90,31 +90,41 @@ pub(crate) enum Stretch<'a> {
 }
 
 impl<'a> Stretch<'a> {
+    /// The fields, where they stand one after the other.
+    pub(crate) fn together(&self) -> Option<Fields<'a>> {
+        match self {
+            Stretch::Together(fields) => Some(Fields::new(fields)),
+            Stretch::Apart(_) => None,
+        }
+    }
+
     /// The bodies of the fields.
     pub(crate) fn bodies(&self) -> Bodies<'a> {
         match self {
             Stretch::Together(fields) => Bodies::together(fields),
-            Stretch::Apart(bodies) => Bodies(Left::Apart(Arc::clone(bodies), 0)),
+            Stretch::Apart(bodies) => Bodies {
+                together: Fields::new(&[]),
+                apart: Some((Arc::clone(bodies), 0)),
+            },
         }
     }
 }
 
-/// The bodies of a stretch's fields that are left.
+/// The bodies of a stretch's fields that are left: of fields that stand together, then of those apart.
 #[derive(Debug, Clone)]
-pub(crate) struct Bodies<'a>(Left<'a>);
-
-/// What is left of a stretch.
-#[derive(Debug, Clone)]
-enum Left<'a> {
-    Together(Fields<'a>),
+pub(crate) struct Bodies<'a> {
+    together: Fields<'a>,
     /// The bodies from this one on.
-    Apart(Arc<[&'a [u8]]>, usize),
+    apart: Option<(Arc<[&'a [u8]]>, usize)>,
 }
 
 impl<'a> Bodies<'a> {
     /// The bodies of fields that stand one after the other.
     pub(crate) fn together(fields: &'a [u8]) -> Bodies<'a> {
-        Bodies(Left::Together(Fields::new(fields)))
+        Bodies {
+            together: Fields::new(fields),
+            apart: None,
+        }
     }
 }
 
@@ -123,14 +133,13 @@ impl<'a> Iterator for Bodies<'a> {
 
     /// The next body.
     fn next(&mut self) -> Option<Body<'a>> {
-        match &mut self.0 {
-            Left::Together(fields) => fields.next()?.ok().map(|(_, body)| body),
-            Left::Apart(bodies, next) => {
-                let body = bodies.get(*next)?;
-                *next += 1;
-                Some(Body(body))
-            }
+        if let Some(field) = self.together.next() {
+            return field.ok().map(|(_, body)| body);
         }
+        let (bodies, next) = self.apart.as_mut()?;
+        let body = bodies.get(*next)?;
+        *next += 1;
+        Some(Body(body))
     }
 }
 
