@@ -28,7 +28,7 @@ use std::fmt;
 ///
 /// # What it keeps for the caller
 ///
-/// The [caller's duties](crate#the-callers-duties) towards the four calls are kept like this:
+/// The [caller's duties](crate#the-callers-duties) towards the calls are kept like this:
 ///
 /// 1. [`Volume::format`] makes a clean volume and nothing else. [`Volume::open`] goes on with bytes
 ///    that a `Volume` gave; what it checks of them, and what it cannot, stands there.

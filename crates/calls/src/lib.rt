@@ -1,1 +1,1 @@
-// What is right, and no code: specs/ has the definitions of the four answers, proofs/ what is proved of them.
+// What is right, and no code: specs/ has the definitions of every answer, proofs/ what is proved of them.

@@ -53,11 +53,16 @@ pub fn field_within(s: &[u8], tag: u8, start: usize) -> bool
     requires { ⌜ start + leastOf tag ≤ length (now s) ⌝ }
     ensures { λ r. ⌜ r ≡ fieldWithin (fieldFrom (now (s .entry)) tag start) ⌝ }
 {
+    if 12 < tag {
+        if tag == 64 {
+            return wire::kinds::bucket_in_range(kinds::read_bucket(s, start));
+        }
+        return true;
+    }
     match tag {
         4 => alloc_within(s, start),
         11 => run_within(s, start),
         12 => waiting_within(s, start),
-        64 => wire::kinds::bucket_in_range(kinds::read_bucket(s, start)),
         _ => true,
     }
 }
