@@ -7,7 +7,7 @@
 //! Each list and volume is timed in order and, under `in any order`, with its fields in an order that a
 //! fixed seed chose. Under `the library's sort` stands how long the stable sort of Rust's library takes to
 //! put the places of these fields in order, a `usize` each, by tag and position; what is written there is
-//! the number of places. A second table has how many such sorts the other order costs.
+//! the number of places. A second table has how many such sorts the other order costs, for 100 places and more.
 
 use lists::call_list::{DISCARD, PLACE, RELEASE, RESERVED};
 use lists::order::mixed;
@@ -25,6 +25,8 @@ const REPETITIONS: usize = 31;
 const PAGE: usize = 4_096;
 /// The seed of the other orders.
 const ORDER: u64 = 1;
+/// Lists of fewer places cost too little to tell what another order costs.
+const FEW: usize = 100;
 /// What the names of rows end with: those of lists in another order, and those of the library's sort.
 const OTHER: &str = ", in any order";
 const SORT: &str = ", the library's sort";
@@ -128,7 +130,7 @@ impl Table {
         );
         println!("|---|---|---|---|---|---|");
         for sort in &self.0 {
-            let Some(name) = sort.name.strip_suffix(SORT) else {
+            let Some(name) = sort.name.strip_suffix(SORT).filter(|_| sort.written >= FEW) else {
                 continue;
             };
             let other = self.median(&format!("{name}{OTHER}"));
