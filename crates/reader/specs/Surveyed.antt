@@ -46,7 +46,7 @@ pub record Surveyed (call : ℕ) (any : Bool) (s counts index : List ℕ) (r : P
   pub broken : r ≡ Broken → laidAs call any s ≡ false
   pub found : (head : ℕ) (over ordered : Bool) → r ≡ Laid head over ordered → LaidFound call any s counts index head over ordered
 
--- a list in order is found so; of any other nothing is told
+-- what is answered to be in order is laid out and in order; the other answer tells nothing of the list
 pub record OrderSurveyed (call : ℕ) (any : Bool) (s counts index : List ℕ) (r : OrderedPass) : Type 0 where
   pub found : (head : ℕ) (over : Bool) → r ≡ InOrder head over → LaidFound call any s counts index head over true
   pub fits : Fits s index

@@ -30,7 +30,7 @@ pub enum Pass {
 enum OrderedPass {
     // It is one: where the body of field 1 starts, whether a limit beside the head's is passed.
     InOrder { head: usize, over: bool },
-    // It is none.
+    // It is none, or the pass cannot tell: nothing is said of it.
     OutOfOrder,
 }
 

@@ -1,5 +1,4 @@
 -- `survey` meets its contract.
-use mathlib.Core.Path.{sym, _∙_}
 use borrow.Author.Needs.{needs}
 use Rattle.reader.proofs.SurveyEndLaws.{laid-found}
 use Rattle.reader.proofs.survey.survey.Statement.{statement}
