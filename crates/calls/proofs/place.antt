@@ -1,5 +1,6 @@
 -- An accepted placement.
 pub mod FitLaws
+pub mod LruRootLaws
 pub mod PlaceFits
 pub mod PlaceLaws
 pub mod PlacePhases

@@ -93,7 +93,7 @@ placeBatch v ps w =
             backpointers = map (backpointerKey h) ps;
             gens = [];
           };
-      roots = rootsIf (lruWanted (h .bucketSectors) (total (λ p. p .piece .stored) ps) && rootMissing (h .roots) 0) 10;
+      roots = rootsIf (lruWanted (h .bucketSectors) (map (dirtyIn ps) (w .taken)) && rootMissing (h .roots) 0) 10;
       taken = w .taken;
       spots = map spotAt ps;
       rows = placeRows h (w .taken) ps extents;

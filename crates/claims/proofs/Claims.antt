@@ -210,14 +210,14 @@ pub one-form : (a b : List ℕ) → Bytes a → listLaidOut a ≡ true → noneT
 one-form = sorted.one-form
 
 -- ---- the worked cases of FORMAT.md
--- 1. bucket 128, stored 96, 96, 64: three buckets, offset 0 each, no LRU root
+-- 1. bucket 128, stored 96, 96, 64: three buckets, offset 0 each, and the LRU root is wanted
 pub case1 : nextFit 128 0 0 (96 ∷ 96 ∷ 64 ∷ []) ≡ slot 0 0 ∷ slot 1 0 ∷ slot 2 0 ∷ []
 case1 = cases .case1
 
 pub case1-buckets : bucketsNeeded (nextFit 128 0 0 (96 ∷ 96 ∷ 64 ∷ [])) ≡ 3
 case1-buckets = cases .case1-buckets
 
-pub case1-root : lruWanted 128 (96 + 96 + 64) ≡ false
+pub case1-root : lruWanted 128 (96 ∷ 96 ∷ 64 ∷ []) ≡ true
 case1-root = cases .case1-root
 
 -- the same of the whole answer, on forty free buckets: its fields 71, 72 and 70
@@ -230,7 +230,7 @@ case1-taken = worked-answers .three-taken
 pub case1-placed : ofBatches (λ b. b .spots) threePieces ≡ (spot 0 96 0 ∷ spot 128 96 1 ∷ spot 256 64 2 ∷ []) ∷ []
 case1-placed = worked-answers .three-placed
 
-pub case1-roots : ofBatches (λ b. b .roots) threePieces ≡ [] ∷ []
+pub case1-roots : ofBatches (λ b. b .roots) threePieces ≡ (10 ∷ []) ∷ []
 case1-roots = worked-answers .three-roots
 
 -- 2. bucket 128, stored 64, 64, 1: (0,0), (0,64), (1,0)

@@ -1,7 +1,7 @@
 //! The stream of candidates: a list with its scratch and output, from one seed each.
 
-use crate::call_list::RELEASE;
-use crate::generate::{list, Size};
+use crate::call_list::{PLACE, RELEASE};
+use crate::generate::{list, whole_in_all, Size};
 use crate::model::{SORT, SUMS};
 use crate::order::{doubled, shuffled};
 use crate::rng::Rng;
@@ -72,6 +72,18 @@ pub fn nth(call: u8, i: u64, seed: u64) -> Candidate {
         _ => numbers[(i / 32) as usize % numbers.len()],
     };
     candidate(seed.wrapping_add(i), call, Size::nth(i / 2), wanted)
+}
+
+/// The `i`-th placement on which the Rust's rule for the LRU root differs, in every size.
+pub fn nth_whole_in_all(i: u64, seed: u64) -> Candidate {
+    let mut rng = Rng::new(seed.wrapping_add(i) ^ u64::from(PLACE) << 56);
+    let list = whole_in_all(&mut rng, Size::nth(i)).bytes();
+    Candidate {
+        call: PLACE,
+        list,
+        scratch: 0,
+        room: room(&mut rng, 0),
+    }
 }
 
 /// A release's scratch: long enough unless 1 is wanted.

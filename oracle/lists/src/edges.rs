@@ -9,11 +9,12 @@ use crate::call_list::{
 use crate::fields::{joined, put, split};
 use crate::key::Key;
 use crate::order_edges::order_edges;
+use crate::root_edges::root_edges;
 
 /// A list by name.
 pub type Edge = (String, Vec<u8>);
 
-/// The edges of a call; last those of the order of its fields.
+/// The edges of a call; then those of the order of its fields, and last those of a placement's LRU root.
 pub fn edges(call: u8) -> Vec<Edge> {
     let base = base(call);
     let mut edges = layout_edges(&base);
@@ -24,6 +25,9 @@ pub fn edges(call: u8) -> Vec<Edge> {
         _ => discard_edges(&base),
     });
     edges.extend(order_edges(&base));
+    if call == PLACE {
+        edges.extend(root_edges(&base));
+    }
     edges
 }
 

@@ -5,7 +5,8 @@ use crate::call_list::{
     NEED_DISCARD, PLACE, RELEASE,
 };
 use crate::key::Key;
-use crate::model::{next_fit, runs, start, EXTENT, KEPT};
+use crate::lru_root;
+use crate::model::{next_fit, runs, start, EXTENT, KEPT, REQUESTS};
 use crate::rng::Rng;
 use std::collections::BTreeSet;
 
@@ -73,6 +74,28 @@ pub fn list(rng: &mut Rng, call: u8, size: Size) -> CallList {
     }
     b.others();
     b.list
+}
+
+/// A placement that wants the LRU root while its stored sectors in all are a multiple of the bucket, on
+/// which the Rust's rule differs.
+pub fn whole_in_all(rng: &mut Rng, size: Size) -> CallList {
+    loop {
+        let mut b = Builder {
+            rng: &mut *rng,
+            list: CallList::default(),
+            size,
+            room: size.room(),
+        };
+        b.head(PLACE);
+        b.list.head.roots &= 6;
+        b.pieces(size.choose(6, 60, 900));
+        b.pieces_to_whole();
+        if lru_root::differs(&b.list) && b.list.places.len() <= REQUESTS {
+            b.around_pieces();
+            b.others();
+            return b.list;
+        }
+    }
 }
 
 /// The first `n` unreserved buckets in the runs, in run order.
@@ -183,10 +206,15 @@ impl Builder<'_> {
         }
     }
 
-    /// A placement: pieces, runs with enough free buckets, and what the walk and the answer read.
+    /// A placement: pieces, and what is around them.
     fn place(&mut self) {
         let most = self.size.choose(6, 60, 900);
         self.pieces(most);
+        self.around_pieces();
+    }
+
+    /// Runs with enough free buckets for the pieces, and what the walk and the answer read.
+    fn around_pieces(&mut self) {
         let n = next_fit(&self.list.places, u64::from(self.list.head.bucket)).len() as u64;
         let wanted = n + KEPT + u64::from(self.list.head.reserve);
         self.runs(wanted);
@@ -220,6 +248,24 @@ impl Builder<'_> {
             }
             self.room -= 16;
             self.list.places.push(p);
+        }
+    }
+
+    /// Plain pieces more, until the stored sectors in all are a multiple of the bucket or no room is left.
+    fn pieces_to_whole(&mut self) {
+        let bucket = u64::from(self.list.head.bucket);
+        let stored: u64 = self.list.places.iter().map(|p| u64::from(p.stored)).sum();
+        let mut missing = (bucket - stored % bucket) % bucket;
+        while missing > 0 && self.room >= 16 + 60 {
+            let sectors = missing.min(EXTENT);
+            missing -= sectors;
+            self.room -= 16;
+            self.list.places.push(Place {
+                file: sectors as u16,
+                stored: sectors as u16,
+                kind: 0,
+                checksum: self.rng.word(),
+            });
         }
     }
 

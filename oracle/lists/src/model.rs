@@ -8,6 +8,7 @@ use crate::call_list::{
     CallList, Place, Release, ALLOC, BUCKET_GENS, DISCARD, FREESPACE, NEED_DISCARD, PLACE, RELEASE,
 };
 use crate::key::Key;
+use crate::lru_root;
 use crate::sort::sort;
 use std::collections::{BTreeMap, BTreeSet};
 
@@ -251,7 +252,7 @@ fn place_length(l: &CallList, dirty: &[u64], queued: &[usize]) -> usize {
     let part_filled = dirty.iter().filter(|&&d| d < bucket).count();
     let kinds: BTreeSet<u8> = l.places.iter().map(|p| p.kind).collect();
     let kinds = kinds.iter().filter(|&&kind| kind != 0).count();
-    let root = dirty.iter().sum::<u64>() % bucket != 0 && l.head.roots & 1 == 0;
+    let root = lru_root::wanted(dirty, bucket) && !lru_root::exists(l);
     let rows = if l.places.is_empty() {
         0
     } else {

@@ -225,7 +225,7 @@ fn queued_runs(batches: &[Batch]) -> Vec<(u64, u32)> {
 fn placement_cases() {
     let p1 = &batches("p1")[0];
     assert_eq!(layout(p1), [(0, 0), (1, 0), (2, 0)]);
-    assert!(p1.roots.is_empty());
+    assert_eq!(p1.roots, [10]);
     let p2 = &batches("p2")[0];
     assert_eq!(layout(p2), [(0, 0), (0, 64), (1, 0)]);
     assert_eq!(case("p3-accepted").number, 0);

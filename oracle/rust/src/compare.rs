@@ -6,6 +6,7 @@ use lists::call_list::{call_byte, CallList, ALLOC};
 use lists::change_list;
 use lists::fields::{put, split};
 use lists::key::Key;
+use lists::lru_root;
 use lists::model::{answer_length, verdict, SUMS};
 use lists::sort::sort;
 
@@ -59,12 +60,47 @@ pub fn told_apart(list: &[u8], other: &[u8]) -> Option<String> {
     (sorted.0 != sorted.1).then(|| "in another order it has another sorted form".into())
 }
 
+/// Whether a list is accepted and the Rust's answer to it lacks the LRU root.
+pub fn root_differs(list: &[u8]) -> bool {
+    number(list) == 0 && CallList::read(list).is_some_and(|l| lru_root::differs(&l))
+}
+
+/// The answer that is due where the model and the Rust accept a list.
+pub fn accepted(list: &[u8], outcome: &Outcome) -> Option<Vec<u8>> {
+    match outcome {
+        Outcome::Accepted(answer) if number(list) == 0 => due(&CallList::read(list)?, answer).ok(),
+        _ => None,
+    }
+}
+
+/// The answer that is due to an accepted list: the Rust's, byte for byte, but that it names the LRU root
+/// where the Rust's rule differs; there the Rust's is held to naming no root at all.
+fn due(l: &CallList, answer: &[u8]) -> Result<Vec<u8>, String> {
+    if !lru_root::differs(l) {
+        return Ok(answer.to_vec());
+    }
+    let mut batches = change_list::read(answer).unwrap_or_default();
+    if change_list::bytes(&batches) != answer {
+        return Err("the Rust's answer is not what its batches give".into());
+    }
+    match &mut batches[..] {
+        [batch] if batch.roots.is_empty() => batch.roots.push(lru_root::LRU_ROOT),
+        _ => return Err("the Rust's answer is not one batch that names no root".into()),
+    }
+    Ok(change_list::bytes(&batches))
+}
+
 /// How the Rust's outcome disagrees with the model's number, if it does.
 pub fn disagreement(list: &[u8], outcome: &Outcome) -> Option<String> {
     let l = CallList::read(list)?;
     let number = number(list);
     let wrong = match (number, outcome) {
-        (0, Outcome::Accepted(answer)) => return malformed(&l, answer),
+        (0, Outcome::Accepted(answer)) => {
+            return match due(&l, answer) {
+                Ok(answer) => malformed(&l, &answer),
+                Err(why) => Some(why),
+            }
+        }
         (n, _) if left_out(n) => return None,
         (0, _) => true,
         (n, Outcome::Refused(text)) => !agrees(n, added(l.head.call, n), number_of(text)),

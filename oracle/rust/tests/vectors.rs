@@ -2,8 +2,8 @@
 
 use lists::limits;
 use lists::vectors::{self, Held};
-use oracle::compare::disagreement;
-use oracle::{run, Outcome};
+use oracle::compare::{accepted, disagreement};
+use oracle::run;
 
 /// A file of `vectors/`.
 fn file(name: &str) -> String {
@@ -11,7 +11,7 @@ fn file(name: &str) -> String {
     std::fs::read_to_string(&path).unwrap_or_else(|e| panic!("{path}: {e}"))
 }
 
-/// Each accepted vector's answer is the Rust's, and on no vector do model and Rust disagree.
+/// Each accepted vector's answer is the Rust's, but for the LRU root where its rule differs, and on no vector do model and Rust disagree.
 #[test]
 fn stored_answers() {
     oracle::quiet_panics();
@@ -20,7 +20,7 @@ fn stored_answers() {
             let outcome = run(&v.list);
             assert_eq!(disagreement(&v.list, &outcome), None, "{}", v.id);
             if v.number == 0 {
-                assert_eq!(outcome, Outcome::Accepted(v.answer), "{}", v.id);
+                assert_eq!(accepted(&v.list, &outcome), Some(v.answer), "{}", v.id);
             }
         }
     }
@@ -34,10 +34,8 @@ fn answers_at_the_limits() {
         let (list, what) = limits::list(limits::SEED, v.call, v.index);
         let outcome = run(&list.bytes());
         assert_eq!(disagreement(&list.bytes(), &outcome), None, "{what}");
-        match outcome {
-            Outcome::Accepted(answer) if v.number == 0 => {
-                assert_eq!(Held::of(&answer), v.answer, "{what}");
-            }
+        match accepted(&list.bytes(), &outcome) {
+            Some(answer) if v.number == 0 => assert_eq!(Held::of(&answer), v.answer, "{what}"),
             _ => assert!(v.number != 0, "{what}"),
         }
     }

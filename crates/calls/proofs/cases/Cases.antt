@@ -1,6 +1,6 @@
 -- FORMAT.md, "Worked cases", which are document 01's P cases, proved of the definitions together as one table.
 use mathlib.Core.Path.{_≡_, refl}
-use mathlib.Core.Bool.{false}
+use mathlib.Core.Bool.{true, false}
 use mathlib.Core.List.{[], _∷_, map}
 use Prim.Native.Nat.{_+_, _^_}
 use Rattle.wire.specs.Positions.{lruAt}
@@ -20,10 +20,10 @@ use Rattle.calls.specs.Answers.{place, release, discard}
 use Rattle.calls.specs.Examples.{bucket, headFor, volumeFor, run, usedBucket, runEnds, plain, placing, releasing, slot, freeing, freeVolume, heldVolume, waiting}
 
 pub record Cases : Type 0 where
-  -- 1. bucket 128, stored 96, 96, 64: three buckets, offset 0 each, no LRU root
+  -- 1. bucket 128, stored 96, 96, 64: three buckets, offset 0 each, and the LRU root is wanted
   pub case1 : nextFit 128 0 0 (96 ∷ 96 ∷ 64 ∷ []) ≡ slot 0 0 ∷ slot 1 0 ∷ slot 2 0 ∷ []
   pub case1-buckets : bucketsNeeded (nextFit 128 0 0 (96 ∷ 96 ∷ 64 ∷ [])) ≡ 3
-  pub case1-root : lruWanted 128 (96 + 96 + 64) ≡ false
+  pub case1-root : lruWanted 128 (96 ∷ 96 ∷ 64 ∷ []) ≡ true
   -- 2. bucket 128, stored 64, 64, 1: (0,0), (0,64), (1,0)
   pub case2 : nextFit 128 0 0 (64 ∷ 64 ∷ 1 ∷ []) ≡ slot 0 0 ∷ slot 0 64 ∷ slot 1 0 ∷ []
   -- 3. no pieces, reserve 0: free 32 accepted, 31 gives 11

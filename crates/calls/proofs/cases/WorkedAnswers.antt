@@ -7,14 +7,17 @@ use Rattle.format.specs.AllocV4.{ioTimeWrite}
 use Rattle.calls.specs.CallList.{volumeBytes}
 use Rattle.calls.specs.Computing.{computing}
 use Rattle.calls.specs.Answers.{place, release, discard, sort}
-use Rattle.calls.specs.Examples.{bucket, headFor, volumeFor, run, usedBucket, waitsSince, emptiedAt, runEnds, plain, placing, releasing, spot, freeing, ofBatches, pastBase, elsewhere, keyAt, holding, twoPieces, twoPiecesShuffled, threePieces}
+use Rattle.calls.specs.Examples.{bucket, headFor, volumeFor, run, freeVolume, usedBucket, waitsSince, emptiedAt, runEnds, plain, placing, releasing, spot, freeing, ofBatches, pastBase, elsewhere, keyAt, holding, twoPieces, twoPiecesShuffled, threePieces}
 
 pub record WorkedAnswers : Type 0 where
   -- P case 1 of the whole answer: fields 71, 72 and 70
   pub three-accepted : threePieces .number ≡ 0
   pub three-taken : ofBatches (λ b. b .taken) threePieces ≡ (bucket 0 ∷ bucket 1 ∷ bucket 2 ∷ []) ∷ []
   pub three-placed : ofBatches (λ b. b .spots) threePieces ≡ (spot 0 96 0 ∷ spot 128 96 1 ∷ spot 256 64 2 ∷ []) ∷ []
-  pub three-roots : ofBatches (λ b. b .roots) threePieces ≡ [] ∷ []
+  pub three-roots : ofBatches (λ b. b .roots) threePieces ≡ (10 ∷ []) ∷ []
+  -- a full bucket, and no piece at all, want no root
+  pub full-root : ofBatches (λ b. b .roots) (place (placing (freeVolume 33) (plain 128 ∷ [])) 2000) ≡ [] ∷ []
+  pub none-root : ofBatches (λ b. b .roots) (place (placing (freeVolume 32) []) 14) ≡ [] ∷ []
   -- a list that passes a limit is 3, and 2 where its layout is broken too
   pub limit-passed : place pastBase 14 .number ≡ 3
   pub broken-and-passed : place (pastBase ++ (0 ∷ [])) 14 .number ≡ 2
@@ -69,6 +72,8 @@ worked-answers =
       three-taken = refl;
       three-placed = refl;
       three-roots = refl;
+      full-root = refl;
+      none-root = refl;
       limit-passed = refl;
       broken-and-passed = refl;
       touching = refl;

@@ -3,8 +3,9 @@ use mathlib.Core.Path.{_≡_, refl, ap, sym, _∙_}
 use mathlib.Core.Bool.{Bool, true, false, _&&_, _||_, cond, and-false, not, and-true, or-true, and-comm}
 use mathlib.Core.List.{List, [], _∷_, map}
 use mathlib.Core.Option.{Option}
-use Prim.Native.Nat.{ℕ, suc, _+_, _≤_, _<_}
+use Prim.Native.Nat.{ℕ, suc, _+_, _*_, _≤_, _<_}
 use native.Mathlib.Omega.{arith}
+use native.Mathlib.Nat.{zero-add, suc-mul}
 use lib.ListN.{length}
 use lib.Dec.{ltb}
 use borrow.Author.Tests.{eqb-true, eqb-false, lt-ltb, ltb-true, ltb-false, eq-eqb}
@@ -19,7 +20,7 @@ use Rattle.calls.specs.Lists.{allOf, anyOf, those, total, one}
 use Rattle.calls.specs.Trees.{onEq}
 use Rattle.calls.specs.Freespace.{isIn}
 use Rattle.calls.specs.Buckets.{insertBucket, insertBuckets, removeBucket, removeBuckets}
-use Rattle.calls.proofs.lists.BoolLaws.{or-swap, or-same, or-shift, cond-same, or-some, not-or}
+use Rattle.calls.proofs.lists.BoolLaws.{clash, or-swap, or-same, or-shift, cond-same, or-some, not-or}
 use Rattle.calls.proofs.trees.TreeLaws.{opOf, lastOp, onEq-ne, same-offset}
 use Rattle.calls.proofs.history.View.{bucket}
 
@@ -71,7 +72,7 @@ unfolding isIn anyOf allOf
 all-in t [] h = refl
 all-in t (b ∷ bs) h = rw (h b (rw (eq-eqb (b .0) (b .0) refl))) (all-in t bs (λ c m. h c (in-more (sameBucket b c) m)))
 
-same-sym : (a b : Bucket) → sameBucket a b ≡ sameBucket b a
+pub same-sym : (a b : Bucket) → sameBucket a b ≡ sameBucket b a
 same-sym a b = go (sameBucket a b) refl (sameBucket b a) refl
   where
     go : (t : Bool) → sameBucket a b ≡ t → (u : Bool) → sameBucket b a ≡ u → t ≡ u
@@ -118,6 +119,19 @@ isIn-count : (b : Bucket) (bs : List Bucket) → isIn bs b ≡ ltb 0 (count (b .
 unfolding isIn anyOf total
 isIn-count b [] = refl
 isIn-count b (c ∷ cs) = or-some (sameBucket c b) (isIn cs b) (count (b .0) cs) (isIn-count b cs)
+
+-- so many for each time
+pub counted-times : (b : Bucket) (n : ℕ) (bs : List Bucket) → total (λ c. cond (sameBucket b c) n 0) bs ≡ count (b .0) bs * n
+unfolding total
+counted-times b n [] = omega arith
+counted-times b n (c ∷ cs) = go (sameBucket b c) (sameBucket c b) (same-sym b c) (counted-times b n cs)
+  where
+    go : (t u : Bool) → t ≡ u → total (λ c. cond (sameBucket b c) n 0) cs ≡ count (b .0) cs * n
+        → cond t n 0 + total (λ c. cond (sameBucket b c) n 0) cs ≡ (one u + count (b .0) cs) * n
+    go true true e ih = omega (arith, ih, suc-mul (count (b .0) cs) n)
+    go true false e ih = absurd (clash refl e)
+    go false true e ih = absurd (clash e refl)
+    go false false e ih = simp zero-add ih
 
 module _ (b : Bucket) (ts : List Bucket) where
   pub in-counted : isIn ts b ≡ true → 0 < count (b .0) ts

@@ -2,11 +2,12 @@
 use mathlib.Core.Path.{_≡_, refl, sym, _∙_}
 use mathlib.Core.Bool.{Bool, true, false, cond}
 use mathlib.Core.List.{List, [], _∷_, _++_}
-use Prim.Native.Nat.{ℕ, zero, suc, _+_, _-_, _≤_, Ordering·lt}
+use Prim.Native.Nat.{ℕ, zero, suc, _+_, _-_, _≤_, _<_, Ordering·lt}
 use native.Mathlib.Omega.{arith}
+use native.Mathlib.Nat.{zero-add}
 use lib.Dec.{ltb, eqb}
 use lib.ListN.{length}
-use borrow.Author.Tests.{lt-ltb, ltb-true, ltb-false, eqb-true}
+use borrow.Author.Tests.{lt-ltb, ltb-true, ltb-false, eqb-true, ne-eqb}
 use Rattle.wire.specs.Keys.{Key}
 use Rattle.wire.specs.Fields.{Field, fields, whole}
 use Rattle.wire.specs.Order.{cmp}
@@ -15,7 +16,7 @@ use Rattle.wire.specs.declared.kinds.Bucket.{Bucket}
 use Rattle.wire.specs.declared.bpos.Bpos.{Bpos}
 use Rattle.wire.specs.Bytes.{All, none, more}
 use Rattle.wire.proofs.OrderLaws.{cmp-less, offset-more}
-use Rattle.calls.specs.Lists.{allOf, anyOf, inOrder}
+use Rattle.calls.specs.Lists.{allOf, anyOf, inOrder, total, one}
 use Rattle.calls.specs.CallList.{Volume, CallList, Shape, shaped, volumeShapes, requestShapes, bodies, allTrees, snapshotsOk, keysAscend, headOk, treesOk, laidOut, callLaidOut, noneTwice}
 use Rattle.calls.specs.Limits.{isSet, isRun, atInode0}
 use Rattle.calls.specs.Freespace.{isIn, runsOf, startOf, endOf, bucketsOf, overlap, overlaps, isUsed, pass, walk}
@@ -23,8 +24,9 @@ use Rattle.calls.specs.Pieces.{bucketsNeeded}
 use Rattle.calls.specs.Place.{slotsOf, walkOf}
 use Rattle.calls.specs.Answers.{readCall, readVolume}
 use Rattle.calls.proofs.lists.AllLaws.{all-imp, all-each, all-chosen}
-use Rattle.calls.proofs.encoding.ApplyLaws.{Up, up-order, up-weak}
+use Rattle.calls.proofs.encoding.ApplyLaws.{Up, order-up, up-order, up-weak}
 use Rattle.calls.proofs.lists.BoolLaws.{clash, parts, neither}
+use Rattle.calls.proofs.freespace.BucketLaws.{count}
 use Rattle.calls.proofs.trees.SixTrees.{trees-order, trees-ok}
 use Rattle.calls.proofs.trees.SortedLaws.{Chain, Sorted, chain-weak, chain-sorted, lookup-own, sorted-those}
 use Rattle.calls.proofs.history.View.{bucket}
@@ -141,6 +143,25 @@ module _ (reserved used : Bucket → Bool) where
       all-imp (λ k h. eqb-true (k .pos .inode) 0 (parts (isSet k) (atInode0 k) (h .0) .1)) (all-chosen isRun (lookup-own l c)) in
       up-order 0 (walk reserved used need (runsOf l) .taken)
       (walk-up 0 need (runsOf l) (sorted-those isRun l c) inodes o (all-each (λ k e. omega arith) (runsOf l)))
+
+-- ---- none twice
+-- a bucket below the number from which on a list ascends is not in it, and any other at most once
+up-none : (b n : ℕ) (ts : List Bucket) → b < n → Up n ts → count b ts ≡ 0
+unfolding total
+up-none b n [] l u = refl
+up-none b n (t ∷ ts) l u = rw (ne-eqb (t .0) b (λ e. omega (arith, u .0)), zero-add) (up-none b (suc (t .0)) ts (omega (arith, u .0)) (u .1))
+
+up-once : (b n : ℕ) (ts : List Bucket) → Up n ts → count b ts ≤ 1
+unfolding total
+up-once b n [] u = omega arith
+up-once b n (t ∷ ts) u = go (eqb (t .0) b) refl (up-once b (suc (t .0)) ts (u .1))
+  where
+    go : (x : Bool) → eqb (t .0) b ≡ x → count b ts ≤ 1 → one x + count b ts ≤ 1
+    go true e ih = omega (arith, up-none b (suc (t .0)) ts (omega (arith, eqb-true (t .0) b e)) (u .1))
+    go false e ih = omega (arith, ih)
+
+pub ascend-once : (b : ℕ) (ts : List Bucket) → inOrder bucketBelow ts ≡ true → count b ts ≤ 1
+ascend-once b ts h = up-once b 0 ts (order-up ts h)
 
 -- ---- a placement
 -- the trees of a call list that is laid out right and has no position twice

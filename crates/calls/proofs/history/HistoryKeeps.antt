@@ -57,6 +57,16 @@ one-batch : (b : Batch) (v : Volume) → applyBatches (b ∷ []) v ≡ applyBatc
 unfolding applyBatches
 one-batch b v = refl
 
+-- of an accepted placement, as the placement makes it
+pub placed-read : (s : List ℕ) (a : Answer) (volume : List ℕ) → Bytes s → Placement s a → volume ≡ volumeBytes (nextVolume (withoutRequests s) (a .written))
+    → readVolume volume ≡ placedVolume (readCall s)
+placed-read s a volume r p v =
+    let c = readCall s in
+    let f = place-fits r (p .laid-out) (p .once) (p .within) (p .tests-held) in
+    let b = placeBatch (readVolume s) (placedOf c) (walkOf c) in
+    batched s (a .written) volume (b ∷ []) (call-laid 1 r (p .laid-out)) (p .once) (more (f .0) nothing) (more (f .1) nothing) (p .written) v
+    ∙ one-batch b (readVolume s)
+
 read-laid : {s : List ℕ} → ListLaid s → noneTwice (readVolume s) ≡ true → Read s
 read-laid l n = record { bytes = l .bytes; trees = laid-ok l n .trees }
 
@@ -86,12 +96,8 @@ module _ {P : Volume → List Live → Type 0} (keeps : Keeps P) where
       → volume ≡ volumeBytes (nextVolume (withoutRequests s) (a .written))
       → P (readVolume volume) (live ++ placedPieces (a .written) (readCall s .pieces))
   after-place s live a volume r p h v =
-      let c = readCall s in
-      let f = place-fits r (p .laid-out) (p .once) (p .within) (p .tests-held) in
-      let b = placeBatch (readVolume s) (placedOf c) (walkOf c) in
       let l = call-laid 1 r (p .laid-out) in
-      let t = batched s (a .written) volume (b ∷ []) l (p .once) (more (f .0) nothing) (more (f .1) nothing) (p .written) v in
-      rw (t, one-batch, pieces-read s a r p) (keeps .place s live (read-laid l (p .once)) (p .tests-held) h)
+      rw (placed-read s a volume r p v, pieces-read s a r p) (keeps .place s live (read-laid l (p .once)) (p .tests-held) h)
 
   after-release : (s : List ℕ) (live left : List Live) (a : Answer) (volume : List ℕ) → Bytes s → Released s a
       → takeAll (readCall s .releases) live ≡ some left → P (readVolume s) live

@@ -1,10 +1,10 @@
 -- Totals over a list.
-use mathlib.Core.Path.{_≡_, refl, ap, sym}
+use mathlib.Core.Path.{_≡_, refl, ap, sym, _∙_}
 use mathlib.Core.Bool.{Bool, true, false, not, _&&_}
 use mathlib.Core.List.{List, [], _∷_, _++_, map, List·Memᴰ, List·Memᴰ·head, List·Memᴰ·tail}
 use Prim.Native.Nat.{ℕ, _+_, _*_, _^_, _≤_, _<_}
 use native.Mathlib.Omega.{arith}
-use native.Mathlib.Nat.{zero-add}
+use native.Mathlib.Nat.{zero-add, mul-zero}
 use lib.Dec.{eqb}
 use lib.ListN.{length}
 use borrow.Author.Tests.{ne-eqb}
@@ -42,6 +42,19 @@ pub total-constant : {A : Type 0} (f : A → ℕ) (n : ℕ) → ((a : A) → f a
 unfolding total
 total-constant f n h [] = omega arith
 total-constant f n h (x ∷ l) = omega (arith, h x, total-constant f n h l)
+
+-- sums of sums
+pub total-sum : {A : Type 0} (f g : A → ℕ) (l : List A) → total (λ (a : A). f a + g a) l ≡ total f l + total g l
+unfolding total
+total-sum f g [] = refl
+total-sum f g (x ∷ xs) = omega (arith, total-sum f g xs)
+
+pub total-swap : {A B : Type 0} (f : A → B → ℕ) (l : List A) (m : List B)
+    → total (λ (a : A). total (f a) m) l ≡ total (λ (b : B). total (λ (a : A). f a b) l) m
+unfolding total
+total-swap f [] m = sym (total-constant (λ b. 0) 0 (λ b. refl) m ∙ mul-zero (length m))
+total-swap f (x ∷ xs) m =
+    ap (λ (n : ℕ). total (f x) m + n) (total-swap f xs m) ∙ sym (total-sum (f x) (λ b. total (λ a. f a b) xs) m)
 
 -- one element's part
 pub total-mem : {A : Type 0} (f : A → ℕ) (a : A) (l : List A) → List·Memᴰ a l → f a ≤ total f l

@@ -265,7 +265,7 @@ module _ (v : Volume) (ps : List Placed) (w : Walked) (f : HeadFits (v .head)) (
       (All.more (owner-row h few (v .head .inode)) All.none)))))))))
 
   abbrev wants : Bool
-  wants = lruWanted (v .head .bucketSectors) (total (λ p. p .piece .stored) ps) && rootMissing (v .head .roots) 0
+  wants = lruWanted (v .head .bucketSectors) (map (dirtyIn ps) (w .taken)) && rootMissing (v .head .roots) 0
 
   batch-fits : BatchFits (placeBatch v ps w)
   unfolding placeBatch

@@ -20,7 +20,7 @@ use Rattle.format.specs.AllocV4.{gen, dataType, dirtySectors}
 use Rattle.calls.specs.Lists.{allOf, total}
 use Rattle.calls.specs.CallList.{Volume, Piece, CallList}
 use Rattle.calls.specs.Trees.{lookup, applyQueue}
-use Rattle.calls.specs.Freespace.{isIn, runsOf, freeCount, wanted, isUsed}
+use Rattle.calls.specs.Freespace.{isIn, runsOf, overlaps, freeCount, wanted, isUsed}
 use Rattle.calls.specs.Generations.{genOf}
 use Rattle.calls.specs.Clock.{clockOf}
 use Rattle.calls.specs.Pieces.{nextFit, bucketsNeeded, pieceSized, blockOf}
@@ -62,6 +62,7 @@ sized B block (p ∷ ps) h =
 pub record PlaceAccepted (c : CallList) : Type 0 where
   pub sectors : 0 < c .volume .head .bucketSectors
   pub sizes : Sizes (c .volume .head .bucketSectors) (c .pieces)
+  pub disjoint : overlaps (runsOf (c .volume .trees .freespace)) ≡ false
   pub free : bucketsNeeded (slotsOf c) ≤ freeCount (isIn (c .volume .reserved)) (runsOf (c .volume .trees .freespace))
 
 pub place-accepted : (c : CallList) → verdict (placeTests c) ≡ 0 → PlaceAccepted c
@@ -69,7 +70,8 @@ unfolding placeTests wanted
 place-accepted c h =
     let h4 = verdict-ok _ _ h in
     let h9 = verdict-ok _ _ (verdict-ok _ _ (verdict-ok _ _ (verdict-ok _ _ (verdict-ok _ _ (h4 .1) .1) .1) .1) .1) in
-    let h11 = verdict-ok _ _ (verdict-ok _ _ (h9 .1) .1) in
+    let h10 = verdict-ok _ _ (h9 .1) in
+    let h11 = verdict-ok _ _ (h10 .1) in
     let B = c .volume .head .bucketSectors in
     let z = eqb-false B 0 (not-true _ (test-ok 4 _ (omega arith) (h4 .0))) in
     let n = bucketsNeeded (slotsOf c) in
@@ -77,6 +79,7 @@ place-accepted c h =
     record {
       sectors = omega arith;
       sizes = sized B (blockOf (c .volume .head .blockSectors)) (c .pieces) (test-ok 9 _ (omega arith) (h9 .0));
+      disjoint = not-true _ (test-ok 10 _ (omega arith) (h10 .0));
       free = omega (arith, leb-true (wanted n (c .volume .head .reserve)) f (test-ok 11 _ (omega arith) (h11 .0)));
     }
 

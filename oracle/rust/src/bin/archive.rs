@@ -1,14 +1,15 @@
 //! archive N [SEED]: the archive's five calls beside the model and the Rust's functions. N lists and
-//! N / 4 damaged ones of each call and of sort, lists past the limits, 2 N applies and N / 20 histories.
+//! N / 4 damaged ones of each call and of sort, N / 8 placements on which the Rust's rule for the LRU root
+//! differs, lists past the limits, 2 N applies and N / 20 histories.
 //! Each list and volume is held as it stands and in another order, with one outcome. Every number is the
 //! model's, every answer the Rust's on the list in order, every next volume and every sorted form the
 //! model's, in outputs of every length and with guards around them. Prints counts and disagreements; a
-//! number that is met too seldom is a failure too, and so are two neighbouring numbers that no one list
-//! meets.
+//! number that is met too seldom is a failure too, and so are too few lists on which the rules for the LRU
+//! root differ, and two neighbouring numbers that no one list meets.
 
 use lists::apply::apply;
 use lists::call_list::{DISCARD, PLACE, RELEASE};
-use lists::candidate::{nth, Candidate, Room};
+use lists::candidate::{nth, nth_whole_in_all, Candidate, Room};
 use lists::changes::{applied, Applied};
 use lists::edges::{apply_edges, base, edges, list_edges};
 use lists::fields::split;
@@ -22,8 +23,8 @@ use lists::sort::sort;
 use lists::spoil::{damage, numbers, spoil};
 use lists::vectors::hex;
 use lists::{limits, past_limits};
-use oracle::compare::shrink;
-use oracle::{run, Outcome};
+use oracle::compare::{accepted, disagreement, root_differs, shrink};
+use oracle::run;
 use std::collections::BTreeMap;
 use std::process::ExitCode;
 
@@ -66,6 +67,8 @@ struct Counts {
     /// Lists whose answer is the Rust's, and lists that cannot be given to it: refused 2 or 22.
     answered: u64,
     not_given: u64,
+    /// Lists whose answer is the Rust's but for the LRU root.
+    but_for_root: u64,
     /// Disagreements.
     wrong: u64,
 }
@@ -84,6 +87,7 @@ fn main() -> ExitCode {
         orders: 0,
         answered: 0,
         not_given: 0,
+        but_for_root: 0,
         wrong: 0,
     };
     for call in ON_LISTS {
@@ -99,10 +103,11 @@ fn main() -> ExitCode {
     counts.histories(lists / 20, seed);
     println!("held in two orders: {}", counts.orders);
     println!(
-        "answers of the Rust: {}; lists that cannot be given to it, refused 2 or 22: {}",
-        counts.answered, counts.not_given
+        "answers of the Rust: {}, of these but for the LRU root: {}; lists that cannot be given to it, refused 2 or 22: {}",
+        counts.answered, counts.but_for_root, counts.not_given
     );
     println!("disagreements: {}", counts.wrong);
+    let seldom = seldom + u64::from(counts.but_for_root < LEAST);
     ExitCode::from(u8::from(counts.wrong + seldom > 0))
 }
 
@@ -114,6 +119,10 @@ impl Counts {
         }
         for i in 0..lists {
             self.list(&nth(call, i, seed));
+        }
+        let whole = if call == PLACE { lists / 8 } else { 0 };
+        for i in 0..whole {
+            self.list(&nth_whole_in_all(i, seed));
         }
         let mut rng = Rng::new(seed);
         for i in 0..lists / 4 {
@@ -186,6 +195,8 @@ impl Counts {
         if candidate.call != SORT {
             self.answered += u64::from(answer.number == 0);
             self.not_given += u64::from(matches!(answer.number, 2 | 22));
+            let differs = answer.number == 0 && root_differs(&candidate.list);
+            self.but_for_root += u64::from(differs);
         }
         let mut number = None;
         for (c, order) in [(candidate, "as it stands"), (&other, "in another order")] {
@@ -321,12 +332,15 @@ fn answer(call: u8, list: &[u8]) -> Result<Answer, String> {
     Ok(Answer { number, bytes })
 }
 
-/// The Rust's answer to a list that the model accepts; it is given the list in order.
+/// The Rust's answer to a list that the model accepts, with the LRU root where its rule differs; it is
+/// given the list in order.
 fn rust_answer(list: &[u8]) -> Result<Vec<u8>, String> {
-    match run(&sort(list, usize::MAX).1) {
-        Outcome::Accepted(answer) => Ok(answer),
-        other => Err(format!("the model accepts and the Rust gives {other:?}")),
+    let list = sort(list, usize::MAX).1;
+    let outcome = run(&list);
+    if let Some(why) = disagreement(&list, &outcome) {
+        return Err(why);
     }
+    accepted(&list, &outcome).ok_or_else(|| format!("the Rust gives {outcome:?}"))
 }
 
 /// Whether a call is held to its own answer in vain.

@@ -6,6 +6,7 @@
 use lists::call_list::{DISCARD, PLACE, RELEASE};
 use lists::timed::{self, Volume};
 use oracle::chart::{chart, Bar, Group};
+use oracle::compare::accepted;
 use oracle::{run, Outcome, Ready};
 use std::hint::black_box;
 use std::process::{Command, ExitCode};
@@ -171,7 +172,9 @@ impl Work {
     /// The answer that is due: the Rust's, or the model's apply.
     fn due(&self) -> Vec<u8> {
         match self {
-            Work::Call { list, .. } => rust(list),
+            Work::Call { list, .. } => {
+                accepted(list, &run(list)).expect("the Rust accepts the list")
+            }
             Work::Apply { volume, change } => lists::apply::apply(volume, change, usize::MAX).1,
         }
     }

@@ -1,16 +1,18 @@
-//! compare N [SEED]: N lists for each call through the Rust's function and the model, and N / 20
-//! histories of 60 steps. Each list is put in another order too, where the model must give the same
-//! number and the same sorted form, which is what the Rust is given. Prints counts and each disagreement
-//! with the smallest list found.
+//! compare N [SEED]: N lists for each call through the Rust's function and the model, N / 8 placements on
+//! which the Rust's rule for the LRU root differs, and N / 20 histories of 60 steps. Each list is put in
+//! another order too, where the model must give the same number and the same sorted form, which is what
+//! the Rust is given. Prints counts and each disagreement with the smallest list found.
 
-use lists::call_list::CallList;
-use lists::candidate::nth;
+use lists::call_list::{CallList, PLACE};
+use lists::candidate::{nth, nth_whole_in_all};
 use lists::edges::edges;
 use lists::history::{History, Tally};
 use lists::order::shuffled;
 use lists::rng::Rng;
 use lists::vectors::hex;
-use oracle::compare::{disagreement, disagrees, left_out, number, number_of, shrink, told_apart};
+use oracle::compare::{
+    accepted, disagreement, disagrees, left_out, number, number_of, root_differs, shrink, told_apart,
+};
 use oracle::{run, Outcome};
 use std::collections::BTreeMap;
 use std::process::ExitCode;
@@ -48,9 +50,13 @@ fn compare_lists(call: u8, lists: u64, seed: u64, counts: &mut Counts) -> u64 {
     let mut wrong = 0;
     let mut rng = Rng::new(seed);
     let edges = edges(call).into_iter().map(|(_, list)| list);
-    for list in edges.chain((0..lists).map(|i| nth(call, i, seed).list)) {
+    let lists_of_call = (0..lists).map(|i| nth(call, i, seed).list);
+    let whole = if call == PLACE { lists / 8 } else { 0 };
+    let whole = (0..whole).map(|i| nth_whole_in_all(i, seed).list);
+    for list in edges.chain(lists_of_call).chain(whole) {
         let outcome = run(&list);
         let what = match &outcome {
+            Outcome::Accepted(_) if root_differs(&list) => "accepted, but for the LRU root".into(),
             Outcome::Accepted(_) => "accepted".to_string(),
             Outcome::Refused(text) => format!("refused as {}", number_of(text).unwrap_or(0)),
             Outcome::Panicked => "panicked".to_string(),
@@ -102,6 +108,7 @@ fn print_counts(counts: &Counts) {
 fn compare_histories(histories: u64, seed: u64) -> u64 {
     let mut wrong = 0;
     let mut sum = Tally::default();
+    let mut root = 0;
     for i in 0..histories {
         let mut history = History::new(seed.wrapping_add(i));
         let steps = if i % 10 == 0 { 400 } else { 60 };
@@ -114,11 +121,9 @@ fn compare_histories(histories: u64, seed: u64) -> u64 {
                     wrong += 1;
                     report(wrong, &why, list);
                 }
-                match outcome {
-                    // The added refusals refuse the step too.
-                    Outcome::Accepted(change) if number(list) == 0 => Some(change),
-                    _ => None,
-                }
+                root += u64::from(root_differs(list));
+                // The added refusals refuse the step too.
+                accepted(list, &outcome)
             });
             if let Err(why) = made {
                 wrong += 1;
@@ -128,6 +133,6 @@ fn compare_histories(histories: u64, seed: u64) -> u64 {
         }
         sum.add(&history.tally);
     }
-    println!("{histories} histories: {sum:?}");
+    println!("{histories} histories: {sum:?}; but for the LRU root: {root} steps");
     wrong
 }

@@ -12,12 +12,13 @@ use lists::model::{verdict, SORT, SUMS};
 use lists::order::shuffled;
 use lists::order_edges::order_edges;
 use lists::rng::Rng;
+use lists::root_edges::root_edges;
 use lists::sort::sort;
 use lists::spoil::numbers;
 use lists::vectors::{ApplyLimitVector, ApplyVector, Held, LimitVector, Vector};
 use lists::{apply::apply, changes, limits};
-use oracle::compare::disagreement;
-use oracle::{run, Outcome};
+use oracle::compare::{accepted, disagreement};
+use oracle::run;
 use std::collections::{BTreeMap, BTreeSet};
 use std::path::Path;
 
@@ -91,7 +92,8 @@ fn print_counts(numbers: impl Iterator<Item = u32>) {
 }
 
 /// The vectors of one call: the worked cases, accepted lists by size, refused ones by number; then the
-/// edges of the order, lists in which something stands twice, and lists in another order.
+/// edges of the order, lists in which something stands twice, and lists in another order; last the edges
+/// of a placement's LRU root.
 fn call_vectors(call: u8, name: &str) -> Vec<Vector> {
     let mut chosen = Chosen::default();
     let mut vectors = Vec::new();
@@ -100,6 +102,10 @@ fn call_vectors(call: u8, name: &str) -> Vec<Vector> {
         vectors.push(named(v, case.to_string()));
     }
     let mut before = edges(call);
+    let root = match call {
+        PLACE => before.split_off(before.len() - root_edges(&base(call)).len()),
+        _ => Vec::new(),
+    };
     let order = before.split_off(before.len() - order_edges(&base(call)).len());
     add_edges(&mut vectors, &mut chosen, call, before);
     let accepted = [(Size::Small, 60), (Size::Medium, 24), (Size::Large, 3)];
@@ -118,6 +124,7 @@ fn call_vectors(call: u8, name: &str) -> Vec<Vector> {
     }
     let mixed = in_another_order(&vectors, call, name);
     vectors.extend(mixed);
+    add_edges(&mut vectors, &mut chosen, call, root);
     vectors
 }
 
@@ -266,7 +273,7 @@ fn vector(call: u8, list: Vec<u8>, scratch: usize, out: impl Fn(usize) -> usize)
     }
     let answer = match outcome {
         _ if call == SORT => sort(&list, usize::MAX).1,
-        Outcome::Accepted(answer) if unlimited == 0 => answer,
+        outcome if unlimited == 0 => accepted(&list, &outcome).unwrap_or_default(),
         _ => Vec::new(),
     };
     let out = match unlimited {
@@ -350,10 +357,8 @@ fn apply_vectors() -> Vec<ApplyVector> {
     for i in 0..60 {
         let call = (i % 3) as u8 + 1;
         let c = candidate(SEED + 5_000 + i, call, Size::Small, 0);
-        let (Some(l), Outcome::Accepted(change)) = (CallList::read(&c.list), run(&c.list)) else {
-            continue;
-        };
-        if verdict(call, &c.list, SUMS, usize::MAX) == 0 {
+        let change = accepted(&c.list, &run(&c.list));
+        if let (Some(l), Some(change)) = (CallList::read(&c.list), change) {
             let volume = l.volume().bytes();
             vectors.push(apply_vector(vectors.len(), volume, change, usize::MAX));
         }
