@@ -1,12 +1,11 @@
 -- Laws of the change list of a placement: its bytes in the order in which they are emitted.
 use mathlib.Core.Path.{_≡_, refl, sym, ap, _∙_}
-use mathlib.Core.Bool.{_&&_}
+use mathlib.Core.Bool.{Bool, true, false, _&&_}
 use mathlib.Core.List.{List, [], _∷_, _++_, map, flatMap, append-assoc, append-nil}
 use Prim.Native.Nat.{ℕ, zero, suc, _%_, _/_, _^_}
 use native.Mathlib.Omega.{arith}
 use lib.ListN.{getD, replicate}
 use lib.Dec.{eqb}
-use borrow.Author.Tests.{eq-eqb, ne-eqb}
 use Rattle.wire.specs.Fields.{Field}
 use Rattle.wire.specs.Encode.{encode, encodeField, keyField}
 use Rattle.wire.specs.Rows.{rowField}
@@ -23,7 +22,7 @@ use Rattle.reader.specs.declared.head.Head.{Head}
 use Rattle.change_fields.specs.FieldBytes.{rootsBytes}
 use Rattle.wire.specs.declared.kinds.Bucket.{Bucket}
 use Rattle.place_keys.specs.Plan.{Plan}
-use Rattle.place.specs.Change.{placement, keyFields, otherFields}
+use Rattle.place.specs.Change.{placement, rootWanted, keyFields, otherFields}
 use Rattle.accounting.specs.Tally.{talliesOf}
 use Rattle.accounting.specs.declared.tally.Tally.{Tally}
 use Rattle.accounting.specs.declared.tally.Tallies.{Tallies}
@@ -65,36 +64,39 @@ module _ {s offsets numbers : List ℕ} {buckets : List Bucket} {generations : L
       (map (keyField 10) (flatMap (λ b. lruKeys (readVolume s .head .bucketSectors) b (dirtyIn (placedOf (readCall s)) b)) (walkOf (readCall s) .taken)))
       (map (keyField 11) (walkOf (readCall s) .queue)) (map (keyField 13) (map (backpointerKey (readVolume s .head)) (placedOf (readCall s)))))
 
-  -- what follows them, by the tallies
-  pub others-of : (t : Tallies) → t ≡ talliesOf (readCall s .pieces)
+  -- whether the root is wanted, by the same
+  pub root-of : lruWanted (h .«bucket_sectors») (map (dirtyIn (placedOf (readCall s))) buckets) ≡ rootWanted s
+  unfolding rootWanted
+  root-of = rw (plan .taken, ← bucket-sectors plan)
+
+  -- what follows them, by the tallies and by whether the root is wanted
+  pub others-of : (t : Tallies) → t ≡ talliesOf (readCall s .pieces) → (wanted : Bool) → wanted ≡ rootWanted s
       → encode (otherFields (placement s))
-      ≡ encode (map rootField (rootsIf (lruWanted (h .«bucket_sectors») (t .all .stored) && rootMissing (h .roots) 0) 10))
+      ≡ encode (map rootField (rootsIf (wanted && rootMissing (h .roots) 0) 10))
       ++ (encode (map takenField buckets)
       ++ (encode (map spotField (map spotAt (placedOf (readCall s))))
       ++ (encode (map rowField (placeRows (headIn h) buckets (placedOf (readCall s)) (map (extentKey (headIn h)) (placedOf (readCall s)))))
       ++ (encodeField (sectorsField (t .all .file)) ++ encodeField endField))))
-  unfolding otherFields placeBatch
-  others-of t e =
+  unfolding otherFields placeBatch rootWanted
+  others-of t e wanted w =
       let ps = placedOf (readCall s) in
       let a = all-tally ps ∙ ap (λ l. talliesOf l .all) (placed-pieces (readCall s)) ∙ ap (λ (x : Tallies). x .all) (sym e) in
-      let d : total (λ p. p .piece .stored) ps ≡ t .all .stored = ap (λ (x : Tally). x .stored) a in
       let f : total (λ p. p .piece .file) ps ≡ t .all .file = ap (λ (x : Tally). x .file) a in
       let r : readVolume s .head .roots ≡ h .roots = ap (λ (x : calls.Head). x .roots) (sym (plan .head)) in
-      rw (plan .head, plan .taken, ← bucket-sectors plan, ← d, ← f, ← r)
+      rw (plan .head, plan .taken, w, ← f, ← r)
       (six _ (map takenField (walkOf (readCall s) .taken)) (map spotField (map spotAt ps))
       (map rowField (placeRows (readVolume s .head) (walkOf (readCall s) .taken) ps (map (extentKey (readVolume s .head)) ps)))
       (sectorsField (total (λ p. p .piece .file) ps)) endField)
 
 -- the root
 
-pub root-full : (sectors stored roots : ℕ) → stored % sectors ≡ 0 → rootsIf (lruWanted sectors stored && rootMissing roots 0) 10 ≡ []
-unfolding lruWanted
-root-full sectors stored roots e = simp (eq-eqb (stored % sectors) 0 e)
+pub root-unwanted : (wanted : Bool) (roots : ℕ) → wanted ≡ false → rootsIf (wanted && rootMissing roots 0) 10 ≡ []
+root-unwanted wanted roots e = rw e
 
-pub root-wanted : (sectors stored roots : ℕ) → (stored % sectors ≡ 0 → ⊥)
-    → rootsBytes (rootsIf (eqb (roots % 2) 0) 10) ≡ rootsBytes (rootsIf (lruWanted sectors stored && rootMissing roots 0) 10)
-unfolding lruWanted rootMissing
-root-wanted sectors stored roots h = let e : roots / 2 ^ 0 ≡ roots = omega arith in rw (ne-eqb (stored % sectors) 0 h, e)
+pub root-wanted : (wanted : Bool) (roots : ℕ) → wanted ≡ true
+    → rootsBytes (rootsIf (eqb (roots % 2) 0) 10) ≡ rootsBytes (rootsIf (wanted && rootMissing roots 0) 10)
+unfolding rootMissing
+root-wanted wanted roots h = let e : roots / 2 ^ 0 ≡ roots = omega arith in rw (h, e)
 
 -- counts that are 0
 pub zero-at : (n k : ℕ) → _≡_ {A = ℕ} (getD (replicate n 0) k 0) 0

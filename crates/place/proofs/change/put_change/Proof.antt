@@ -19,7 +19,7 @@ returns : tie.Need-returns
 returns c =
     let o = c .before .before in
     let k = o .before .before .before .before in
-    emitted (sym (change-split _)) (and-then (k .put-keys .ensures) (o .put-others .ensures))
+    emitted (sym (change-split _)) (and-then (k .put-keys .ensures .0) (o .put-others .ensures))
 
 pub put-change-spec : {M : Type 1} → statement M
 put-change-spec = tie.close (tie.spec put-keys-requires put-others-requires same-length returns)

@@ -1,6 +1,6 @@
 -- `change::put_keys` meets its contract.
 use native.Mathlib.Omega.{arith}
-use mathlib.Core.Path.{sym, ap}
+use mathlib.Core.Path.{sym, ap, _∙_}
 use mathlib.Core.List.{List}
 use Rattle.wire.specs.Kinds.{bucketsIn}
 use Rattle.calls.specs.CallList.{Head, Volume}
@@ -11,7 +11,7 @@ use Rattle.place_keys.specs.Plan.{AllocsOf}
 use Rattle.wire.proofs.EmitLaws.{emitted, and-then}
 use Rattle.place_keys.proofs.StepLaws.{gens-length}
 use Rattle.change_fields.proofs.BucketTables.{table-length}
-use Rattle.place.proofs.ChangeLaws.{keys-of}
+use Rattle.place.proofs.ChangeLaws.{keys-of, root-of}
 use borrow.Author.Needs.{needs}
 use Rattle.place.proofs.change.put_keys.Statement.{statement}
 use Rattle.place.proofs.change.put_keys.Tie as tie
@@ -72,10 +72,13 @@ returns c =
     let m = allocs l in
     let e = extents m in
     let a = start e in
-    emitted (sym (keys-of (a .pre .plan)))
-    (and-then (e .put-extents .ensures)
-    (and-then (m .put-allocs .ensures (volume a) (placed a) (allocs-of a) (a .pre .dirty))
-    (and-then (l .put-lrus .ensures (placed a) (a .pre .dirty)) (and-then (q .put-queue .ensures) (b .put-backpointers .ensures)))))
+    let k = l .put-lrus .ensures (placed a) (a .pre .dirty) in (
+      emitted (sym (keys-of (a .pre .plan)))
+      (and-then (e .put-extents .ensures)
+      (and-then (m .put-allocs .ensures (volume a) (placed a) (allocs-of a) (a .pre .dirty))
+      (and-then (k .0) (and-then (q .put-queue .ensures) (b .put-backpointers .ensures))))),
+      k .1 ∙ root-of (a .pre .plan),
+    )
 
 pub put-keys-spec : {M : Type 1} → statement M
 put-keys-spec =

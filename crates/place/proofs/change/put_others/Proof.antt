@@ -15,9 +15,6 @@ use borrow.Author.Needs.{needs}
 use Rattle.place.proofs.change.put_others.Statement.{statement}
 use Rattle.place.proofs.change.put_others.Tie as tie
 
-cast-put-lru-root : tie.Need-cast-put-lru-root
-cast-put-lru-root c = search needs
-
 put-lru-root-requires : tie.Need-put-lru-root-requires
 put-lru-root-requires c κs = search needs
 
@@ -35,7 +32,7 @@ tallied : (a : tie.Start) → a .args .v .tallies ≡ talliesOf (map (λ p. p .p
 tallied a = a .pre .1 .is ∙ ap talliesOf (sym (placed-pieces (readCall (a .args .s .now))))
 
 abbrev start : tie.After-put-lru-root → tie.Start
-start r = r .before .before .before .before .before .before .before .before .before .before .before .before
+start r = r .before .before .before .before .before .before .before .before .before .before .before
 
 -- what stands before the calls after it
 abbrev root : tie.After-put-taken → tie.After-put-lru-root
@@ -68,7 +65,7 @@ returns c =
     let r = root t in
     let a = start r in
     let rows = w .put-rows .ensures (bucketsIn (a .args .taken .now)) (placed a) (table-length (a .args .taken .now)) (tallied a) in
-    emitted (sym (others-of (a .pre .0) (a .args .v .tallies) (a .pre .1 .is)))
+    emitted (sym (others-of (a .pre .0) (a .args .v .tallies) (a .pre .1 .is) (a .args .«root-wanted») (a .pre .2)))
     (and-then (r .put-lru-root .ensures)
     (and-then (t .put-taken .ensures)
     (and-then (p .put-spots .ensures) (and-then rows (and-then (n .put-sectors .ensures) (z .put-end .ensures))))))
@@ -77,7 +74,6 @@ pub put-others-spec : {M : Type 1} → statement M
 put-others-spec =
     tie.close
     (tie.spec
-    cast-put-lru-root
     put-lru-root-requires
     put-taken-requires
     put-spots-requires
