@@ -2,7 +2,7 @@
 -- did the work. What a statement names is defined in the specs of wire, format, calls and lines.
 use Prim.Native.Nat.{ℕ, _+_, _-_, _*_, _%_, _^_, _<_, _≤_}
 use mathlib.Core.Path.{_≡_, refl}
-use mathlib.Core.Bool.{Bool, true, false, not}
+use mathlib.Core.Bool.{Bool, true, false, not, _&&_}
 use mathlib.Core.List.{List, [], _∷_, _++_, map}
 use mathlib.Core.Logic.{_⊎_}
 use mathlib.Core.Option.{some}
@@ -31,22 +31,22 @@ use Rattle.format.proofs.Decoded as decoded
 use Rattle.format.proofs.AllocLaws as alloc
 use Rattle.format.proofs.BackpointerLaws as backpointers
 use Rattle.format.proofs.GenLaws as gens
-use Rattle.calls.specs.Lists.{allOf, inOrder}
+use Rattle.calls.specs.Lists.{allOf, anyOf, inOrder, total, isEmpty}
 use Rattle.calls.specs.CallList.{Volume, keysOk, treesOk, callLaidOut, volumeLaidOut, listLaidOut, noneTwice, volumeBytes}
 use Rattle.calls.specs.SameFields.{AsOften}
-use Rattle.calls.specs.Freespace.{isIn, walk, runsOf, endOf, overlaps}
+use Rattle.calls.specs.Freespace.{isIn, Walked, walk, runsOf, endOf, overlaps}
 use Rattle.calls.specs.Pieces.{nextFit, bucketsNeeded}
 use Rattle.calls.specs.Extents.{Placed}
 use Rattle.calls.specs.Lru.{lruWanted}
 use Rattle.calls.specs.ChangeList.{Batch, changeLaidOut, changesOf}
 use Rattle.calls.specs.Refusals.{verdict}
-use Rattle.calls.specs.Place.{placeTests, placedOf, walkOf, placeBatch}
+use Rattle.calls.specs.Place.{rootMissing, rootsIf, placeTests, placedOf, walkOf, placeBatch}
 use Rattle.calls.specs.Release.{releaseTests, releaseBatch}
 use Rattle.calls.specs.Discard.{discardBatches}
 use Rattle.calls.specs.Apply.{applyBatch, applyBatches}
 use Rattle.calls.specs.Answers.{made, outcome, scratchAfter, readCall, readVolume, nextVolume, place, release, discard, apply, sortedForm, sort}
 use Rattle.calls.specs.ListCalls.{ListCall, answerOf}
-use Rattle.calls.specs.History.{Clean, Live, State, discarding, Step, takeAll, after, Allowed, History, start, Claim, GensAgree}
+use Rattle.calls.specs.History.{Clean, Live, State, discarding, Step, withoutRequests, takeAll, after, Allowed, History, start, Claim, GensAgree}
 use Rattle.calls.specs.Examples.{bucket, headFor, volumeFor, run, usedBucket, waitsSince, emptiedAt, runEnds, plain, placing, releasing, slot, spot, freeing, ofBatches, freeVolume, heldVolume, waiting, pastBase, elsewhere, threePieces, keyAt, holding, twoPieces, twoPiecesShuffled}
 use Rattle.calls.specs.ExampleHistory as example
 use Rattle.calls.proofs.cases.Cases.{cases}
@@ -61,6 +61,7 @@ use Rattle.calls.proofs.history.HistoryRecords as records
 use Rattle.calls.proofs.discard.DiscardBatches as batches
 use Rattle.calls.proofs.trees.SortedLaws.{keys-order}
 use Rattle.calls.proofs.freespace.TakenAscend as taken
+use Rattle.calls.proofs.place.LruRootLaws as roots
 use Rattle.calls.proofs.place.PointerLaws as pointers
 use Rattle.calls.proofs.cases.WorkedHistory as worked
 use Rattle.zerglaz.proofs.zerglaz_place.Kinds as placeK
@@ -233,6 +234,13 @@ case1-placed = worked-answers .three-placed
 pub case1-roots : ofBatches (λ b. b .roots) threePieces ≡ (10 ∷ []) ∷ []
 case1-roots = worked-answers .three-roots
 
+-- beside it: a full bucket, and no piece at all, want no root
+pub full-root : ofBatches (λ b. b .roots) (place (placing (freeVolume 33) (plain 128 ∷ [])) 2000) ≡ [] ∷ []
+full-root = worked-answers .full-root
+
+pub none-root : ofBatches (λ b. b .roots) (place (placing (freeVolume 32) []) 14) ≡ [] ∷ []
+none-root = worked-answers .none-root
+
 -- 2. bucket 128, stored 64, 64, 1: (0,0), (0,64), (1,0)
 pub case2 : nextFit 128 0 0 (64 ∷ 64 ∷ 1 ∷ []) ≡ slot 0 0 ∷ slot 0 64 ∷ slot 1 0 ∷ []
 case2 = cases .case2
@@ -396,6 +404,25 @@ pub apply-read-back : (s change : List ℕ) (room : ℕ) → Bytes s → Bytes c
     → (volumeLaidOut (apply s change room .written) ≡ true) × (noneTwice (readVolume (apply s change room .written)) ≡ true)
     × (readVolume (apply s change room .written) ≡ nextVolume s change)
 apply-read-back = answers.apply-written
+
+-- ---- the LRU root
+-- a placement's field 70 names it exactly where an LRU key is queued and it does not exist
+pub lru-root : (v : Volume) (ps : List Placed) (w : Walked)
+    → placeBatch v ps w .roots ≡ rootsIf (not (isEmpty (placeBatch v ps w .trees .lru)) && rootMissing (v .head .roots) 0) 10
+lru-root = roots.lru-root
+
+-- so it exists once an accepted placement that queues an LRU key is applied
+pub lru-root-exists : (s : List ℕ) (room applyRoom : ℕ) → Bytes s → place s room .number ≡ 0
+    → anyOf (λ b. not (isEmpty (b .trees .lru))) (changesOf (place s room .written)) ≡ true
+    → apply (withoutRequests s) (place s room .written) applyRoom .number ≡ 0
+    → rootMissing (readVolume (apply (withoutRequests s) (place s room .written) applyRoom .written) .head .roots) 0 ≡ false
+lru-root-exists = roots.lru-root-exists
+
+-- and an accepted placement queues one wherever its stored sectors in all are no multiple of the bucket
+pub total-queued : (s : List ℕ) (room : ℕ) → Bytes s → place s room .number ≡ 0
+    → (total (λ p. p .stored) (readCall s .pieces) % readVolume s .head .bucketSectors ≡ 0 → ⊥)
+    → anyOf (λ b. not (isEmpty (b .trees .lru))) (changesOf (place s room .written)) ≡ true
+total-queued = roots.total-queued
 
 -- ==== Demand 2: what the Linux headers decide
 
