@@ -20,30 +20,34 @@ pub struct KeysPut {
     pub root_wanted: bool,
 }
 
-// Whether the root is wanted by a bucket with this dirty count, where it may be wanted by one before it.
-fn wants_root(before: bool, dirty: u32, sectors: u64) -> bool
-    ensures { λ r. ⌜ r ≡ (before || partFilled sectors dirty) ⌝ }
+// The LRU key of a bucket that is part filled, which wants the root. Refusal 4 shows that a bucket has sectors, here and below.
+fn put_lru(out: &mut [u8], before: KeysPut, b: Bucket, dirty: u32, sectors: u64) -> KeysPut
+    requires { ⌜ 0 < sectors ⌝ }
+    ensures { λ r. ⌜ Emitted (now (out .entry)) (before .at) (keysBytes 10 (lruKeys sectors b dirty)) (now (out .exit)) (r .at) × (r .«root_wanted» ≡ (before .«root_wanted» || partFilled sectors dirty)) ⌝ }
 {
-    if (dirty as u64) < sectors {
-        return true;
+    if sectors <= dirty as u64 {
+        return before;
     }
-    before
+    KeysPut {
+        at: lru_keys::put_lru_key(out, before.at, b, dirty, sectors),
+        root_wanted: true,
+    }
 }
 
-// The LRU keys of the buckets taken, in order, by their dirty counts. `put_keys` shows whose they are, refusal 4 that a bucket has sectors.
+// The LRU keys of the buckets taken, in order, by their dirty counts. `put_keys` shows whose they are.
 pub fn put_lrus(out: &mut [u8], at: usize, taken: &[u64], dirty: &[u32], sectors: u64) -> KeysPut
     requires { ⌜ (length (now taken) ≤ length (now dirty)) × (0 < sectors) ⌝ }
     requires { ⌜ DirtyKnown (bucketsIn (now taken)) (now dirty) ⌝ }
     ensures { λ r. ⌜ ((ps : List calls.Placed) → Dirty ps (bucketsIn (now (taken .entry))) (now (dirty .entry)) → Emitted (now (out .entry)) at (keysBytes 10 (flatMap (λ b. lruKeys sectors b (dirtyIn ps b)) (bucketsIn (now (taken .entry))))) (now (out .exit)) (r .at) × (r .«root_wanted» ≡ lruWanted sectors (map (dirtyIn ps) (bucketsIn (now (taken .entry)))))) ⌝ }
 {
-    let mut p = at;
-    let mut root_wanted = false;
+    let mut k = KeysPut {
+        at,
+        root_wanted: false,
+    };
     let mut i: usize = 0;
     while i < taken.len() {
-        let here = dirty[i];
-        p = lru_keys::put_lru_key(out, p, Bucket(taken[i]), here, sectors);
-        root_wanted = wants_root(root_wanted, here, sectors);
+        k = put_lru(out, k, Bucket(taken[i]), dirty[i], sectors);
         i += 1;
     }
-    KeysPut { at: p, root_wanted }
+    k
 }

@@ -22,36 +22,33 @@ use Rattle.place_keys.proofs.lru.put_lrus.Statement.{statement}
 use Rattle.place_keys.proofs.lru.put_lrus.Tie as tie
 
 abbrev Inv-loop : tie.InvT-loop
-Inv-loop out₀ at taken dirty sectors p₀ root-wanted₀ i₀ out p root-wanted i =
+Inv-loop out₀ at taken dirty sectors k₀ i₀ out k i =
     (length out ≡ length out₀)
     × ((ps : List calls.Placed) → Dirty ps (bucketsIn taken) dirty
-    → Part out₀ at (keysBytes 10 (flatMap (λ b. lruKeys sectors b (dirtyIn ps b)) (bucketsIn taken))) out p
+    → Part out₀ at (keysBytes 10 (flatMap (λ b. lruKeys sectors b (dirtyIn ps b)) (bucketsIn taken))) out (k .at)
     (keysBytes 10 (flatMap (λ b. lruKeys sectors b (dirtyIn ps b)) (drop i (bucketsIn taken))))
-    × ((root-wanted || lruWanted sectors (map (dirtyIn ps) (drop i (bucketsIn taken)))) ≡ lruWanted sectors (map (dirtyIn ps) (bucketsIn taken))))
+    × ((k .«root_wanted» || lruWanted sectors (map (dirtyIn ps) (drop i (bucketsIn taken)))) ≡ lruWanted sectors (map (dirtyIn ps) (bucketsIn taken))))
 
 abbrev μ-loop : tie.MeasureT-loop
-μ-loop out₀ at taken dirty sectors p₀ root-wanted₀ i₀ out p root-wanted i = length taken - i
+μ-loop out₀ at taken dirty sectors k₀ i₀ out k i = length taken - i
 
 loop-holds : tie.Need-loop-holds Inv-loop μ-loop
 loop-holds c = (refl, λ ps d. (begin _ _ _ (omega arith), refl))
 
-mul-here : tie.Need-mul-here Inv-loop μ-loop
-mul-here c = omega arith
+mul-t8 : tie.Need-mul-t8 Inv-loop μ-loop
+mul-t8 c = omega arith
 
-shared-slice-read-here : tie.Need-shared-slice-read-here Inv-loop μ-loop
-shared-slice-read-here c = omega arith
+shared-slice-read-t13 : tie.Need-shared-slice-read-t13 Inv-loop μ-loop
+shared-slice-read-t13 c = omega arith
 
-mul-t10 : tie.Need-mul-t10 Inv-loop μ-loop
-mul-t10 c = omega arith
+mul-put-lru : tie.Need-mul-put-lru Inv-loop μ-loop
+mul-put-lru c = omega arith
 
-shared-slice-read-t17 : tie.Need-shared-slice-read-t17 Inv-loop μ-loop
-shared-slice-read-t17 c = omega arith
+shared-slice-read-put-lru : tie.Need-shared-slice-read-put-lru Inv-loop μ-loop
+shared-slice-read-put-lru c = omega arith
 
-put-lru-key-requires : tie.Need-put-lru-key-requires Inv-loop μ-loop
-put-lru-key-requires c κs = omega arith
-
-wants-root-requires : tie.Need-wants-root-requires Inv-loop μ-loop
-wants-root-requires c κs = tt
+put-lru-requires : tie.Need-put-lru-requires Inv-loop μ-loop
+put-lru-requires c κs = omega arith
 
 add-i : tie.Need-add-i Inv-loop μ-loop
 add-i c = omega arith
@@ -59,11 +56,8 @@ add-i c = omega arith
 loop-less : tie.Need-loop-less Inv-loop μ-loop
 loop-less c = omega arith
 
-abbrev key-put : tie.After-wants-root Inv-loop μ-loop → tie.After-put-lru-key Inv-loop μ-loop
-key-put w = w .before .before .before
-
-abbrev at-loop : tie.After-put-lru-key Inv-loop μ-loop → tie.At-loop Inv-loop μ-loop
-at-loop k = k .before .before .before .before .before
+abbrev at-loop : tie.After-put-lru Inv-loop μ-loop → tie.At-loop Inv-loop μ-loop
+at-loop p = p .before .before .before .before .before
 
 abbrev start : tie.At-loop Inv-loop μ-loop → tie.Start Inv-loop μ-loop
 start l = l .before .before .before .before
@@ -79,22 +73,22 @@ count-here l ps d m =
 
 loop-again : tie.Need-loop-again Inv-loop μ-loop
 loop-again c =
-    let k = key-put c in
-    let l = at-loop k in
+    let p = c .before .before in
+    let l = at-loop p in
     let a = start l in
     let i = l .loop .i in
     let m : i < length (a .args .taken .now) = omega arith in
     let n = a .args .sectors in
     let b = bucketIs (getD (a .args .taken .now) i 0) in
     let next = table-next (a .args .taken .now) i m in (
-      wrote-length (k .put-lru-key .ensures) ∙ l .loop .inv .0,
+      wrote-length (p .put-lru .ensures .0) ∙ l .loop .inv .0,
       λ ps d.
       let e = count-here l ps d m in (
         turn _ (l .loop .inv .1 ps d .0) (flat-next (keyField 10) (λ b. lruKeys n b (dirtyIn ps b)) next)
-        (emitted (ap (λ z. keysBytes 10 (lruKeys n b z)) e) (k .put-lru-key .ensures)),
+        (emitted (ap (λ z. keysBytes 10 (lruKeys n b z)) e) (p .put-lru .ensures .0)),
         ap (λ (t : Bool). t || lruWanted n (map (dirtyIn ps) (drop (i + 1) (bucketsIn (a .args .taken .now)))))
-        (c .wants-root .ensures ∙ ap (λ (z : ℕ). l .loop .«root-wanted» || partFilled n z) e)
-        ∙ wanted-next n (dirtyIn ps) (l .loop .«root-wanted») next (l .loop .inv .1 ps d .1),
+        (p .put-lru .ensures .1 ∙ ap (λ (z : ℕ). l .loop .k .«root_wanted» || partFilled n z) e)
+        ∙ wanted-next n (dirtyIn ps) (l .loop .k .«root_wanted») next (l .loop .inv .1 ps d .1),
       ),
     )
 
@@ -108,7 +102,7 @@ returns c =
     λ ps d.
     let none = table-none (a .args .taken .now) (l .loop .i) (omega arith) in (
       done (l .loop .inv .1 ps d .0) (flat-none (keyField 10) (λ b. lruKeys (a .args .sectors) b (dirtyIn ps b)) none),
-      wanted-none (a .args .sectors) (dirtyIn ps) (l .loop .«root-wanted») none (l .loop .inv .1 ps d .1),
+      wanted-none (a .args .sectors) (dirtyIn ps) (l .loop .k .«root_wanted») none (l .loop .inv .1 ps d .1),
     )
 
 pub put-lrus-spec : {M : Type 1} → statement M
@@ -118,12 +112,11 @@ put-lrus-spec =
     Inv-loop
     μ-loop
     loop-holds
-    mul-here
-    shared-slice-read-here
-    mul-t10
-    shared-slice-read-t17
-    put-lru-key-requires
-    wants-root-requires
+    mul-t8
+    shared-slice-read-t13
+    mul-put-lru
+    shared-slice-read-put-lru
+    put-lru-requires
     add-i
     loop-less
     loop-again
