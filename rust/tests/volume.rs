@@ -305,6 +305,24 @@ fn pieces_of_a_file() {
     assert!(volume.live_of(7).is_empty());
 }
 
+/// A save that leaves a bucket part filled makes the LRU root, also where it stores whole buckets in all;
+/// one that fills its buckets, or stores nothing, does not.
+#[test]
+fn the_lru_root() {
+    let saves: [(&[u16], bool); 4] = [
+        (&[96, 96, 64], true),
+        (&[128, 1], true),
+        (&[128, 64, 64], false),
+        (&[], false),
+    ];
+    for (sectors, made) in saves {
+        let mut volume = clean(40);
+        save(&mut volume, sectors);
+        let roots = volume.list().head().roots;
+        assert_eq!(roots.lru, made, "{sectors:?}");
+    }
+}
+
 /// Each applied step has the next journal number; a refused one leaves it.
 #[test]
 fn journal_numbers() {

@@ -27,6 +27,7 @@ use Rattle.accounting.specs.Tally.{talliesOf}
 use Rattle.accounting.specs.declared.tally.Tally.{Tally}
 use Rattle.accounting.specs.declared.tally.Tallies.{Tallies}
 use Rattle.wire.proofs.EncodeLaws.{encode-append, encode-next, encode-none}
+use Rattle.calls.proofs.place.LruRootLaws.{wanted-queued}
 use Rattle.place_keys.proofs.StepLaws.{bucket-sectors}
 use Rattle.accounting.proofs.PlaceRowLaws.{all-tally, placed-pieces}
 
@@ -64,10 +65,12 @@ module _ {s offsets numbers : List ℕ} {buckets : List Bucket} {generations : L
       (map (keyField 10) (flatMap (λ b. lruKeys (readVolume s .head .bucketSectors) b (dirtyIn (placedOf (readCall s)) b)) (walkOf (readCall s) .taken)))
       (map (keyField 11) (walkOf (readCall s) .queue)) (map (keyField 13) (map (backpointerKey (readVolume s .head)) (placedOf (readCall s)))))
 
-  -- whether the root is wanted, by the same
+  -- the root is wanted where an LRU key is queued
   pub root-of : lruWanted (h .«bucket_sectors») (map (dirtyIn (placedOf (readCall s))) buckets) ≡ rootWanted s
-  unfolding rootWanted
-  root-of = rw (plan .taken, ← bucket-sectors plan)
+  unfolding rootWanted placeBatch
+  root-of =
+      rw (plan .taken, ← bucket-sectors plan)
+      (wanted-queued (readVolume s .head .bucketSectors) (dirtyIn (placedOf (readCall s))) (walkOf (readCall s) .taken))
 
   -- what follows them, by the tallies and by whether the root is wanted
   pub others-of : (t : Tallies) → t ≡ talliesOf (readCall s .pieces) → (wanted : Bool) → wanted ≡ rootWanted s
@@ -83,7 +86,8 @@ module _ {s offsets numbers : List ℕ} {buckets : List Bucket} {generations : L
       let a = all-tally ps ∙ ap (λ l. talliesOf l .all) (placed-pieces (readCall s)) ∙ ap (λ (x : Tallies). x .all) (sym e) in
       let f : total (λ p. p .piece .file) ps ≡ t .all .file = ap (λ (x : Tally). x .file) a in
       let r : readVolume s .head .roots ≡ h .roots = ap (λ (x : calls.Head). x .roots) (sym (plan .head)) in
-      rw (plan .head, plan .taken, w, ← f, ← r)
+      let q = w ∙ sym (wanted-queued (readVolume s .head .bucketSectors) (dirtyIn ps) (walkOf (readCall s) .taken)) in
+      rw (plan .head, plan .taken, q, ← f, ← r)
       (six _ (map takenField (walkOf (readCall s) .taken)) (map spotField (map spotAt ps))
       (map rowField (placeRows (readVolume s .head) (walkOf (readCall s) .taken) ps (map (extentKey (readVolume s .head)) ps)))
       (sectorsField (total (λ p. p .piece .file) ps)) endField)

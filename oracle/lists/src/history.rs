@@ -1,13 +1,15 @@
 //! Random histories from clean volumes, their lists in any order, with what docs/FORMAT.md, "Clean volumes
-//! and histories", claims (demand 3) counted after each step.
+//! and histories", claims (demand 3) counted after each step, and that a placement which queued an LRU key
+//! left an LRU root.
 
 use crate::apply::apply;
-use crate::call_list::{CallList, Head, Release, ALLOC, DISCARD, FREESPACE, NEED_DISCARD};
+use crate::call_list::{CallList, Head, Release, ALLOC, DISCARD, FREESPACE, LRU, NEED_DISCARD};
 use crate::call_list::{PLACE, RELEASE};
 use crate::change_list;
 use crate::fields::number;
 use crate::generate::{block, piece};
 use crate::key::Key;
+use crate::lru_root;
 use crate::model::{runs, start, EXTENT};
 use crate::order::{shuffled, without_requests};
 use crate::rng::Rng;
@@ -183,9 +185,14 @@ impl History {
         Ok(())
     }
 
-    /// Each request's piece: first sector and generation from its 72, length as asked.
+    /// Each request's piece: first sector and generation from its 72, length as asked. The LRU root exists
+    /// where an LRU key was queued.
     fn add_live(&mut self, list: &CallList, change: &[u8]) -> Result<(), String> {
         let batches = change_list::read(change).ok_or("a broken change list")?;
+        let mut keys = batches.iter().flat_map(|b| &b.keys);
+        if keys.any(|(tree, _)| *tree == LRU) && !lru_root::exists(&self.volume) {
+            return Err("an LRU key was queued and no LRU root exists".into());
+        }
         let placed: Vec<_> = batches.iter().flat_map(|b| &b.placed).collect();
         if placed.len() != list.places.len() {
             return Err("as many 72 as requests are due".into());
