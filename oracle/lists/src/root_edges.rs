@@ -14,8 +14,18 @@ pub fn root_edges(base: &CallList) -> Vec<Edge> {
     };
     vec![
         placing("three part filled, whole in all", 0, 8, &[6, 6, 4]),
-        placing("three part filled, whole in all, it exists", 1, 8, &[6, 6, 4]),
-        placing("three part filled, whole in all, others exist", 6, 8, &[6, 6, 4]),
+        placing(
+            "three part filled, whole in all, it exists",
+            1,
+            8,
+            &[6, 6, 4],
+        ),
+        placing(
+            "three part filled, whole in all, others exist",
+            6,
+            8,
+            &[6, 6, 4],
+        ),
         placing("the smallest whole in all", 0, 2, &[1, 2, 1]),
         placing("three alike, whole in all", 0, 3, &[2, 2, 2]),
         placing("the first part filled, not whole in all", 0, 8, &[1, 8]),

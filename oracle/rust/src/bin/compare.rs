@@ -11,7 +11,8 @@ use lists::order::shuffled;
 use lists::rng::Rng;
 use lists::vectors::hex;
 use oracle::compare::{
-    accepted, disagreement, disagrees, left_out, number, number_of, root_differs, shrink, told_apart,
+    accepted, disagreement, disagrees, left_out, number, number_of, root_differs, shrink,
+    told_apart,
 };
 use oracle::{run, Outcome};
 use std::collections::BTreeMap;

@@ -74,9 +74,9 @@ returns c =
     let a = start e in
     let k = l .put-lrus .ensures (placed a) (a .pre .dirty) in (
       emitted (sym (keys-of (a .pre .plan)))
-      (and-then (e .put-extents .ensures)
-      (and-then (m .put-allocs .ensures (volume a) (placed a) (allocs-of a) (a .pre .dirty))
-      (and-then (k .0) (and-then (q .put-queue .ensures) (b .put-backpointers .ensures))))),
+          (and-then (e .put-extents .ensures)
+          (and-then (m .put-allocs .ensures (volume a) (placed a) (allocs-of a) (a .pre .dirty))
+          (and-then (k .0) (and-then (q .put-queue .ensures) (b .put-backpointers .ensures))))),
       k .1 ∙ root-of (a .pre .plan),
     )
 

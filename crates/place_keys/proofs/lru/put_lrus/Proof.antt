@@ -83,13 +83,13 @@ loop-again c =
     let next = table-next (a .args .taken .now) i m in (
       wrote-length (p .put-lru .ensures .0) ∙ l .loop .inv .0,
       λ ps d.
-      let e = count-here l ps d m in (
-        turn _ (l .loop .inv .1 ps d .0) (flat-next (keyField 10) (λ b. lruKeys n b (dirtyIn ps b)) next)
-        (emitted (ap (λ z. keysBytes 10 (lruKeys n b z)) e) (p .put-lru .ensures .0)),
-        ap (λ (t : Bool). t || lruWanted n (map (dirtyIn ps) (drop (i + 1) (bucketsIn (a .args .taken .now)))))
-        (p .put-lru .ensures .1 ∙ ap (λ (z : ℕ). l .loop .k .«root_wanted» || partFilled n z) e)
-        ∙ wanted-next n (dirtyIn ps) (l .loop .k .«root_wanted») next (l .loop .inv .1 ps d .1),
-      ),
+          let e = count-here l ps d m in (
+            turn _ (l .loop .inv .1 ps d .0) (flat-next (keyField 10) (λ b. lruKeys n b (dirtyIn ps b)) next)
+                (emitted (ap (λ z. keysBytes 10 (lruKeys n b z)) e) (p .put-lru .ensures .0)),
+            ap (λ (t : Bool). t || lruWanted n (map (dirtyIn ps) (drop (i + 1) (bucketsIn (a .args .taken .now)))))
+                (p .put-lru .ensures .1 ∙ ap (λ (z : ℕ). l .loop .k .«root_wanted» || partFilled n z) e)
+                ∙ wanted-next n (dirtyIn ps) (l .loop .k .«root_wanted») next (l .loop .inv .1 ps d .1),
+          ),
     )
 
 same-length : tie.Need-same-length Inv-loop μ-loop
