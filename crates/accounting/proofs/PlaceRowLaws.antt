@@ -8,14 +8,11 @@ use lib.ListN.{length, length-map}
 use lib.Dec.{eqb}
 use Rattle.wire.specs.Keys.{Key}
 use Rattle.wire.specs.declared.kinds.Bucket.{Bucket}
-use Rattle.wire.specs.declared.kinds.FileSector.{FileSector}
 use Rattle.format.specs.Entries.{pointer, checksumEntry, extentWords}
 use Rattle.calls.specs.Lists.{those, total}
 use Rattle.calls.specs.CallList.{Head, Piece}
-use Rattle.calls.specs.Extents.{Placed, extentKey, placedAt}
-use Rattle.calls.specs.Pieces.{nextFit}
-use Rattle.calls.specs.Place.{placeRows, placedOf, slotsOf}
-use Rattle.calls.specs.CallList as calls
+use Rattle.calls.specs.Extents.{Placed, extentKey}
+use Rattle.calls.specs.Place.{placeRows}
 use Rattle.calls.specs.Accounting.{countedRows, sectorsRow, bucketsRow, kindRow, extentsRow, ownerRow, swapped}
 use Rattle.calls.proofs.lists.ThoseLaws.{those-map}
 use Rattle.calls.proofs.lists.TotalLaws.{total-map, total-constant}
@@ -112,15 +109,3 @@ place-rows h bs ps extents t e =
       kind-row 5 ps ∙ ap (λ (x : Tallies). kindCounts 5 (x .«kind_5»)) (sym e),
       d,
     )
-
--- the pieces that are placed are all pieces
-
-pieces-placed : (B : ℕ) (gen : Bucket → ℕ) (bucket : ℕ → Bucket) (from : FileSector) (ps : List Piece) (i u : ℕ)
-    → map (λ p. p .piece) (placedAt B gen bucket from ps (nextFit B i u (map (λ p. p .stored) ps))) ≡ ps
-unfolding placedAt nextFit
-pieces-placed B gen bucket from [] i u = refl
-pieces-placed B gen bucket from (p ∷ ps) i u = ap (λ l. p ∷ l) (pieces-placed B gen bucket _ ps _ _)
-
-pub placed-pieces : (c : calls.CallList) → map (λ p. p .piece) (placedOf c) ≡ c .pieces
-unfolding placedOf slotsOf
-placed-pieces c = pieces-placed _ _ _ _ (c .pieces) 0 0

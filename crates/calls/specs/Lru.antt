@@ -22,7 +22,7 @@ lruKeys sectors b dirty = cond (partFilled sectors dirty) (newKey 25 0 (lruAt (f
 unfoldable pub lruDeletions : ℕ → Bucket → ℕ → List Key
 lruDeletions sectors b dirty = cond (partFilled sectors dirty) (deletion (lruAt (fragmentation dirty sectors) b) ∷ []) []
 
--- the LRU root is wanted when a bucket, of those with these dirty sectors, is left part filled
+-- the LRU root is wanted when a bucket taken is left part filled, by the dirty sectors of the buckets taken
 unfoldable pub lruWanted : ℕ → List ℕ → Bool
 lruWanted sectors dirty = anyOf (partFilled sectors) dirty
 

@@ -28,8 +28,9 @@ use Rattle.accounting.specs.declared.tally.Tally.{Tally}
 use Rattle.accounting.specs.declared.tally.Tallies.{Tallies}
 use Rattle.wire.proofs.EncodeLaws.{encode-append, encode-next, encode-none}
 use Rattle.calls.proofs.place.LruRootLaws.{wanted-queued}
+use Rattle.calls.proofs.place.PlaceLaws.{placed-pieces}
 use Rattle.place_keys.proofs.StepLaws.{bucket-sectors}
-use Rattle.accounting.proofs.PlaceRowLaws.{all-tally, placed-pieces}
+use Rattle.accounting.proofs.PlaceRowLaws.{all-tally}
 
 nine : (a b c d e f g h i : List Field) → a ++ b ++ c ++ d ++ e ++ f ++ g ++ h ++ i ++ [] ≡ (a ++ b) ++ (c ++ d ++ e ++ f ++ g ++ h ++ i)
 nine a b c d e f g h i = simp (append-assoc, append-nil)

@@ -4,15 +4,16 @@ use mathlib.Core.Bool.{Bool, true, _||_, or-assoc, or-false, or-true}
 use mathlib.Core.List.{List, [], _∷_, map}
 use Prim.Native.Nat.{ℕ, _≤_, _<_}
 use borrow.Author.Tests.{lt-ltb, le-ltb}
-use Rattle.wire.specs.Keys.{Key}
 use Rattle.wire.specs.declared.kinds.Bucket.{Bucket}
 use Rattle.calls.specs.Lists.{anyOf}
 use Rattle.calls.specs.Lru.{partFilled, lruKeys, lruWanted}
+use Rattle.change_fields.specs.FieldBytes.{keysBytes}
+use Rattle.change_fields.proofs.LruLaws.{lru-none}
 
 -- a bucket that is full
-pub full-keys : (sectors : ℕ) (b : Bucket) (dirty : ℕ) → sectors ≤ dirty → _≡_ {A = List Key} (lruKeys sectors b dirty) []
+pub full-keys : (sectors : ℕ) (b : Bucket) (dirty : ℕ) → sectors ≤ dirty → keysBytes 10 (lruKeys sectors b dirty) ≡ []
 unfolding lruKeys
-full-keys sectors b dirty h = rw (le-ltb dirty sectors h)
+full-keys sectors b dirty h = lru-none dirty sectors _ h
 
 pub full-wanted : (sectors dirty : ℕ) (before : Bool) → sectors ≤ dirty → before ≡ (before || partFilled sectors dirty)
 full-wanted sectors dirty before h = rw (le-ltb dirty sectors h) (sym (or-false before))

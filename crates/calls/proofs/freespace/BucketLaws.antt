@@ -72,7 +72,7 @@ unfolding isIn anyOf allOf
 all-in t [] h = refl
 all-in t (b ∷ bs) h = rw (h b (rw (eq-eqb (b .0) (b .0) refl))) (all-in t bs (λ c m. h c (in-more (sameBucket b c) m)))
 
-pub same-sym : (a b : Bucket) → sameBucket a b ≡ sameBucket b a
+same-sym : (a b : Bucket) → sameBucket a b ≡ sameBucket b a
 same-sym a b = go (sameBucket a b) refl (sameBucket b a) refl
   where
     go : (t : Bool) → sameBucket a b ≡ t → (u : Bool) → sameBucket b a ≡ u → t ≡ u

@@ -3,37 +3,34 @@
 use mathlib.Core.Path.{_≡_, refl, sym, ap, _∙_}
 use mathlib.Core.Bool.{Bool, true, false, not, _&&_, _||_, cond}
 use mathlib.Core.List.{List, [], _∷_, _++_, map, flatMap}
-use Prim.Native.Nat.{ℕ, suc, _+_, _*_, _/_, _%_, _^_, _≤_}
+use Prim.Native.Nat.{ℕ, _+_, _*_, _/_, _%_, _^_, _≤_}
 use native.Mathlib.Omega.{arith}
 use native.Mathlib.Nat.{one-mul, mul-mod-left, mul-le-mul-right}
-use lib.Dec.{leb}
 use lib.ListN.{length}
 use borrow.Author.Tests.{eqb-true, ne-eqb, ltb-false}
 use Rattle.wire.specs.Bytes.{All, none, more, Bytes}
-use Rattle.wire.specs.Kinds.{sameBucket, noBucket, extentEnd}
+use Rattle.wire.specs.Kinds.{sameBucket}
 use Rattle.wire.specs.Positions.{lruAt}
 use Rattle.wire.specs.declared.kinds.Bucket.{Bucket}
-use Rattle.wire.specs.declared.kinds.FileSector.{FileSector}
 use Rattle.format.specs.Lru.{fragmentation}
 use Rattle.calls.specs.Lists.{anyOf, total, isEmpty}
 use Rattle.calls.specs.Trees.{newKey}
 use Rattle.calls.specs.CallList.{Volume, CallList, Piece, treesOk}
 use Rattle.calls.specs.Freespace.{Walked}
-use Rattle.calls.specs.Pieces.{nextFit}
-use Rattle.calls.specs.Extents.{Placed, bucketAt, placedAt}
+use Rattle.calls.specs.Extents.{Placed}
 use Rattle.calls.specs.Lru.{partFilled, lruKeys, lruWanted}
 use Rattle.calls.specs.ChangeList.{changesOf}
 use Rattle.calls.specs.Refusals.{verdict}
-use Rattle.calls.specs.Place.{rootMissing, rootsIf, dirtyIn, slotsOf, placeBatch, placeTests, placedOf, walkOf}
+use Rattle.calls.specs.Place.{rootMissing, rootsIf, dirtyIn, placeBatch, placeTests, placedOf, walkOf}
 use Rattle.calls.specs.Apply.{setRoots, withRoots, applyBatch}
 use Rattle.calls.specs.Answers.{readCall, readVolume, place, apply}
 use Rattle.calls.specs.History.{withoutRequests}
 use Rattle.calls.proofs.lists.AllLaws.{all-imp}
 use Rattle.calls.proofs.lists.BoolLaws.{clash, neither}
-use Rattle.calls.proofs.lists.TotalLaws.{total-same, total-constant, total-swap}
+use Rattle.calls.proofs.lists.TotalLaws.{total-map, total-same, total-constant, total-swap}
 use Rattle.calls.proofs.freespace.BucketLaws.{count, counted-times}
 use Rattle.calls.proofs.freespace.TakenAscend.{ascend-once, call-trees, place-taken-ascend}
-use Rattle.calls.proofs.place.PlaceLaws.{sectorsIn, gensIn, takenBy, place-accepted, place-fitted}
+use Rattle.calls.proofs.place.PlaceLaws.{sectorsIn, takenBy, placed-pieces, place-accepted, place-fitted}
 use Rattle.calls.proofs.answers.AnswerLaws.{placement, applied}
 use Rattle.calls.proofs.answers.AnswersReadBack.{place-written}
 use Rattle.calls.proofs.history.HistoryKeeps.{placed-read}
@@ -92,15 +89,6 @@ lru-root-exists s room applyRoom r h q m =
     not-empty false e = refl
 
 -- ---- the stored sectors in all
--- the pieces placed are those asked for
-placed-stored : (B : ℕ) (gen : Bucket → ℕ) (at : ℕ → Bucket) (from : FileSector) (i u : ℕ) (ps : List Piece)
-    → total (λ (p : Placed). p .piece .stored) (placedAt B gen at from ps (nextFit B i u (map (λ (p : Piece). p .stored) ps))) ≡ total (λ (p : Piece). p .stored) ps
-unfolding placedAt nextFit total
-placed-stored B gen at from i u [] = refl
-placed-stored B gen at from i u (p ∷ ps) =
-    ap (λ (n : ℕ). p .stored + n)
-    (placed-stored B gen at (extentEnd from (p .file)) (cond (leb (u + p .stored) B) i (suc i)) (cond (leb (u + p .stored) B) u 0 + p .stored) ps)
-
 -- where no bucket is part filled, each holds at least its sectors
 filled : (B : ℕ) (dirty : Bucket → ℕ) (bs : List Bucket) → lruWanted B (map dirty bs) ≡ false → All (λ b. B ≤ dirty b) bs
 unfolding lruWanted anyOf
@@ -138,11 +126,10 @@ module _ (c : CallList) (trees : treesOk (c .volume .trees) ≡ true) (ok : verd
       ∙ total-constant (λ (b : Bucket). sectorsIn c) (sectorsIn c) (λ b. refl) (takenBy c)
 
   total-wanted : (total (λ (p : Piece). p .stored) (c .pieces) % sectorsIn c ≡ 0 → ⊥) → lruWanted (sectorsIn c) (map (dirtyIn (placedOf c)) (takenBy c)) ≡ true
-  unfolding placedOf slotsOf
   total-wanted h = go (lruWanted (sectorsIn c) (map (dirtyIn (placedOf c)) (takenBy c))) refl
     where
       asked : total (λ (p : Placed). p .piece .stored) (placedOf c) ≡ total (λ (p : Piece). p .stored) (c .pieces)
-      asked = placed-stored (sectorsIn c) (gensIn c) (bucketAt noBucket (takenBy c)) (c .volume .head .base) 0 0 (c .pieces)
+      asked = sym (total-map (λ (p : Piece). p .stored) (λ (p : Placed). p .piece) (placedOf c)) ∙ ap (total (λ (p : Piece). p .stored)) (placed-pieces c)
 
       go : (t : Bool) → lruWanted (sectorsIn c) (map (dirtyIn (placedOf c)) (takenBy c)) ≡ t → t ≡ true
       go true e = refl

@@ -111,6 +111,17 @@ spots-live B gen at from i u [] = refl
 spots-live B gen at from i u (p ∷ ps) =
     rw (spots-live B gen at (extentEnd from (p .file)) (cond (leb (u + p .stored) B) i (suc i)) (cond (leb (u + p .stored) B) u 0 + p .stored) ps)
 
+-- the pieces that are placed are those asked for
+pieces-placed : (B : ℕ) (gen : Bucket → ℕ) (at : ℕ → Bucket) (from : FileSector) (ps : List Piece) (i u : ℕ)
+    → map (λ (p : Placed). p .piece) (placedAt B gen at from ps (nextFit B i u (map (λ (p : Piece). p .stored) ps))) ≡ ps
+unfolding placedAt nextFit
+pieces-placed B gen at from [] i u = refl
+pieces-placed B gen at from (p ∷ ps) i u = ap (λ (l : List Piece). p ∷ l) (pieces-placed B gen at _ ps _ _)
+
+pub placed-pieces : (c : CallList) → map (λ p. p .piece) (placedOf c) ≡ c .pieces
+unfolding placedOf slotsOf
+placed-pieces c = pieces-placed _ _ _ _ (c .pieces) 0 0
+
 -- ---- the volume after a placement
 abbrev pub sectorsIn : CallList → ℕ
 sectorsIn c = c .volume .head .bucketSectors

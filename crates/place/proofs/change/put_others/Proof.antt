@@ -8,7 +8,7 @@ use Rattle.calls.specs.Answers.{readCall}
 use Rattle.accounting.specs.Tally.{talliesOf}
 use Rattle.wire.specs.Kinds.{bucketsIn}
 use Rattle.wire.proofs.EmitLaws.{emitted, and-then}
-use Rattle.accounting.proofs.PlaceRowLaws.{placed-pieces}
+use Rattle.calls.proofs.place.PlaceLaws.{placed-pieces}
 use Rattle.change_fields.proofs.BucketTables.{table-length}
 use Rattle.place.proofs.ChangeLaws.{others-of}
 use borrow.Author.Needs.{needs}

@@ -1,8 +1,6 @@
 -- `lru::put_lru` meets its contract.
 use native.Mathlib.Omega.{arith}
-use Rattle.wire.specs.Encode.{keyField}
 use Rattle.wire.proofs.EmitLaws.{nothing}
-use Rattle.change_fields.proofs.FieldLists.{fields-none}
 use Rattle.place_keys.proofs.RootLaws.{full-keys, full-wanted, part-wanted}
 use borrow.Author.Needs.{needs}
 use Rattle.place_keys.proofs.lru.put_lru.Statement.{statement}
@@ -11,7 +9,7 @@ use Rattle.place_keys.proofs.lru.put_lru.Tie as tie
 returns : tie.Need-returns
 returns c =
     let a = c .before .before .args in (
-      nothing (omega arith) (fields-none (keyField 10) (full-keys (a .sectors) (a .b) (a .dirty) (c .if1 .taken))),
+      nothing (omega arith) (full-keys (a .sectors) (a .b) (a .dirty) (c .if1 .taken)),
       full-wanted (a .sectors) (a .dirty) (a .before .«root_wanted») (c .if1 .taken),
     )
 
