@@ -1,4 +1,6 @@
 // The accounting of every call: its rows, and what a placement counts of its pieces.
+#![tactic(auto)]
+
 pub mod discard_rows;
 pub mod place_rows;
 pub mod release_rows;

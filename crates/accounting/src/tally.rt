@@ -8,14 +8,14 @@ ghost use Rattle.accounting.specs.Tally.{tally_of, of_kind, sum, Small, Tallied}
 use reader::piece;
 use reader::piece::Piece;
 
-#[derive(Drop)]
+#[derive(Clone, Copy, Drop)]
 pub struct Tally {
     pub count: u64,
     pub file: u64,
     pub stored: u64,
 }
 
-#[derive(Drop)]
+#[derive(Clone, Copy, Drop)]
 pub struct Tallies {
     pub all: Tally,
     pub kind_2: Tally,

@@ -16,7 +16,7 @@ use reader::table::Ends;
 use sorting::entries;
 
 // How far the next volume is written, and the greatest count of a section so far.
-#[derive(Drop)]
+#[derive(Clone, Copy, Drop)]
 pub struct Reached {
     pub p: usize,
     pub count: usize,

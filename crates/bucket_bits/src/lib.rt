@@ -1,2 +1,4 @@
 // 65,536 bits, one for each bucket.
+#![tactic(auto)]
+
 pub mod marks;

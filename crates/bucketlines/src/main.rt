@@ -1,5 +1,7 @@
 // Reads a call list from standard input and prints the change list's lines, or `refused` and the number. A read or a write that fails is said on
 // standard error.
+#![tactic(auto)]
+
 ghost use Rattle.io.specs.Counts.{IsPrefixLen};
 
 use lines::program;

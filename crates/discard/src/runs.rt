@@ -14,7 +14,7 @@ use wire::kinds::Bucket;
 use wire::{kinds, positions};
 
 // A run that is not ended yet: its end, which is left out, and how many buckets it has.
-#[derive(Drop)]
+#[derive(Clone, Copy, Drop)]
 pub struct Run {
     pub end: Bucket,
     pub size: u32,

@@ -7,7 +7,7 @@ use wire::kinds;
 use wire::kinds::DeviceSector;
 
 // Words built together, of which the first n stand.
-#[derive(Drop)]
+#[derive(Clone, Copy, Drop)]
 pub struct Words {
     pub w: [u64; 8],
     pub n: usize,

@@ -1,5 +1,7 @@
 // `format` behind a C boundary, for what C compares with the Linux headers: numbers and byte slices come in, and a kind is made of a number here alone. No caller
 // owes anything: a remainder brings each argument into its range.
+#![tactic(auto)]
+
 ghost use Rattle.std.specs.Prelude.{◌≡◌, ◌+◌, ◌%◌, ◌^◌};
 ghost use Rattle.wire.specs.Output.{Wrote};
 ghost use Rattle.format.specs.Entries.{pointer, crc32, crc64};

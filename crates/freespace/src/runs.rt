@@ -13,7 +13,7 @@ use wire::kinds;
 use wire::kinds::Bucket;
 
 // The buckets that a run covers, the end left out.
-#[derive(Drop)]
+#[derive(Clone, Copy, Drop)]
 pub struct Run {
     pub start: Bucket,
     pub end: Bucket,

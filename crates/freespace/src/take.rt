@@ -14,7 +14,7 @@ use bucket_bits::marks;
 use wire::kinds;
 
 // What the walk makes, so far or in the end.
-#[derive(Drop)]
+#[derive(Clone, Copy, Drop)]
 pub struct Walked {
     // 12, 13, or 0.
     pub refusal: u32,

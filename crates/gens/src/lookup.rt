@@ -12,7 +12,7 @@ use wire::kinds::Bucket;
 use wire::{le, positions};
 
 // What tree 14 says of a bucket.
-#[derive(Drop)]
+#[derive(Clone, Copy, Drop)]
 pub enum Lookup {
     // Its generation.
     Found(u8),

@@ -1,4 +1,6 @@
 // The lines of a change list.
+#![tactic(auto)]
+
 pub mod blanks;
 pub mod change_lines;
 pub mod digits;

@@ -12,7 +12,7 @@ use wire::bpos::Bpos;
 use wire::{bpos, emit, fields};
 
 // A place in the output, an index into the table of the volume's keys, and how many keys were written so far, as `limits` counts.
-#[derive(Drop)]
+#[derive(Clone, Copy, Drop)]
 pub struct Cursor {
     pub p: usize,
     pub at: usize,
@@ -20,7 +20,7 @@ pub struct Cursor {
 }
 
 // Neighbouring fields of the volume: the index after their last, where that one ends, and the count up to it.
-#[derive(Drop)]
+#[derive(Clone, Copy, Drop)]
 pub struct Stretch {
     pub next: usize,
     pub end: usize,

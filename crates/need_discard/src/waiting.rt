@@ -15,7 +15,7 @@ use wire::kinds;
 use wire::kinds::Bucket;
 
 // Where the need-discard key of a bucket stands, if it has one.
-#[derive(Drop)]
+#[derive(Clone, Copy, Drop)]
 pub enum Waits {
     At(Bpos),
     Not,

@@ -4,14 +4,14 @@ ghost use Rattle.calls.specs.Pieces.{next_fit};
 ghost use Rattle.next_fit.specs.Fit.{slot_in, slot_of};
 
 // The open bucket, by its index among those taken, and how many of its sectors are used.
-#[derive(Drop)]
+#[derive(Clone, Copy, Drop)]
 pub struct Open {
     pub index: usize,
     pub used: u64,
 }
 
 // Where a piece goes: the index of its bucket, and its offset there.
-#[derive(Drop)]
+#[derive(Clone, Copy, Drop)]
 pub struct Slot {
     pub index: usize,
     pub offset: u64,

@@ -12,7 +12,7 @@ use place_keys::clock;
 use reader::head::Head;
 
 // The head, how far the walk over the runs is, the tallies of the pieces, and the write clock.
-#[derive(Drop)]
+#[derive(Clone, Copy, Drop)]
 pub struct Inputs {
     pub head: Head,
     pub walked: Walked,

@@ -1,4 +1,6 @@
 // Place: the call, and the change list that it writes.
+#![tactic(auto)]
+
 pub mod change;
 pub mod inputs;
 pub mod place;

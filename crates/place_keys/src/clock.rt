@@ -10,7 +10,7 @@ use format::alloc;
 use reader::key;
 
 // The largest clock so far, where a key had one.
-#[derive(Drop)]
+#[derive(Clone, Copy, Drop)]
 pub struct Latest {
     pub found: bool,
     pub time: u64,

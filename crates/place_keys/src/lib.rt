@@ -1,4 +1,6 @@
 // Where each piece of a placement lies, the keys written for the pieces and their buckets, and the clock.
+#![tactic(auto)]
+
 pub mod allocs;
 pub mod backpointers;
 pub mod clock;

@@ -13,7 +13,7 @@ use change_fields::lru as lru_keys;
 use wire::kinds::Bucket;
 
 // How far the output is after keys that are put, and whether the LRU root is wanted.
-#[derive(Drop)]
+#[derive(Clone, Copy, Drop)]
 pub struct KeysPut {
     pub at: usize,
     pub root_wanted: bool,

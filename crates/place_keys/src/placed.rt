@@ -11,7 +11,7 @@ use wire::kinds;
 use wire::kinds::{Bucket, DeviceSector, FileSector};
 
 // A piece, where it starts on the device, its bucket and generation, and where its extent ends in the file.
-#[derive(Drop)]
+#[derive(Clone, Copy, Drop)]
 pub struct Placed {
     pub piece: Piece,
     pub first: DeviceSector,

@@ -1,3 +1,5 @@
 // What a placement asks: refusals 4 to 13.
+#![tactic(auto)]
+
 pub mod refusals;
 pub mod requests;

@@ -14,7 +14,7 @@ use crate::table::Ends;
 use crate::{arrange, head, survey, table};
 
 // What a list is read as: refused with a number, or its head and where the places of each tag end in the table.
-#[derive(Drop)]
+#[derive(Clone, Copy, Drop)]
 pub enum Reading {
     Refused(u32),
     Read(Head, Ends),

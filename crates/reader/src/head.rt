@@ -10,7 +10,7 @@ use wire::fields::NextField;
 use wire::kinds::FileSector;
 use wire::{emit, fields, kinds, le};
 
-#[derive(Drop)]
+#[derive(Clone, Copy, Drop)]
 pub struct Head {
     pub call: u8,
     pub bucket_sectors: u16,

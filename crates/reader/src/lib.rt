@@ -1,4 +1,6 @@
 // The readers of call lists, volumes and change lists: refusals 2, 22 and 3, the head, and a table of where each field stands.
+#![tactic(auto)]
+
 pub mod arrange;
 pub mod call;
 pub mod change;

@@ -5,7 +5,7 @@ ghost use Rattle.reader.specs.Pieces.{piece_in};
 
 use wire::le;
 
-#[derive(Drop)]
+#[derive(Clone, Copy, Drop)]
 pub struct Piece {
     pub file: u16,
     pub stored: u16,

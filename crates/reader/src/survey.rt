@@ -9,7 +9,7 @@ use wire::fields;
 use wire::fields::NextField;
 
 // What the pass finds.
-#[derive(Drop)]
+#[derive(Clone, Copy, Drop)]
 pub enum Pass {
     // The list breaks the layout.
     Broken,
@@ -22,7 +22,7 @@ pub enum Pass {
 }
 
 // What the pass over a list in order finds.
-#[derive(Drop)]
+#[derive(Clone, Copy, Drop)]
 enum OrderedPass {
     // It is one: where the body of field 1 starts, whether a limit beside the head's is passed.
     InOrder { head: usize, over: bool },

@@ -1,3 +1,5 @@
 // Release: free_and_cut's tail, and the call.
+#![tactic(auto)]
+
 pub mod lists;
 pub mod release;

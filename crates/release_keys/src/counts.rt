@@ -12,7 +12,7 @@ use crate::freed_buckets::FreedBucket;
 use release_sums::requests;
 
 // Sectors freed of buckets that stay, and unused sectors of those that are emptied.
-#[derive(Drop)]
+#[derive(Clone, Copy, Drop)]
 pub struct Unused {
     pub kept: u64,
     pub lost: u64,

@@ -12,7 +12,7 @@ use format::alloc;
 use reader::key;
 use wire::kinds::Bucket;
 
-#[derive(Drop)]
+#[derive(Clone, Copy, Drop)]
 pub struct FreedBucket {
     pub bucket: Bucket,
     pub dirty: u32,

@@ -22,7 +22,7 @@ use wire::kinds::Bucket;
 use wire::{emit_key, positions};
 
 // The record that was queued last, and one more than its offset: 0 where none was.
-#[derive(Drop)]
+#[derive(Clone, Copy, Drop)]
 pub struct Queued {
     pub after: u64,
     pub key: Bkey,

@@ -1,4 +1,6 @@
 // The freed buckets of a release: the tests of each, its keys, what its rows count; and empty_bucket.
+#![tactic(auto)]
+
 pub mod alloc_keys;
 pub mod allocs;
 pub mod backpointers;

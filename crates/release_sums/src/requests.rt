@@ -9,7 +9,7 @@ ghost use Rattle.release_sums.specs.Freeds.{freed_held, freeds_in, Requested};
 use wire::kinds::DeviceSector;
 use wire::{kinds, le};
 
-#[derive(Drop)]
+#[derive(Clone, Copy, Drop)]
 pub struct Freed {
     pub first: DeviceSector,
     pub sectors: u16,

@@ -7,7 +7,7 @@ ghost use Rattle.sort.specs.Form.{Placed, fields_at, Stretched};
 use wire::{emit, fields};
 
 // Neighbouring fields of a list: the index after their last, and where that one ends.
-#[derive(Drop)]
+#[derive(Clone, Copy, Drop)]
 pub struct Stretch {
     pub next: usize,
     pub end: usize,

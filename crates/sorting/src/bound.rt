@@ -6,7 +6,7 @@ use wire::bpos;
 use wire::bpos::Bpos;
 
 // All positions, or those on one side of pos.
-#[derive(Drop)]
+#[derive(Clone, Copy, Drop)]
 pub struct Bound {
     pub any: bool,
     pub pos: Bpos,

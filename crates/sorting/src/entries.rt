@@ -8,7 +8,7 @@ use wire::fields::NextField;
 use wire::{fields, keys, kinds, positions};
 
 // What stands next of a section.
-#[derive(Drop)]
+#[derive(Clone, Copy, Drop)]
 pub enum NextEntry {
     // A key: its body starts at start and is len bytes long.
     Found { start: usize, len: usize },

@@ -5,7 +5,7 @@ ghost use Rattle.wire.specs.Order.{pos_less, pos_same};
 
 use crate::le;
 
-#[derive(Drop)]
+#[derive(Clone, Copy, Drop)]
 pub struct Bpos {
     pub inode: u64,
     pub offset: u64,

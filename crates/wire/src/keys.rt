@@ -7,13 +7,13 @@ ghost use Rattle.wire.specs.Held.{padded, held};
 use crate::bpos::Bpos;
 use crate::{bpos, le};
 
-#[derive(Drop)]
+#[derive(Clone, Copy, Drop)]
 pub struct Value {
     pub bytes: [u8; 256],
     pub len: usize,
 }
 
-#[derive(Drop)]
+#[derive(Clone, Copy, Drop)]
 pub struct Bkey {
     pub key_type: u8,
     pub size: u32,
@@ -24,7 +24,7 @@ pub struct Bkey {
 }
 
 // What stands before a key's value.
-#[derive(Drop)]
+#[derive(Clone, Copy, Drop)]
 pub struct KeyHead {
     pub key_type: u8,
     pub size: u32,

@@ -4,13 +4,13 @@ ghost use Rattle.wire.specs.Kinds.{sector_at, bucket_of, offset_in, extent_end, 
 
 use crate::le;
 
-#[derive(Drop)]
+#[derive(Clone, Copy, Drop)]
 pub struct Bucket(pub u64);
 
-#[derive(Drop)]
+#[derive(Clone, Copy, Drop)]
 pub struct DeviceSector(pub u64);
 
-#[derive(Drop)]
+#[derive(Clone, Copy, Drop)]
 pub struct FileSector(pub u64);
 
 // The sector at an offset into a bucket. The limits show the bucket's bound, two-byte fields the others.

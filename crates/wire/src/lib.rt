@@ -1,4 +1,6 @@
 // Bytes and numbers, fields, kinds, positions, keys and rows: how each is read and how each is emitted.
+#![tactic(auto)]
+
 pub mod bpos;
 pub mod emit;
 pub mod emit_key;

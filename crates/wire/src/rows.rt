@@ -9,7 +9,7 @@ ghost use Rattle.wire.specs.Rows.{signed_bytes, row_field, added, counters_in};
 use crate::emit;
 
 // The inode and the offset of a row's place, and its first `width` numbers.
-#[derive(Drop)]
+#[derive(Clone, Copy, Drop)]
 pub struct Row {
     pub inode: u64,
     pub offset: u64,

@@ -1,4 +1,6 @@
 // The C boundary: the six calls, each with its one outcome over any input.
+#![tactic(auto)]
+
 ghost use Rattle.std.specs.Prelude.{◌≡◌, length};
 ghost use Rattle.wire.specs.Kinds.{buckets_in};
 ghost use Rattle.calls.specs.Answers.{made, outcome, scratch_after, place, release, discard, apply, sort, generations, looked_up, generations_outcome};

@@ -4,14 +4,14 @@ use Rattle.wire.proofs.OrderLaws.{other-inode, other_offset, snapshot-same}
 use Rattle.wire.proofs.bpos.pos_same.Statement.{statement}
 use Rattle.wire.proofs.bpos.pos_same.Tie as tie
 
-returns : tie.Need-returns
-returns c = sym (other-inode _ _ c.if1.true)
+returns : tie.Need-returns-then-a-b
+returns c = sym (other-inode _ _ c.if-a-b.true)
 
-returns-2 : tie.Need-returns-2
-returns-2 c = sym (other_offset _ _ c.before.before.before.if1.false c.if2.true)
+returns-2 : tie.Need-returns-then-a-b-2
+returns-2 c = sym (other_offset _ _ c.before.before.before.if-a-b.false c.if-a-b-2.true)
 
-returns-3 : tie.Need-returns-3
-returns-3 c = sym (snapshot-same _ _ c.before.before.before.before.before.if1.false c.before.before.if2.false)
+returns-3 : tie.Need-returns
+returns-3 c = sym (snapshot-same _ _ c.before.before.before.before.before.if-a-b.false c.before.before.if-a-b-2.false)
 
-pub pos-same-spec : {M : Type 1} → statement M
-pos-same-spec = tie.close (tie.spec returns returns-2 returns-3)
+pub pos_same_spec : {M : Type 1} → statement M
+pos_same_spec = tie.close (tie.spec returns returns-2 returns-3)

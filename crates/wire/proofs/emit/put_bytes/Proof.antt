@@ -8,32 +8,32 @@ use Rattle.wire.proofs.emit.put_bytes.Tie as tie
 advance-requires : tie.Need-advance-requires
 advance-requires c κs = search rules
 
-returns : tie.Need-returns
+returns : tie.Need-returns-then-out-at
 returns c = skipped (omega arith) (omega arith) c.advance.ensures (stretch-length _ _ _ c.before.before.before.before.requires)
 
-sub-if2 : tie.Need-overflow-sub-if2
+sub-if2 : tie.Need-overflow_sub-out
 sub-if2 c = search rules
 
-store-bytes-requires : tie.Need-store-bytes-requires
+store-bytes-requires : tie.Need-store_bytes-requires
 store-bytes-requires c κs = search rules
 
-same_length : tie.Need-same-length
+same_length : tie.Need-shape_of-out-then-n-out
 same_length c = search rules
 
-returns-2 : tie.Need-returns-2
+returns-2 : tie.Need-returns-then-n-out
 returns-2 c = search rules
 
-store-bytes-part-requires : tie.Need-store-bytes-part-requires
+store-bytes-part-requires : tie.Need-store_bytes_part-requires
 store-bytes-part-requires c κs = search rules
 
-same-length-2 : tie.Need-same-length-2
+same-length-2 : tie.Need-shape_of-out
 same-length-2 c = search rules
 
-returns-3 : tie.Need-returns-3
+returns-3 : tie.Need-returns
 returns-3 c = search rules
 
-pub put-bytes-spec : {M : Type 1} → statement M
-put-bytes-spec =
+pub put_bytes_spec : {M : Type 1} → statement M
+put_bytes_spec =
     tie.close
     (tie.spec
     advance-requires

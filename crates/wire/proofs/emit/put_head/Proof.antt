@@ -5,18 +5,18 @@ use borrow.Author.Rules.{rules}
 use Rattle.wire.proofs.emit.put_head.Statement.{statement}
 use Rattle.wire.proofs.emit.put_head.Tie as tie
 
-put-le-requires : tie.Need-put-le-requires
+put-le-requires : tie.Need-put_le-p-requires
 put-le-requires c κs = search rules
 
-put-le-requires-2 : tie.Need-put-le-requires-2
+put-le-requires-2 : tie.Need-put_le-requires
 put-le-requires-2 c κs = search rules
 
-same_length : tie.Need-same-length
+same_length : tie.Need-shape_of-out
 same_length c = search rules
 
 returns : tie.Need-returns
 unfolding head_bytes
-returns c = then c.before.before.before.before.before.before.put-le.ensures c.before.before.put-le2.ensures
+returns c = then c.before.before.before.before.before.before.put_le-p.ensures c.before.before.put_le.ensures
 
-pub put-head-spec : {M : Type 1} → statement M
-put-head-spec = tie.close (tie.spec put-le-requires put-le-requires-2 same_length returns)
+pub put_head_spec : {M : Type 1} → statement M
+put_head_spec = tie.close (tie.spec put-le-requires put-le-requires-2 same_length returns)

@@ -9,32 +9,32 @@ use Rattle.wire.proofs.emit.put_le.Tie as tie
 advance-requires : tie.Need-advance-requires
 advance-requires c κs = search rules
 
-returns : tie.Need-returns
+returns : tie.Need-returns-then-out-at
 returns c = skipped (omega arith) (omega arith) c.advance.ensures (le-length _ _)
 
-sub-if2 : tie.Need-overflow-sub-if2
+sub-if2 : tie.Need-overflow_sub-out
 sub-if2 c = search rules
 
-store-le-requires : tie.Need-store-le-requires
+store-le-requires : tie.Need-store_le-requires
 store-le-requires c κs = search rules
 
-same_length : tie.Need-same-length
+same_length : tie.Need-shape_of-out-then-n-out
 same_length c = search rules
 
-returns-2 : tie.Need-returns-2
+returns-2 : tie.Need-returns-then-n-out
 returns-2 c = search rules
 
-store-le-part-requires : tie.Need-store-le-part-requires
+store-le-part-requires : tie.Need-store_le_part-requires
 store-le-part-requires c κs = search rules
 
-same-length-2 : tie.Need-same-length-2
+same-length-2 : tie.Need-shape_of-out
 same-length-2 c = search rules
 
-returns-3 : tie.Need-returns-3
+returns-3 : tie.Need-returns
 returns-3 c = search rules
 
-pub put-le-spec : {M : Type 1} → statement M
-put-le-spec =
+pub put_le_spec : {M : Type 1} → statement M
+put_le_spec =
     tie.close
     (tie.spec
     advance-requires

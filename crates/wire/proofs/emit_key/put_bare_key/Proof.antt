@@ -5,18 +5,18 @@ use borrow.Author.Rules.{rules}
 use Rattle.wire.proofs.emit_key.put_bare_key.Statement.{statement}
 use Rattle.wire.proofs.emit_key.put_bare_key.Tie as tie
 
-put-head-requires : tie.Need-put-head-requires
+put-head-requires : tie.Need-put_head-p-requires
 put-head-requires c κs = search rules
 
-put-key-start-requires : tie.Need-put-key-start-requires
+put-key-start-requires : tie.Need-put_key_start-requires
 put-key-start-requires c κs = search rules
 
-same_length : tie.Need-same-length
+same_length : tie.Need-shape_of-out
 same_length c = search rules
 
 returns : tie.Need-returns
-returns c = let a = c.before.before.before.before.before.before.before.before.before.args in rw (bare-is a.tree a.h) at (field _ c.before.before.before.before.before.before.put-head.ensures c.before.before.put-key-start.ensures)
+returns c = let a = c.before.before.before.before.before.before.before.before.before.args in rw (bare-is a.tree a.h) at (field _ c.before.before.before.before.before.before.put_head-p.ensures c.before.before.put_key_start.ensures)
 
-pub put-bare-key-spec : {M : Type 1} → statement M
-put-bare-key-spec =
+pub put_bare_key_spec : {M : Type 1} → statement M
+put_bare_key_spec =
     tie.close (tie.spec put-head-requires put-key-start-requires same_length returns)

@@ -6,19 +6,19 @@ use borrow.Author.Rules.{rules}
 use Rattle.wire.proofs.emit_key.put_key.Statement.{statement}
 use Rattle.wire.proofs.emit_key.put_key.Tie as tie
 
-add-put-head : tie.Need-overflow-add-put-head
+add-put-head : tie.Need-overflow_add-v
 add-put-head c = search rules
 
-put-head-requires : tie.Need-put-head-requires
+put-head-requires : tie.Need-put_head-p-requires
 put-head-requires c κs = search rules
 
-put-key-start-requires : tie.Need-put-key-start-requires
+put-key-start-requires : tie.Need-put_key_start-p-requires
 put-key-start-requires c κs = search rules
 
-put-value-requires : tie.Need-put-value-requires
+put-value-requires : tie.Need-put_value-requires
 put-value-requires c κs = search rules
 
-same_length : tie.Need-same-length
+same_length : tie.Need-shape_of-out
 same_length c = search rules
 
 returns : tie.Need-returns
@@ -26,10 +26,10 @@ unfolding key_start key_body
 returns c =
     let c2 = c.before.before.before.before.before.before in
     let c1 = c2.before.before.before.before in
-    resize (omega arith) (field _ c1.put-head.ensures (then c2.put-key-start.ensures c.before.before.put-value.ensures))
+    resize (omega arith) (field _ c1.put_head-p.ensures (then c2.put_key_start-p.ensures c.before.before.put_value.ensures))
 
-pub put-key-spec : {M : Type 1} → statement M
-put-key-spec =
+pub put_key_spec : {M : Type 1} → statement M
+put_key_spec =
     tie.close
     (tie.spec
     add-put-head

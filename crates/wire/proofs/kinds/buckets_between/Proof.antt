@@ -5,14 +5,14 @@ use borrow.Author.Rules.{rules}
 use Rattle.wire.proofs.kinds.buckets_between.Statement.{statement}
 use Rattle.wire.proofs.kinds.buckets_between.Tie as tie
 
-sub-result : tie.Need-overflow-sub-result
+sub-result : tie.Need-overflow_sub-result
 sub-result c = search rules
 
-cast-result : tie.Need-overflow-cast-result
+cast-result : tie.Need-overflow_cast-result
 cast-result c = search rules
 
 returns : tie.Need-returns
 returns c = sym (from-length _ _)
 
-pub buckets-between-spec : {M : Type 1} → statement M
-buckets-between-spec = tie.close (tie.spec sub-result cast-result returns)
+pub buckets_between_spec : {M : Type 1} → statement M
+buckets_between_spec = tie.close (tie.spec sub-result cast-result returns)

@@ -6,11 +6,11 @@ use Rattle.wire.proofs.kinds.read_bucket.Tie as tie
 le32-requires : tie.Need-le32-requires
 le32-requires c κs = search rules
 
-cast-t4 : tie.Need-overflow-cast-t4
+cast-t4 : tie.Need-overflow_cast-result
 cast-t4 c = search rules
 
 returns : tie.Need-returns
 returns c = rw c.le32.ensures
 
-pub read-bucket-spec : {M : Type 1} → statement M
-read-bucket-spec = tie.close (tie.spec le32-requires cast-t4 returns)
+pub read_bucket_spec : {M : Type 1} → statement M
+read_bucket_spec = tie.close (tie.spec le32-requires cast-t4 returns)

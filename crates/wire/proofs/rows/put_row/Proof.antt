@@ -11,61 +11,61 @@ use Rattle.wire.proofs.SignedLaws.{back, signed-length}
 use Rattle.wire.proofs.rows.put_row.Statement.{statement}
 use Rattle.wire.proofs.rows.put_row.Tie as tie
 
-abbrev invariant-loop : tie.invariant-loop
+abbrev invariant-loop : tie.invariant-loop-i
 invariant-loop out₀ at width n p₀ i₀ out p i = Part out₀ p₀ (each signed_bytes (take width n)) out p (each signed_bytes (drop i (take width n)))
 
-abbrev decreases-loop : tie.decreases-loop
+abbrev decreases-loop : tie.decreases-loop-i
 decreases-loop out₀ at width n p₀ i₀ out p i = width - i
 
-abbrev inode : tie.At-loop invariant-loop decreases-loop → tie.After-put-le invariant-loop decreases-loop
+abbrev inode : tie.At-loop-i invariant-loop decreases-loop → tie.After-put_le-p invariant-loop decreases-loop
 inode l = l.before.before.before.before.before.before.before
 
-mul-put-head : tie.Need-overflow-mul-put-head invariant-loop decreases-loop
+mul-put-head : tie.Need-overflow_mul-width invariant-loop decreases-loop
 mul-put-head c = omega arith
 
-add-put-head : tie.Need-overflow-add-put-head invariant-loop decreases-loop
+add-put-head : tie.Need-overflow_add-width invariant-loop decreases-loop
 add-put-head c = omega arith
 
-put-head-requires : tie.Need-put-head-requires invariant-loop decreases-loop
+put-head-requires : tie.Need-put_head-p-requires invariant-loop decreases-loop
 put-head-requires c κs = tt
 
-put-le-requires : tie.Need-put-le-requires invariant-loop decreases-loop
+put-le-requires : tie.Need-put_le-p-requires invariant-loop decreases-loop
 put-le-requires c κs = tt
 
-put-le-requires-2 : tie.Need-put-le-requires-2 invariant-loop decreases-loop
+put-le-requires-2 : tie.Need-put_le-p-requires-2 invariant-loop decreases-loop
 put-le-requires-2 c κs = tt
 
 -- a `[i64; 3]` in a struct has 3 elements: what owning the parameter tells
 long : (c : tie.Start invariant-loop decreases-loop) → length c.args.r.n ≡ 3
-long c = sym (length-map c.args.r.n _) ∙ c.well-formed.1.1.0.1.1.1.1.1.0.1.0.1
+long c = c.well_formed.1.1.0.1.1.1.1.1.0.1.0.1
 
-loop-holds : tie.Need-loop-init invariant-loop decreases-loop
-loop-holds c = begin _ _ _ (omega (arith, c.before.before.put-le2.ensures.room, wrote-length c.before.before.put-le2.ensures))
+loop-holds : tie.Need-loop-i-init invariant-loop decreases-loop
+loop-holds c = begin _ _ _ (omega (arith, c.before.before.put_le-p-2.ensures.room, wrote-length c.before.before.put_le-p-2.ensures))
 
-mul-put-i64 : tie.Need-overflow-mul-put-i64 invariant-loop decreases-loop
+mul-put-i64 : tie.Need-offset_bounds-n-i invariant-loop decreases-loop
 mul-put-i64 c = omega arith
 
-array-copy-out-put-i64 : tie.Need-array-copy-out-put-i64 invariant-loop decreases-loop
+array-copy-out-put-i64 : tie.Need-bounds-n-i invariant-loop decreases-loop
 array-copy-out-put-i64 c = omega arith
 
-put-i64-requires : tie.Need-put-i64-requires invariant-loop decreases-loop
+put-i64-requires : tie.Need-put_i64-p-requires invariant-loop decreases-loop
 put-i64-requires c κs = tt
 
-add-i : tie.Need-overflow-add-i invariant-loop decreases-loop
+add-i : tie.Need-overflow_add-i invariant-loop decreases-loop
 add-i c = omega arith
 
-loop-less : tie.Need-loop-smaller invariant-loop decreases-loop
+loop-less : tie.Need-loop-i-smaller invariant-loop decreases-loop
 loop-less c = omega arith
 
-loop-again : tie.Need-loop-preserved invariant-loop decreases-loop
+loop-again : tie.Need-loop-i-preserved invariant-loop decreases-loop
 loop-again c =
     let l = c.before.before.before.before.before.before in
     let a = (inode l).before.before.before.before.before.before.before.before in
     let r = a.args.r in
-    let i = l.loop.i in
+    let i = l.loop-i.i in
     let h = long a in
-    let w = rw (back (get_or r.n i (pos 0)) c.before.before.before.put-i64-arg2.given) at c.before.before.put-i64.ensures in
-    turn _ l.loop.invariant (each_next signed_bytes (left-next (pos 0) r.n r.width i (omega arith) (omega arith))) w
+    let w = rw (back (get_or r.n i (pos 0)) c.before.before.before.put_i64-arg-in-loop-i-1.given) at c.before.before.put_i64-p.ensures in
+    turn _ l.loop-i.invariant (each_next signed_bytes (left-next (pos 0) r.n r.width i (omega arith) (omega arith))) w
 
 returns : tie.Need-returns invariant-loop decreases-loop
 unfolding row_body
@@ -78,14 +78,14 @@ returns c =
     let r = a.args.r in
     let h = long a in
     let k = first-length 8 signed_bytes signed-length r.n r.width (omega arith) in
-    let w = end _ k l.loop.invariant (each_none signed_bytes (left-none r.n r.width l.loop.i (omega arith))) in
-    resize (omega arith) (field _ c1.put-head.ensures (then (then c2.put-le.ensures c3.put-le2.ensures) w))
+    let w = end _ k l.loop-i.invariant (each_none signed_bytes (left-none r.n r.width l.loop-i.i (omega arith))) in
+    resize (omega arith) (field _ c1.put_head-p.ensures (then (then c2.put_le-p.ensures c3.put_le-p-2.ensures) w))
 
-same_length : tie.Need-same-length invariant-loop decreases-loop
+same_length : tie.Need-shape_of-out invariant-loop decreases-loop
 same_length c = wrote-length (returns c)
 
-pub put-row-spec : {M : Type 1} → statement M
-put-row-spec =
+pub put_row_spec : {M : Type 1} → statement M
+put_row_spec =
     tie.close
     (tie.spec
     invariant-loop

@@ -1,0 +1,100 @@
+#!/usr/bin/env python3
+"""Turns each proofs/F/Proof.antt of a crate to the names that today's check gives to the steps and goals of F.
+
+usage: python3 tools/convert_walks.py CRATE NAMES   CRATE a crate's folder, NAMES the names.json of `rt check --generated DIR --old-names`
+"""
+import json
+import os
+import re
+import sys
+
+
+def norm(s):
+    return s.replace("-", "_").replace("'", "_")
+
+
+def bare(s):
+    # a label of before, whatever kind of overflow the spelling script put before it
+    return re.sub(r"^overflow_", "", norm(s))
+
+
+def convert(text, v, path, said):
+    needs = {}
+    for old, new in v["needs"]:
+        needs.setdefault(bare(old), new)
+    places, fields = {}, {}
+    for p in v["places"]:
+        pass
+    for old, new in zip(v["places"], v["places_by_name"]):
+        places[norm(old[0])] = new
+        a, b = old[2]
+        if a:
+            fields[norm(a)] = b
+        for a, b in old[4]:
+            fields[norm(a)] = b
+    loops = {}
+    for (old, new), _vars in v["loops"]:
+        loops[norm(old)] = new
+        fields[norm(old)] = new
+    arms = [x for a in v["arms"] if a for x in (a if isinstance(a, list) else [])]
+
+    def tie(m):
+        name = m[1]
+        if name in ("close", "spec"):
+            return m[0]
+        for head in ("Need-", "invariant-", "decreases-", "ghost-"):
+            if name.startswith(head):
+                rest = name[len(head) :]
+                table = needs if head == "Need-" else loops
+                key = bare(rest) if head == "Need-" else norm(rest)
+                if key in table:
+                    return "tie." + head + table[key]
+                said.append(f"{path}: no {name}")
+                return m[0]
+        if norm(name) in places:
+            return "tie." + places[norm(name)]
+        said.append(f"{path}: no place {name}")
+        return m[0]
+
+    text = re.sub(r"\btie\.([A-Za-z][A-Za-z0-9_'-]*)", tie, text)
+
+    def field(m):
+        key = norm(m[1])
+        return "." + fields[key] if key in fields else m[0]
+
+    out = []
+    for line in text.split("\n"):
+        if line.startswith("use ") or line.lstrip().startswith("--"):
+            out.append(line)
+        else:
+            out.append(re.sub(r"(?<=[\w)'₀])\.([a-z][A-Za-z0-9_'-]*)", lambda m: field(m), line))
+    text = "\n".join(out)
+    text = re.sub(r"(?m)\b([a-z][\w-]*)-spec\b", lambda m: norm(m[1]) + "_spec", text)
+    return text
+
+
+def main(crate, names):
+    d = json.load(open(names))
+    said = []
+    for k, v in d.items():
+        m = re.match(r"Rattle-(\w+)-proofs\.(.*)\.Lts$", k)
+        if not m:
+            continue
+        p = os.path.join(crate, "proofs", *m[2].split("."), "Proof.antt")
+        if not os.path.exists(p):
+            continue
+        old = open(p).read()
+        new = convert(old, v, p, said)
+        # the list of answers
+        at = re.search(r"\(\s*tie\.spec\s([^()]*)\)", new)
+        if at:
+            args = at[1].split()
+            n = len(v["needs"]) + 2 * len(v["loops"])
+            if len(args) != n:
+                said.append(f"{p}: {len(args)} answers where {n} are asked: {args} -- {v['needs']} settled {v['settled']}")
+        if new != old:
+            open(p, "w").write(new)
+    print("\n".join(said))
+
+
+main(*sys.argv[1:])
