@@ -15,7 +15,7 @@ def norm(s):
 
 def bare(s):
     # a label of before, whatever kind of overflow the spelling script put before it
-    return re.sub(r"^overflow_", "", norm(s))
+    return re.sub(r"^(overflow|nonzero)_", "", norm(s))
 
 
 def convert(text, v, path, said):
@@ -32,6 +32,7 @@ def convert(text, v, path, said):
             fields[norm(a)] = b
         for a, b in old[4]:
             fields[norm(a)] = b
+    fields.update(well_formed="well_formed", type_inv="type_inv", branch="branch-raw")
     loops = {}
     for (old, new), _vars in v["loops"]:
         loops[norm(old)] = new
@@ -69,6 +70,9 @@ def convert(text, v, path, said):
         else:
             out.append(re.sub(r"(?<=[\w)'₀])\.([a-z][A-Za-z0-9_'-]*)", lambda m: field(m), line))
     text = "\n".join(out)
+    # an array in a struct is itself the list
+    text = re.sub(r"\.(bytes|n)-1\b", r".\1", text)
+    text = re.sub(r"sym \(length-map (\S+) (?:\(λ x\. x\)|_)\) ∙ (c\.well_formed)", r"\2", text)
     text = re.sub(r"(?m)\b([a-z][\w-]*)-spec\b", lambda m: norm(m[1]) + "_spec", text)
     return text
 

@@ -4,7 +4,7 @@ use Rattle.format.proofs.ValueLaws.{get_at}
 use Rattle.format.proofs.alloc.generation.Statement.{statement}
 use Rattle.format.proofs.alloc.generation.Tie as tie
 
-add-le8 : tie.Need-overflow-add-le8
+add-le8 : tie.Need-overflow_add-at
 add-le8 c = search rules
 
 le8-requires : tie.Need-le8-requires
@@ -13,5 +13,5 @@ le8-requires c κs = search rules
 returns : tie.Need-returns
 returns c = let a = c.before.before.args in c.le8.ensures ∙ sym (get_at gen a.s.now a.at)
 
-pub generation-spec : {M : Type 1} → statement M
-generation-spec = tie.close (tie.spec add-le8 le8-requires returns)
+pub generation_spec : {M : Type 1} → statement M
+generation_spec = tie.close (tie.spec add-le8 le8-requires returns)

@@ -3,13 +3,13 @@ use Rattle.format.proofs.BackpointerLaws.{backpointer-words}
 use Rattle.format.proofs.backpointer.backpointer.Statement.{statement}
 use Rattle.format.proofs.backpointer.backpointer.Tie as tie
 
-add-t7 : tie.Need-overflow-add-t7
+add-t7 : tie.Need-overflow_add-result
 add-t7 c = search rules
 
-cast-t9 : tie.Need-overflow-cast-t9
+cast-t9 : tie.Need-overflow_cast-result-3
 cast-t9 c = search rules
 
-add-t11 : tie.Need-overflow-add-t11
+add-t11 : tie.Need-overflow_add-result-2
 add-t11 c = search rules
 
 returns : tie.Need-returns
@@ -19,5 +19,5 @@ returns c =
     let f : a.stored + (a.extent.snapshot * 2 ^ 32) % 2 ^ 64 ≡ a.stored + a.extent.snapshot * 2 ^ 32 = omega arith in
     rw (e, f) (backpointer-words a.generation a.stored a.extent (omega arith) (omega arith))
 
-pub backpointer-spec : {M : Type 1} → statement M
-backpointer-spec = tie.close (tie.spec add-t7 cast-t9 add-t11 returns)
+pub backpointer_spec : {M : Type 1} → statement M
+backpointer_spec = tie.close (tie.spec add-t7 cast-t9 add-t11 returns)

@@ -3,25 +3,25 @@ use Rattle.format.proofs.EntryLaws.{crc32-is}
 use Rattle.format.proofs.entries.crc32.Statement.{statement}
 use Rattle.format.proofs.entries.crc32.Tie as tie
 
-sub-result : tie.Need-overflow-sub-result
+sub-result : tie.Need-overflow_sub-result
 sub-result c = search rules
 
-add-result : tie.Need-overflow-add-result
+add-result : tie.Need-overflow_add-result
 add-result c = search rules
 
-sub-result-2 : tie.Need-overflow-sub-result-2
+sub-result-2 : tie.Need-overflow_sub-result-2
 sub-result-2 c = search rules
 
-add-result-2 : tie.Need-overflow-add-result-2
+add-result-2 : tie.Need-overflow_add-result-2
 add-result-2 c = search rules
 
-add-result-3 : tie.Need-overflow-add-result-3
+add-result-3 : tie.Need-overflow_add-result-3
 add-result-3 c = search rules
 
-add-result-4 : tie.Need-overflow-add-result-4
+add-result-4 : tie.Need-overflow_add-result-4
 add-result-4 c = search rules
 
-add-result-5 : tie.Need-overflow-add-result-5
+add-result-5 : tie.Need-overflow_add-result-5
 add-result-5 c = search rules
 
 returns : tie.Need-returns
@@ -29,8 +29,8 @@ returns c =
     let a = c.args in
     omega (arith, crc32-is a.stored a.file a.ctype a.kind a.checksum (omega arith) (omega arith) (omega arith) (omega arith))
 
-pub crc32-spec : {M : Type 1} → statement M
-crc32-spec =
+pub crc32_spec : {M : Type 1} → statement M
+crc32_spec =
     tie.close
     (tie.spec
     sub-result

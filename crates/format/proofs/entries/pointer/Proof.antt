@@ -4,18 +4,18 @@ use Rattle.format.specs.Entries.{pointer}
 use Rattle.format.proofs.entries.pointer.Statement.{statement}
 use Rattle.format.proofs.entries.pointer.Tie as tie
 
-sector-word-requires : tie.Need-sector-word-requires
+sector-word-requires : tie.Need-sector_word-requires
 sector-word-requires c κs = search rules
 
-add-result : tie.Need-overflow-add-result
+add-result : tie.Need-overflow_add-result
 add-result c = search rules
 
-add-result-2 : tie.Need-overflow-add-result-2
+add-result-2 : tie.Need-overflow_add-result-2
 add-result-2 c = search rules
 
 returns : tie.Need-returns
 unfolding pointer pack
 returns c = omega arith
 
-pub pointer-spec : {M : Type 1} → statement M
-pointer-spec = tie.close (tie.spec sector-word-requires add-result add-result-2 returns)
+pub pointer_spec : {M : Type 1} → statement M
+pointer_spec = tie.close (tie.spec sector-word-requires add-result add-result-2 returns)

@@ -7,5 +7,5 @@ returns : tie.Need-returns
 unfolding no_gens
 returns c = (refl, refl)
 
-pub no-gens-spec : {M : Type 1} → statement M
-no-gens-spec = tie.close (tie.spec returns)
+pub no_gens_spec : {M : Type 1} → statement M
+no_gens_spec = tie.close (tie.spec returns)

@@ -3,7 +3,7 @@ use Rattle.format.specs.Lru.{fragmentation}
 use Rattle.format.proofs.lru.fragmentation.Statement.{statement}
 use Rattle.format.proofs.lru.fragmentation.Tie as tie
 
-div-result : tie.Need-nonzero-div-result
+div-result : tie.Need-nonzero_div-result
 div-result c = search rules
 
 returns : tie.Need-returns
@@ -13,5 +13,5 @@ returns c =
     let e : (a.dirty * 2 ^ 31) % 2 ^ 64 ≡ a.dirty * 2 ^ 31 = omega arith in
     rw e
 
-pub fragmentation-spec : {M : Type 1} → statement M
-fragmentation-spec = tie.close (tie.spec div-result returns)
+pub fragmentation_spec : {M : Type 1} → statement M
+fragmentation_spec = tie.close (tie.spec div-result returns)
