@@ -56,7 +56,8 @@ def main():
     for p in code:
         if p.endswith(".antt"):
             declared |= set(DECLARED.findall(read(p)))
-    taken = sorted(declared & {snake(w) for w in declared if CAMEL.fullmatch(w)})
+    # a field may have a definition's name
+    taken = sorted((declared & {snake(w) for w in declared if CAMEL.fullmatch(w)}) - {"laid_out"})
     print("lemmas with the name of a definition:", ", ".join(taken))
     behind = re.compile(r"(?<![\w.'-])(" + "|".join(taken) + r")(?![\w'.-])") if taken else None
 
@@ -68,7 +69,9 @@ def main():
         if p.endswith(".antt") and behind:
             # not in comments, and not where a line of imports names a module of a function
             # a place in a placement's table of alloc keys is a variable of that name, and no lemma
-            ending = lambda m: "allocs_at" if m[1] == "alloc_at" and "/place" in p else m[1] + "_lem"
+            # a name that the file takes from a library stays
+            lent = {n for l in re.findall(r"(?m)^use (?!Rattle)\S+\.\{([^}]*)\}", text) for n in l.split(", ")}
+            ending = lambda m: m[1] if m[1] in lent else "allocs_at" if m[1] == "alloc_at" and "/place" in p else m[1] + "_lem"
             text = "\n".join(l if l.lstrip().startswith("--") else behind.sub(ending, l) for l in text.split("\n"))
         text = outside_strings(text, names) if p.endswith(".rt") else names(text)
         if text != old:

@@ -24,7 +24,7 @@ use Rattle.calls.specs.Answers.{Answer, read_call, read_volume, place, release, 
 -- nonempty disjoint runs from bucket 0 or later, any reserved list, no other keys
 pub record Clean (s : List ℕ) : Type 0 where
   pub bytes : Bytes s
-  pub laid_out_lem : volume_laid_out s ≡ true
+  pub laid_out : volume_laid_out s ≡ true
   pub alloc : (read_volume s).trees.alloc ≡ []
   pub lru : (read_volume s).trees.lru ≡ []
   pub need_discard : (read_volume s).trees.need_discard ≡ []

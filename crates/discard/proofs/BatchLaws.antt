@@ -7,7 +7,7 @@ use lib.Dec.{leb}
 use borrow.Author.Tests.{leb-true, leb-false}
 use native.Mathlib.Omega.{arith}
 use lib.ListN.{length, take, drop, length-drop, drop_of_length-le}
-use lib.Seq.{take_all_lem, drop-drop}
+use lib.Seq.{take_all, drop-drop}
 use Rattle.wire.specs.Bytes.{All}
 use Rattle.wire.specs.Encode.{encode}
 use Rattle.wire.specs.Output.{top, Wrote, Emitted}
@@ -62,7 +62,7 @@ module _ {A : Type 0} (xs : List A) (a size : ℕ) where
       go false e =
           let l = leb-false size (length xs - a) e in
           let d = length-drop a xs in
-          take_all_lem (batch_end a (length xs) size - a) (drop a xs) (omega arith) ∙ sym (take_all_lem size (drop a xs) (omega arith))
+          take_all (batch_end a (length xs) size - a) (drop a xs) (omega arith) ∙ sym (take_all size (drop a xs) (omega arith))
 
   cut-drop : drop (batch_end a (length xs) size) xs ≡ drop size (drop a xs)
   cut-drop = rw (drop-drop size a xs) (go (leb size (length xs - a)) refl)

@@ -6,7 +6,7 @@ use Prim.Native.Nat.{ℕ, zero, suc, ◌+◌, ◌≤◌, ◌<◌}
 use native.Mathlib.Numerals.{add-one}
 use native.Mathlib.Omega.{arith}
 use lib.ListN.{length, take, drop, get_or, set, length-map, length-set, take-append-drop}
-use lib.Seq.{take_all_lem, take_at, take-suc-set, drop-set-lt, drop-drop, append_snoc}
+use lib.Seq.{take_all, take_at, take-suc-set, drop-set-lt, drop-drop, append_snoc}
 use Rattle.wire.specs.Keys.{Key}
 use Rattle.wire.specs.Kinds.{bucket_below, bucket_is, buckets_in, no_bucket}
 use Rattle.wire.specs.Positions.{gens_at}
@@ -122,7 +122,7 @@ module _ (ks : List Key) (ns : List ℕ) where
       last-is : 0 < i → k ≡ keys_up_to (gens_at (last_or no_bucket (buckets_in ns))) ks
       last-is h =
           l.all h
-          ∙ ap (λ (bs : List Bucket). keys_up_to (gens_at (last_or no_bucket bs)) ks) (take_all_lem i (buckets_in ns) (omega (arith, table-length ns)))
+          ∙ ap (λ (bs : List Bucket). keys_up_to (gens_at (last_or no_bucket bs)) ks) (take_all i (buckets_in ns) (omega (arith, table-length ns)))
 
       pub looked-none : i ≡ 0 → Looked ks (buckets_in ns) before after 0
       looked-none z = looked (sym (visited-none ks (buckets_in ns) (omega (arith, table-length ns))))

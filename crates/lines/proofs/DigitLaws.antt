@@ -7,7 +7,7 @@ use native.Mathlib.Nat.{pow-zero, pow-suc, div-one, div-div-eq-div-mul}
 use native.Mathlib.Omega.{arith}
 use lib.Dec.{ltb}
 use lib.ListN.{length, take, drop, set, length-set, length-drop, drop_of_length-le}
-use lib.Seq.{take_all_lem}
+use lib.Seq.{take_all}
 use Rattle.calls.proofs.lists.MapLaws.{drop-set}
 use borrow.Author.Tests.{lt-ltb, le-ltb}
 use Rattle.wire.proofs.OutputLaws.{lt-or-ge}
@@ -61,7 +61,7 @@ pub filled : {base n : ℕ} {text : List ℕ} {from rest : ℕ} → DigitsFilled
     → take count (drop from text) ≡ last_digits base count n
 filled {base} {n} {text} {from} f count h =
     let e : 20 - from ≡ count = omega arith in
-    take_all_lem count (drop from text) (omega (arith, length-drop from text, f.size)) ∙ f.digits ∙ ap (λ (m : ℕ). last_digits base m n) e
+    take_all count (drop from text) (omega (arith, length-drop from text, f.size)) ∙ f.digits ∙ ap (λ (m : ℕ). last_digits base m n) e
 
 -- how many digits a number has
 

@@ -5,7 +5,7 @@ use Prim.Native.Nat.{ℕ, ◌+◌, ◌≤◌, ◌<◌}
 use native.Mathlib.Omega.{arith}
 use native.Mathlib.Numerals.{add-one}
 use lib.ListN.{length, get_or, take, set, length-set}
-use lib.Seq.{take-suc, take-suc-set, take_all_lem}
+use lib.Seq.{take-suc, take-suc-set, take_all}
 use Rattle.calls.specs.CallList as calls
 use Rattle.reader.specs.Located.{no_piece}
 use Rattle.reader.specs.Pieces.{piece_in}
@@ -32,4 +32,4 @@ filled_next {all} {ps} {i} {p} f h k e =
 pub filled-end : {all : List calls.Piece} {ps : List Piece} {i n : ℕ} → PiecesFilled all ps i → n ≡ length all → n ≤ i → map piece_in (take n ps) ≡ all
 filled-end {all} {ps} {i} {n} f e h =
     let w : i ≡ n = omega (arith, f.upto, e, h) in
-    (rw w at f.same) ∙ take_all_lem n all (omega (arith, e))
+    (rw w at f.same) ∙ take_all n all (omega (arith, e))

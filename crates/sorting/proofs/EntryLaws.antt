@@ -8,7 +8,7 @@ use native.Mathlib.Nat.{add-zero}
 use native.Mathlib.Omega.{arith}
 use lib.Dec.{leb, eqb}
 use lib.ListN.{length, take, drop, get_or, length-drop}
-use lib.Seq.{take-add, take_all_lem, drop-drop}
+use lib.Seq.{take-add, take_all, drop-drop}
 use borrow.Author.Tests.{eqb-true, leb-true, eq-eqb, ne_eqb}
 use Rattle.wire.specs.Bytes.{Bytes}
 use Rattle.wire.specs.Numbers.{le, le_bytes}
@@ -93,7 +93,7 @@ module _ (t tag n : ℕ) (e : is_entry t tag n ≡ true) where
       go true q =
           let z : t ≡ 64 = eqb-true t 64 q in
           let m : n ≡ 4 = entry-bucket z in
-          let x : le_bytes 4 (le 4 b) ≡ b = le_bytes-le 4 r (omega arith) ∙ take_all_lem 4 b (omega arith) in
+          let x : le_bytes 4 (le 4 b) ≡ b = le_bytes-le 4 r (omega arith) ∙ take_all 4 b (omega arith) in
           rw q (λ i. record { tag = sym z i; body = x i })
       go false q =
           let k = entry_key (λ z. let w : ◌≡◌ {A = ℕ} 0 1 = let y = eq-eqb t 64 z in cc in omega arith) in

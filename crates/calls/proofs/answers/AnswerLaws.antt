@@ -91,7 +91,7 @@ generations-is s buckets room = refl
 
 -- an accepted placement
 pub record Placement (s : List ℕ) (a : Answer) : Type 0 where
-  pub laid_out_lem : call_laid_out 1 s ≡ true
+  pub laid_out : call_laid_out 1 s ≡ true
   pub once : none_twice (read_volume s) ≡ true
   pub within : list_within (read_call s) ≡ true
   pub tests-held : verdict (place_tests (read_call s)) ≡ 0
@@ -105,7 +105,7 @@ placement s room h =
     let once = verdict-ok _ _ two.1 in
     let three = verdict-ok _ _ once.1 in
     record {
-      laid_out_lem = test-ok 2 _ (omega arith) two.0;
+      laid_out = test-ok 2 _ (omega arith) two.0;
       once = test-ok 22 _ (omega arith) once.0;
       within = test-ok 3 _ (omega arith) three.0;
       tests-held = three.1;
@@ -114,7 +114,7 @@ placement s room h =
 
 -- an accepted release
 pub record Released (s : List ℕ) (a : Answer) : Type 0 where
-  pub laid_out_lem : call_laid_out 2 s ≡ true
+  pub laid_out : call_laid_out 2 s ≡ true
   pub once : none_twice (read_volume s) ≡ true
   pub within : list_within (read_call s) ≡ true
   pub tests-held : verdict (release_tests (read_volume s) (read_call s).releases) ≡ 0
@@ -129,7 +129,7 @@ released s scratch room h =
     let once = verdict-ok _ _ two.1 in
     let three = verdict-ok _ _ once.1 in
     record {
-      laid_out_lem = test-ok 2 _ (omega arith) two.0;
+      laid_out = test-ok 2 _ (omega arith) two.0;
       once = test-ok 22 _ (omega arith) once.0;
       within = test-ok 3 _ (omega arith) three.0;
       tests-held = three.1;
@@ -138,7 +138,7 @@ released s scratch room h =
 
 -- an accepted discard
 pub record Discarded (s : List ℕ) (a : Answer) : Type 0 where
-  pub laid_out_lem : call_laid_out 3 s ≡ true
+  pub laid_out : call_laid_out 3 s ≡ true
   pub once : none_twice (read_volume s) ≡ true
   pub within : list_within (read_call s) ≡ true
   pub written : a.written ≡ change_bytes (discard_batches (read_volume s))
@@ -151,7 +151,7 @@ discarded s room h =
     let once = verdict-ok _ _ two.1 in
     let three = verdict-ok _ _ once.1 in
     record {
-      laid_out_lem = test-ok 2 _ (omega arith) two.0;
+      laid_out = test-ok 2 _ (omega arith) two.0;
       once = test-ok 22 _ (omega arith) once.0;
       within = test-ok 3 _ (omega arith) three.0;
       written = ap (λ (x : Answer). x.written) e ∙ a.written;
@@ -165,7 +165,7 @@ applied s change room h =
 
 -- an accepted sort
 pub record Arranged (s : List ℕ) (a : Answer) : Type 0 where
-  pub laid_out_lem : list_laid_out s ≡ true
+  pub laid_out : list_laid_out s ≡ true
   pub once : none_twice (read_volume s) ≡ true
   pub within : list_within (read_call s) ≡ true
   pub written : a.written ≡ sorted_form s
@@ -178,7 +178,7 @@ arranged s room h =
     let once = verdict-ok _ _ two.1 in
     let three = verdict-ok _ _ once.1 in
     record {
-      laid_out_lem = test-ok 2 _ (omega arith) two.0;
+      laid_out = test-ok 2 _ (omega arith) two.0;
       once = test-ok 22 _ (omega arith) once.0;
       within = test-ok 3 _ (omega arith) three.0;
       written = ap (λ (x : Answer). x.written) e ∙ a.written;
@@ -186,7 +186,7 @@ arranged s room h =
 
 -- an accepted lookup of generations
 pub record LookedUp (s : List ℕ) (buckets : List Bucket) (a : GenerationsAnswer) : Type 0 where
-  pub laid_out_lem : volume_laid_out s ≡ true
+  pub laid_out : volume_laid_out s ≡ true
   pub ascend : in_order bucket_below buckets ≡ true
   pub once : none_twice (read_volume s) ≡ true
   pub written : a.written ≡ (joint_lookup (read_volume s).trees.gens buckets).generations
@@ -199,7 +199,7 @@ looked-up s buckets room h =
     let once = verdict-ok _ _ two.1 in
     let layout = parts _ _ (test-ok 2 _ (omega arith) two.0) in
     record {
-      laid_out_lem = layout.0;
+      laid_out = layout.0;
       ascend = layout.1;
       once = test-ok 22 _ (omega arith) once.0;
       written = ap (λ (x : GenerationsAnswer). x.written) e ∙ a.written;

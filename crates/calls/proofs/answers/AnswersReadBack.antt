@@ -27,7 +27,7 @@ use Rattle.calls.proofs.encoding.VolumeTrip.{volume-fits, read_back, volume-laid
 -- a change list of batches, in an output of so many bytes
 pub record Written (a : Answer) (bs : List Batch) (room : ℕ) : Type 0 where
   pub bytes : Bytes a.written
-  pub laid_out_lem : change_laid_out a.written ≡ true
+  pub laid_out : change_laid_out a.written ≡ true
   pub fits : length a.written ≤ room
   pub back : changes_of a.written ≡ bs
 
@@ -43,7 +43,7 @@ number_of e h = ap (λ (x : Answer). x.number) (sym e) ∙ h
 written-by : {a : Answer} {bs : List Batch} (room : ℕ) → a.written ≡ change_bytes bs → All BatchFits bs → All BatchOk bs
     → length a.written ≤ room → Written a bs room
 written-by room e f o l =
-    record { bytes = rw e (bytes-change f); laid_out_lem = rw e (change-laid-out f o); fits = l; back = rw e (changes-back f) }
+    record { bytes = rw e (bytes-change f); laid_out = rw e (change-laid-out f o); fits = l; back = rw e (changes-back f) }
 
 module _ (s : List ℕ) (r : Bytes s) (room : ℕ) where
   pub place-written : (place s room).number ≡ 0

@@ -113,7 +113,7 @@ unfolding computing
 clean-volume =
     record {
       bytes = bytes-tested clean refl;
-      laid_out_lem = refl;
+      laid_out = refl;
       alloc = refl;
       lru = refl;
       need_discard = refl;

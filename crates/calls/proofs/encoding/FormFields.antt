@@ -5,7 +5,7 @@ use mathlib.Core.List.{List, map}
 use Prim.Native.Nat.{ℕ, ◌+◌}
 use native.Mathlib.Omega.{arith}
 use lib.ListN.{length}
-use lib.Seq.{take_all_lem}
+use lib.Seq.{take_all}
 use Rattle.wire.specs.Fields.{Field, fields}
 use Rattle.wire.specs.Keys.{key_of}
 use Rattle.wire.specs.Encode.{key_body}
@@ -35,7 +35,7 @@ sorted-again write read less h {bs} e =
 
 -- a reserved bucket, read and written again
 pub bucket-again : {b : List ℕ} → Bytes b → length b ≡ 4 → bucket_bytes (bucket_read b) ≡ b
-bucket-again {b} r e = le_bytes-le 4 r (omega arith) ∙ take_all_lem 4 b (omega arith)
+bucket-again {b} r e = le_bytes-le 4 r (omega arith) ∙ take_all 4 b (omega arith)
 
 module _ {s : List ℕ} (l : ListLaid s) where
   -- the bodies of a fixed length, read and written again

@@ -4,7 +4,7 @@ use mathlib.Core.List.{List, []}
 use Prim.Native.Nat.{ℕ, ◌^◌, ◌<◌}
 use native.Mathlib.Omega.{arith}
 use lib.ListN.{length}
-use lib.Seq.{take_all_lem}
+use lib.Seq.{take_all}
 use Rattle.wire.specs.Numbers.{le_bytes}
 use Rattle.wire.specs.Bytes.{Bytes}
 use Rattle.wire.proofs.NumberLaws.{all_append, all_drop, bytes_le, le-bound, le-le_bytes}
@@ -108,4 +108,4 @@ head-again {b} r e =
       next-again r 15 8 (omega arith),
       next-again r 23 8 (omega arith),
       next-again r 31 8 (omega arith),
-    ) (take_all_lem 39 b (omega arith))
+    ) (take_all 39 b (omega arith))

@@ -4,7 +4,7 @@ use mathlib.Core.List.{List, []}
 use Prim.Native.Nat.{ℕ, ◌^◌, ◌<◌}
 use native.Mathlib.Omega.{arith}
 use lib.ListN.{length, drop}
-use lib.Seq.{take_all_lem}
+use lib.Seq.{take_all}
 use Rattle.wire.specs.Numbers.{le, le_bytes}
 use Rattle.wire.specs.Bytes.{All, Bytes}
 use Rattle.wire.proofs.NumberLaws.{all_append, all_drop, bytes_le, le-bound, le-le_bytes}
@@ -99,8 +99,8 @@ piece-again {b} r e =
       next-again r 2 2 (omega arith),
       next-again r 4 1 (omega arith),
       next-again r 5 8 (omega arith),
-    ) (take_all_lem 13 b (omega arith))
+    ) (take_all 13 b (omega arith))
 
 pub freed-again : {b : List ℕ} → Bytes b → length b ≡ 10 → freed_body (freed_of b) ≡ b
 unfolding freed_of freed_body
-freed-again {b} r e = rw (next-again r 0 8 (omega arith), next-again r 8 2 (omega arith)) (take_all_lem 10 b (omega arith))
+freed-again {b} r e = rw (next-again r 0 8 (omega arith), next-again r 8 2 (omega arith)) (take_all 10 b (omega arith))

@@ -20,6 +20,7 @@ module _ {A : Type 0} {P : A → Type 0} {x : A} {xs : List A} where
 
 -- of an element
 pub all-at : {A : Type 0} {P : A → Type 0} {l : List A} {a : A} → All P l → Memᴰ a l → P a
+all-at none m = elim m [ ]
 all-at {P} (more h r) (Memᴰ.head e) = subst P (sym e) h
 all-at (more h r) (Memᴰ.tail m) = all-at r m
 

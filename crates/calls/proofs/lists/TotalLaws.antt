@@ -59,6 +59,7 @@ total-swap f (x ∷ xs) m =
 -- one element's part
 pub total-mem : {A : Type 0} (f : A → ℕ) (a : A) (l : List A) → Memᴰ a l → f a ≤ total f l
 unfolding total
+total-mem f a [] m = elim m [ ]
 total-mem f a (x ∷ xs) (Memᴰ.head e) = rw e (omega arith)
 total-mem f a (x ∷ xs) (Memᴰ.tail m) = omega (arith, total-mem f a xs m)
 

@@ -331,12 +331,12 @@ module _ (c : CallList) (f : VolumeFits c.volume) (ok : VolumeOk c.volume) (w : 
 
 -- the same of a list of bytes
 
-module _ {s : List ℕ} (r : Bytes s) (laid_out_lem : call_laid_out 1 s ≡ true) (once : none_twice (read_volume s) ≡ true)
+module _ {s : List ℕ} (r : Bytes s) (laid_out : call_laid_out 1 s ≡ true) (once : none_twice (read_volume s) ≡ true)
     (fits : list_within (read_call s) ≡ true) (passed : verdict (place_tests (read_call s)) ≡ 0) where
   -- each piece is placed within the sectors and generations there are
   pub place-placed : All PlacedFits (placed_of (read_call s))
   place-placed =
-      let f = call_fits 1 r laid_out_lem once in
+      let f = call_fits 1 r laid_out once in
       let w = list-within (read_call s) fits in
       all_placed (read_call s) f.0 f.1 (within w.0) (pieces-fit r) w.1 (gens-small r) passed
 
@@ -344,6 +344,6 @@ module _ {s : List ℕ} (r : Bytes s) (laid_out_lem : call_laid_out 1 s ≡ true
       let c = read_call s in
       BatchFits (place_batch c.volume (placed_of c) (walk_of c)) × BatchOk (place_batch c.volume (placed_of c) (walk_of c))
   place-fits =
-      let f = call_fits 1 r laid_out_lem once in
+      let f = call_fits 1 r laid_out once in
       let w = list-within (read_call s) fits in
       call-place-fits (read_call s) f.0 f.1 (within w.0) (pieces-fit r) w.1 (gens-small r) passed

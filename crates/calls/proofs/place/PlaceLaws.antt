@@ -116,7 +116,7 @@ pieces-placed : (B : ℕ) (gen : Bucket → ℕ) (at : ℕ → Bucket) (from : F
     → map (λ (p : Placed). p.piece) (placed_at B gen at from ps (next_fit B i u (map (λ (p : Piece). p.stored) ps))) ≡ ps
 unfolding placed_at next_fit
 pieces-placed B gen at from [] i u = refl
-pieces-placed B gen at from (p ∷ ps) i u = ap (λ (l : List Piece). p ∷ l) (pieces-placed B gen at _ ps _ _)
+pieces-placed B gen at from (p ∷ ps) i u = ap (λ (l : List Piece). p ∷ l) (pieces-placed B gen at (extent_end from p.file) ps _ _)
 
 pub placed-pieces : (c : CallList) → map (λ p. p.piece) (placed_of c) ≡ c.pieces
 unfolding placed_of slots_of

@@ -1,7 +1,7 @@
 -- Every number in the batch of a release fits its bytes.
 use mathlib.Core.Path.{◌≡◌, refl}
 use mathlib.Core.Bool.{Bool, true, false, not, ◌&&◌, cond}
-use mathlib.Core.List.{List, [], map}
+use mathlib.Core.List.{List, [], map, ◌∷◌}
 use mathlib.Core.Option.{Option, none, some}
 use Prim.Native.Nat.{ℕ, zero, suc, ◌+◌, ◌-◌, ◌*◌, ◌/◌, ◌^◌, ◌<◌, ◌≤◌}
 use native.Mathlib.Omega.{arith}
@@ -115,7 +115,9 @@ module _ (g : Bucket → ℕ) (small : (b : Bucket) → g b < 256) where
   records-queued : {records : List Key} {bs : List Bucket} → All (λ b. b.0 < 65536) bs → All Queued records → All Queued (gens_queued g records bs)
   unfolding gens_queued
   records-queued All.none h = All.none
-  records-queued (All.more {a = b} l r) h = let k = record-queued b l h in All.more k (records-queued r (All.more k h))
+  records-queued {records} (All.more {a = b} l r) h =
+      let k = record-queued b l h in
+      All.more k (records-queued {records = gen_queued records b (g b) ∷ records} r (All.more k h))
 
 -- the batch
 

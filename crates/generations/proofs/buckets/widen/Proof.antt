@@ -4,7 +4,7 @@ use mathlib.Core.List.{List, [], ◌∷◌, ◌++◌}
 use Prim.Native.Nat.{ℕ, ◌+◌, ◌-◌, ◌≤◌}
 use native.Mathlib.Numerals.{add-one}
 use lib.ListN.{length, take, get_or, length-set}
-use lib.Seq.{take-suc, take-suc-set, take_all_lem}
+use lib.Seq.{take-suc, take-suc-set, take_all}
 use native.Mathlib.Omega.{arith}
 use Rattle.generations.proofs.buckets.widen.Statement.{statement}
 use Rattle.generations.proofs.buckets.widen.Tie as tie
@@ -61,7 +61,7 @@ returns c =
     let l = c.before in
     let ns = l.before.args.buckets.now in
     let e : length ns ≡ l.loop.i = omega (arith, l.loop.invariant.0, c.loop-test.false) in
-    ap (λ (n : ℕ). take n l.loop.table) e ∙ l.loop.invariant.2 ∙ take_all_lem l.loop.i ns (omega arith)
+    ap (λ (n : ℕ). take n l.loop.table) e ∙ l.loop.invariant.2 ∙ take_all l.loop.i ns (omega arith)
 
 pub widen_spec : {M : Type 1} → statement M
 widen_spec =
