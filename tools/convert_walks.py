@@ -73,8 +73,76 @@ def convert(text, v, path, said):
     # an array in a struct is itself the list
     text = re.sub(r"\.(bytes|n)-1\b", r".\1", text)
     text = re.sub(r"sym \(length-map (\S+) (?:\(λ x\. x\)|_)\) ∙ (c\.well_formed)", r"\2", text)
+    named = set(fields.values())
+    text = re.sub(r"(?<=\.)([a-z_]+)-1(?![\w-])", lambda m: m[0] if m[0] in named else m[1], text)
+    text = shorten(text, v)
     text = re.sub(r"(?m)\b([a-z][\w-]*)-spec\b", lambda m: norm(m[1]) + "_spec", text)
     return text
+
+
+def decls(text):
+    """The text cut into declarations: each a signature line with all up to the next one."""
+    parts = re.split(r"(?m)^(?=(?:(?:pub|abbrev) )*[a-z][A-Za-z0-9_'-]* :)", text)
+    return parts
+
+
+def shorten(text, v):
+    """Drops `.before` where a field follows, since a place has the fields of those before it, and counts it anew where a helper wants a place."""
+    parent = {}
+    for old, new in zip(v["places"], v["places_by_name"]):
+        at = [p for p, n in zip(v["places"], v["places_by_name"]) if p[0] == old[1]]
+        parent[new] = v["places_by_name"][v["places"].index(at[0])] if at else None
+    asked = {}
+    for (old, new), (_o, place) in zip(v["needs"], v["asked_at"]):
+        asked[new] = place
+    parts = decls(text)
+    helper = {}
+    where = []
+    for part in parts:
+        sig = part.split("\n", 1)[0]
+        name = re.match(r"(?:(?:pub|abbrev) )*([a-z][A-Za-z0-9_'-]*) :", sig)
+        place = None
+        if name:
+            m = re.search(r"tie\.Need-([A-Za-z0-9_'-]+)", sig)
+            if m and m[1] in asked:
+                place = asked[m[1]]
+            else:
+                m = re.search(r":\s*(?:\(c : )?tie\.([A-Z][A-Za-z0-9_'-]*)", part)
+                if m and m[1] in parent:
+                    place = m[1]
+                    helper[name[1]] = place
+        where.append(place)
+
+    def steps(a, b):
+        n = 0
+        while a is not None and a != b:
+            a, n = parent[a], n + 1
+        return n if a == b else None
+
+    out = []
+    for part, place in zip(parts, where):
+        if place is None:
+            out.append(part)
+            continue
+        given = set(re.findall(r"(?m)^\s*(?:\S+ )?(?:.*\blet|let) (\w[\w'-]*) = \w[\w'-]*(?:\.before)+ in", part))
+        part = re.sub(r"(\blet \w[\w'-]* = [a-z][\w'-]*)(?:\.before)+( in\b)", r"\1\2", part)
+        part = re.sub(r"(?<=[\w')])(?:\.before)+(?=\.[a-zA-Z])", "", part)
+        names = {"c": place}
+        for m in re.finditer(r"\blet (\w[\w'-]*) = (\w[\w'-]*) in", part):
+            if m[2] in names:
+                names[m[1]] = names[m[2]]
+
+        def call(m):
+            target, var = helper.get(m[1]), names.get(m[2])
+            if target is None or var is None:
+                return m[0]
+            n = steps(var, target)
+            return m[0] if n is None else m[1] + " " + m[2] + ".before" * n
+
+        if helper:
+            part = re.sub(r"(?<![\w.'-])(" + "|".join(sorted(map(re.escape, helper), key=len, reverse=True)) + r") ([a-z][\w'-]*)((?:\.before)*)(?![\w.'-])", call, part)
+        out.append(part)
+    return "".join(out)
 
 
 def main(crate, names):

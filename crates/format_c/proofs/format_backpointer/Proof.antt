@@ -13,7 +13,7 @@ same_length : tie.Need-shape_of-out
 same_length c = search rules
 
 returns : tie.Need-returns
-returns c = rw c.before.before.before.before.backpointer-w.ensures at c.before.before.put_words.ensures
+returns c = rw c.backpointer-w.ensures at c.put_words.ensures
 
 pub format_backpointer_spec : {M : Type 1} → statement M
 format_backpointer_spec =

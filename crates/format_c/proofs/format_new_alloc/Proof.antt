@@ -15,8 +15,8 @@ same_length c = search rules
 
 returns : tie.Need-returns
 returns c =
-    let a = c.before.before.before.before.before.before.args in
-    rw (all-eight _ a.journal a.generation a.dirty a.clock c.before.before.before.before.new_alloc-w.ensures) at c.before.before.put_words.ensures
+    let a = c.args in
+    rw (all-eight _ a.journal a.generation a.dirty a.clock c.new_alloc-w.ensures) at c.put_words.ensures
 
 pub format_new_alloc_spec : {M : Type 1} → statement M
 format_new_alloc_spec =
