@@ -9,17 +9,17 @@ use Rattle.format_c.proofs.format_emptied.Statement.{statement}
 use Rattle.format_c.proofs.format_emptied.Tie as tie
 
 returns : tie.Need-returns-then-n-lt56
-returns c = let a = c.args in too_short_lem 56 256 (emptied a.journal) a.value-1.now c.if-n-lt56.true
+returns c = let a = c.args in too_short_lem 56 256 (emptied a.journal) a.value.now c.if-n-lt56.true
 
 returns-2 : tie.Need-returns-then-n-gt256
-returns-2 c = let a = c.args in too_long 56 256 (emptied a.journal) a.value-1.now c.if-n-gt256.true
+returns-2 c = let a = c.args in too_long 56 256 (emptied a.journal) a.value.now c.if-n-gt256.true
 
 read-value-requires : tie.Need-read_value-v-requires
 read-value-requires c κs = search rules
 
 -- as many bytes as there are were read
-long : (c : tie.After-read_value-v) → c.read_value-v.result.len ≡ length c.args.value-1.now
-long c = whole_length c.args.value-1.now c.read_value-v.result c.read_value-v.ensures
+long : (c : tie.After-read_value-v) → c.read_value-v.result.len ≡ length c.args.value.now
+long c = whole_length c.args.value.now c.read_value-v.result c.read_value-v.ensures
 
 emptied-requires : tie.Need-emptied-requires
 emptied-requires c κs = omega (arith, long c.before)
@@ -35,7 +35,7 @@ returns-3 c =
     let at-emptied = c in
     let at_read = at-emptied in
     let a = at_read.args in
-    put_back 56 256 (emptied a.journal) a.value-1.now at_read.read_value-v.result at-emptied.emptied.result _ _ (omega arith) (omega arith) at_read.read_value-v.ensures at-emptied.emptied.ensures.0 at-emptied.emptied.ensures.1 c.put_value.ensures
+    put_back 56 256 (emptied a.journal) a.value.now at_read.read_value-v.result at-emptied.emptied.result _ _ (omega arith) (omega arith) at_read.read_value-v.ensures at-emptied.emptied.ensures.0 at-emptied.emptied.ensures.1 c.put_value.ensures
 
 pub format_emptied_spec : {M : Type 1} → statement M
 format_emptied_spec =

@@ -4,16 +4,16 @@ use Rattle.sorting.specs.Bounds.{over}
 use Rattle.sorting.proofs.bound.is_over.Statement.{statement}
 use Rattle.sorting.proofs.bound.is_over.Tie as tie
 
-pos-less-requires : tie.Need-pos-less-requires
+pos-less-requires : tie.Need-pos_less-requires
 pos-less-requires c κs = search rules
 
-returns : tie.Need-returns
+returns : tie.Need-returns-then-b
 unfolding over
-returns c = simp c.before.before.if1.true c.pos-less.ensures
+returns c = simp c.if-b.true c.pos_less.ensures
 
-returns-2 : tie.Need-returns-2
+returns-2 : tie.Need-returns
 unfolding over
 returns-2 c = search rules
 
-pub is-over-spec : {M : Type 1} → statement M
-is-over-spec = tie.close (tie.spec pos-less-requires returns returns-2)
+pub is_over_spec : {M : Type 1} → statement M
+is_over_spec = tie.close (tie.spec pos-less-requires returns returns-2)

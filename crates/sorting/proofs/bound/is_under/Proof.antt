@@ -4,16 +4,16 @@ use Rattle.sorting.specs.Bounds.{under}
 use Rattle.sorting.proofs.bound.is_under.Statement.{statement}
 use Rattle.sorting.proofs.bound.is_under.Tie as tie
 
-pos-less-requires : tie.Need-pos-less-requires
+pos-less-requires : tie.Need-pos_less-requires
 pos-less-requires c κs = search rules
 
-returns : tie.Need-returns
+returns : tie.Need-returns-then-b
 unfolding under
-returns c = simp c.before.before.if1.true c.pos-less.ensures
+returns c = simp c.if-b.true c.pos_less.ensures
 
-returns-2 : tie.Need-returns-2
+returns-2 : tie.Need-returns
 unfolding under
 returns-2 c = search rules
 
-pub is-under-spec : {M : Type 1} → statement M
-is-under-spec = tie.close (tie.spec pos-less-requires returns returns-2)
+pub is_under_spec : {M : Type 1} → statement M
+is_under_spec = tie.close (tie.spec pos-less-requires returns returns-2)

@@ -9,43 +9,43 @@ use borrow.Author.Rules.{rules}
 use Rattle.sorting.proofs.last.is_ahead.Statement.{statement}
 use Rattle.sorting.proofs.last.is_ahead.Tie as tie
 
-sub-if1 : tie.Need-overflow-sub-if1
+sub-if1 : tie.Need-overflow_sub-t
 sub-if1 c = search rules
 
-returns : tie.Need-returns
+returns : tie.Need-returns-then-t-i
 returns c =
-    let a = c.before.before.before.args in
+    let a = c.args in
     sym (ahead-end (place_less a.s.now) a.t.now a.i (omega arith))
 
-mul-before : tie.Need-overflow-mul-before
+mul-before : tie.Need-offset_bounds-t-i
 mul-before c = search rules
 
-shared-slice-read-before : tie.Need-shared-slice-read-before
+shared-slice-read-before : tie.Need-bounds-t-i
 shared-slice-read-before c = search rules
 
-add-before : tie.Need-overflow-add-before
+add-before : tie.Need-overflow_add-i
 add-before c = search rules
 
-mul-before-2 : tie.Need-overflow-mul-before-2
+mul-before-2 : tie.Need-offset_bounds-t-i-2
 mul-before-2 c = search rules
 
-shared-slice-read-before-2 : tie.Need-shared-slice-read-before-2
+shared-slice-read-before-2 : tie.Need-bounds-t-i-2
 shared-slice-read-before-2 c = search rules
 
 before-requires : tie.Need-before-requires
 before-requires c κs =
-    let s = c.before.before.before.before.before in
+    let s = c in
     let a = s.args in
     let next = inside-next a.t.now a.i s.requires.1 s.requires.0 in
     (all-drop-nth 0 a.t.now a.i s.requires.1 s.requires.0, all-drop-nth 0 a.t.now (a.i + 1) next (omega arith))
 
-returns-2 : tie.Need-returns-2
+returns-2 : tie.Need-returns
 returns-2 c =
-    let a = c.before.before.before.before.before.before.args in
-    c.before2.ensures ∙ sym (ahead-next (place_less a.s.now) a.t.now a.i (omega arith))
+    let a = c.args in
+    c.before-2.ensures ∙ sym (ahead-next (place_less a.s.now) a.t.now a.i (omega arith))
 
-pub is-ahead-spec : {M : Type 1} → statement M
-is-ahead-spec =
+pub is_ahead_spec : {M : Type 1} → statement M
+is_ahead_spec =
     tie.close
     (tie.spec
     sub-if1

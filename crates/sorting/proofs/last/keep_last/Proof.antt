@@ -7,63 +7,63 @@ use Rattle.sorting.proofs.KeepLaws.{Keeping, keeping_start, keeping-on, keeping-
 use Rattle.sorting.proofs.last.keep_last.Statement.{statement}
 use Rattle.sorting.proofs.last.keep_last.Tie as tie
 
-abbrev invariant-loop : tie.invariant-loop
+abbrev invariant-loop : tie.invariant-loop-i
 invariant-loop s t₀ n₀ i₀ t n i = Keeping s t₀ t n i
 
-abbrev decreases-loop : tie.decreases-loop
+abbrev decreases-loop : tie.decreases-loop-i
 decreases-loop s t₀ n₀ i₀ t n i = length t₀ - i
 
-loop-holds : tie.Need-loop-init invariant-loop decreases-loop
-loop-holds c = keeping_start _ _ c.before.before.requires
+loop-holds : tie.Need-loop-i-init invariant-loop decreases-loop
+loop-holds c = keeping_start _ _ c.requires
 
-is-ahead-requires : tie.Need-is-ahead-requires invariant-loop decreases-loop
-is-ahead-requires c κs = (c.before.loop-test.true, c.before.before.loop.invariant.inside)
+is-ahead-requires : tie.Need-is_ahead-requires invariant-loop decreases-loop
+is-ahead-requires c κs = (c.loop-i-test.true, c.loop-i.invariant.inside)
 
-mul-t : tie.Need-overflow-mul-t invariant-loop decreases-loop
+mul-t : tie.Need-offset_bounds-t-i invariant-loop decreases-loop
 mul-t c = omega arith
 
-slice-read-t : tie.Need-slice-read-t invariant-loop decreases-loop
+slice-read-t : tie.Need-bounds-t-i invariant-loop decreases-loop
 slice-read-t c = omega arith
 
-mul-t-2 : tie.Need-overflow-mul-t-2 invariant-loop decreases-loop
+mul-t-2 : tie.Need-offset_bounds-t-n invariant-loop decreases-loop
 mul-t-2 c = omega arith
 
-slice-write-t : tie.Need-slice-write-t invariant-loop decreases-loop
-slice-write-t c = omega (arith, c.before.before.before.before.before.loop.invariant.few)
+slice-write-t : tie.Need-bounds-t-n invariant-loop decreases-loop
+slice-write-t c = omega (arith, c.loop-i.invariant.few)
 
-add-n : tie.Need-overflow-add-n invariant-loop decreases-loop
-add-n c = omega (arith, c.before.before.before.before.before.loop.invariant.few)
+add-n : tie.Need-overflow_add-n invariant-loop decreases-loop
+add-n c = omega (arith, c.loop-i.invariant.few)
 
-add-i : tie.Need-overflow-add-i invariant-loop decreases-loop
+add-i : tie.Need-overflow_add-i invariant-loop decreases-loop
 add-i c = omega arith
 
-loop-less : tie.Need-loop-smaller invariant-loop decreases-loop
-loop-less c = omega (arith, c.before.before.before.before.before.loop.invariant.long)
+loop-less : tie.Need-loop-i-smaller-then-is_ahead invariant-loop decreases-loop
+loop-less c = omega (arith, c.loop-i.invariant.long)
 
-loop-again : tie.Need-loop-preserved invariant-loop decreases-loop
+loop-again : tie.Need-loop-i-preserved-then-is_ahead invariant-loop decreases-loop
 loop-again c =
-    let a = c.before.before in
-    keeping-on a.before.before.before.loop.invariant a.before.before.loop-test.true (sym a.is-ahead.ensures ∙ c.before.if1.true)
+    let a = c in
+    keeping-on a.loop-i.invariant a.loop-i-test.true (sym a.is_ahead.ensures ∙ c.if-is_ahead.true)
 
-add-i-2 : tie.Need-overflow-add-i-2 invariant-loop decreases-loop
+add-i-2 : tie.Need-overflow_add-i-else-is_ahead invariant-loop decreases-loop
 add-i-2 c = omega arith
 
-loop-less-2 : tie.Need-loop-smaller-2 invariant-loop decreases-loop
-loop-less-2 c = omega (arith, c.before.before.before.before.loop.invariant.long)
+loop-less-2 : tie.Need-loop-i-smaller invariant-loop decreases-loop
+loop-less-2 c = omega (arith, c.loop-i.invariant.long)
 
-loop-again-2 : tie.Need-loop-preserved-2 invariant-loop decreases-loop
+loop-again-2 : tie.Need-loop-i-preserved invariant-loop decreases-loop
 loop-again-2 c =
-    let a = c.before in
-    keeping-past a.before.before.before.loop.invariant a.before.before.loop-test.true (sym a.is-ahead.ensures ∙ c.if1.false)
+    let a = c in
+    keeping-past a.loop-i.invariant a.loop-i-test.true (sym a.is_ahead.ensures ∙ c.if-is_ahead.false)
 
-same_length : tie.Need-same-length invariant-loop decreases-loop
-same_length c = c.before.loop.invariant.long
+same_length : tie.Need-shape_of-t invariant-loop decreases-loop
+same_length c = c.loop-i.invariant.long
 
 returns : tie.Need-returns invariant-loop decreases-loop
-returns c = keeping-end c.before.loop.invariant c.loop-test.false
+returns c = keeping-end c.loop-i.invariant c.loop-i-test.false
 
-pub keep-last-spec : {M : Type 1} → statement M
-keep-last-spec =
+pub keep_last_spec : {M : Type 1} → statement M
+keep_last_spec =
     tie.close
     (tie.spec
     invariant-loop
