@@ -200,6 +200,10 @@ def body(part, f, place, helper, path, said):
                 n = f.count(start, f.up(start, k0))
                 if n:
                     piece = name + ".before" * n
+        if before in helper and helper[before][1] is not None and name in names:
+            let = re.search(rf"\blet ({ID}) = {re.escape(before)} $", part[: m.start()])
+            if let:
+                names[let[1]] = (helper[before][1], 0)
         out += [gap, piece]
         at = m.end()
         before = name if not rest else ""
