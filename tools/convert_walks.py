@@ -16,7 +16,7 @@ ID = r"[A-Za-z_₀-₉'][\w'₀-₉-]*"
 
 
 def norm(s):
-    return re.sub(r"[-']", "_", s)
+    return re.sub(r"[-']", "_", s).lower()
 
 
 def bare(s):
@@ -76,7 +76,7 @@ class Function:
     def path(self, start, k, rest, said):
         """Today's fields for `.before` k times and then the fields of rest, from place start."""
         at = self.up(start, k)
-        rest = [{"pre": "requires", "inv": "invariant"}.get(x, x) for x in rest]
+        rest = [{"pre": "requires", "inv": "invariant", "good": "well_formed"}.get(x, x) for x in rest]
         first = norm(rest[0])
         if first in ("args", "requires", "lifetimes", "well_formed", "ranges"):
             return [first] + rest[1:]
@@ -93,6 +93,13 @@ class Function:
                 row = max(rows, key=lambda r: len(r[2]))
                 return [self.arm[j][0], row[0]] + rest[1 + len(row[2]) :]
         name = self.step[hit][1]
+        callee = self.v["params"].get(self.v["places"][hit][3])
+        if callee and rest[1:2] == ["new"]:
+            ones = 0
+            while rest[2 + ones : 3 + ones] == ["1"]:
+                ones += 1
+            if rest[2 + ones : 3 + ones] == ["0"] and ones < len(callee):
+                rest = [rest[0], "new", callee[ones]] + rest[3 + ones :]
         if self.arm[hit]:
             name = self.new[hit][0].lower() + self.new[hit][1:] if self.arm[hit][1] == 1 else name
         tail = [{"left": "false", "taken": "true"}.get(x, x) if i == 0 else x for i, x in enumerate(rest[1:])]
@@ -144,7 +151,7 @@ def turn(text, f, path, said):
     text = re.sub(r"\.(bytes|n)-1\b", r".\1", text)
     text = re.sub(r"\bargs\.([a-z_]+)-1(?![\w-])", r"args.\1", text)
     text = re.sub(r"sym \(length-map (\S+) (?:\(λ x\. x\)|_)\) ∙ (c\.well_formed)", r"\2", text)
-    text = text.replace(".type-inv", ".type_inv").replace(").pre", ").requires")
+    text = text.replace(".type-inv", ".type_inv").replace(").pre", ").requires").replace(").good", ").well_formed")
     text = re.sub(r"(?<=\w)\.pre(?![\w-])", ".requires", text)
     return re.sub(r"(?m)(?<![\w'-])([a-z][\w-]*)-spec\b", lambda m: norm(m[1]) + "_spec", text)
 
@@ -200,25 +207,33 @@ def body(part, f, place, helper, path, said):
                 n = f.count(start, f.up(start, k0))
                 if n:
                     piece = name + ".before" * n
-        if before in helper and helper[before][1] is not None and name in names:
-            let = re.search(rf"\blet ({ID}) = {re.escape(before)} $", part[: m.start()])
+        if name in helper and not rest and helper[name][1] is not None:
+            let = re.search(rf"\blet ({ID}) = $", part[: m.start()])
             if let:
-                names[let[1]] = (helper[before][1], 0)
+                names[let[1]] = (helper[name][1], 0)
         out += [gap, piece]
         at = m.end()
         before = name if not rest else ""
     out.append(part[at:])
     text = "".join(out)
 
-    # a helper's result is a place: `(start c).args` and `let a = start c in a.args`
-    def called(m):
-        fields = [r for r in m[3].split(".") if r]
-        b = helper[m[1]][1]
-        return m[0] if b is None else "(" + m[1] + " " + m[2] + ")." + ".".join(f.path(b, 0, fields, said))
-
-    if helper:
-        alt = "|".join(sorted(map(re.escape, helper), key=len, reverse=True))
-        text = re.sub(rf"\(({alt}) ([a-z][\w'.-]*)\)\.((?!before)[\w'.-]+)", called, text)
+    # a helper's result is a place: `(start c).args`, `(turn (beside c)).loop`
+    at = 0
+    while helper:
+        m = re.compile(r"\)\.(?!before\b)([\w'₀-₉][\w'.-]*)").search(text, at)
+        if not m:
+            break
+        at, deep, i = m.end(), 0, m.start()
+        while i >= 0:
+            deep += (text[i] == ")") - (text[i] == "(")
+            if not deep:
+                break
+            i -= 1
+        h = re.match(rf"\(({ID}) ", text[i:]) if i >= 0 else None
+        if h and h[1] in helper and helper[h[1]][1] is not None:
+            new = ".".join(f.path(helper[h[1]][1], 0, m[1].split("."), said))
+            text = text[: m.start()] + ")." + new + text[m.end() :]
+            at = m.start() + 2 + len(new)
     return text
 
 

@@ -13,14 +13,14 @@ passed a b e = rw e
 left : (a b c : Bool) → a ≡ false → b ≡ c → not b ≡ (a || not c)
 left a b c e f = rw (e, f)
 
-returns : tie.Need-returns
-returns c = let a = c.before.args in passed a.over (not (head_within (head_in a.first))) c.if1.true
+returns : tie.Need-returns-then-over
+returns c = let a = c.args in passed a.over (not (head_within (head_in a.first))) c.if-over.true
 
-head-within-requires : tie.Need-head-within-requires
+head-within-requires : tie.Need-head_within-within-requires
 head-within-requires c κs = tt
 
-returns-2 : tie.Need-returns-2
-returns-2 c = let a = c.before.before.args in left a.over _ (head_within (head_in a.first)) c.before.if1.false c.head-within.ensures
+returns-2 : tie.Need-returns
+returns-2 c = let a = c.args in left a.over _ (head_within (head_in a.first)) c.if-over.false c.head_within-within.ensures
 
-pub past-limit-spec : {M : Type 1} → statement M
-past-limit-spec = tie.close (tie.spec returns head-within-requires returns-2)
+pub past_limit_spec : {M : Type 1} → statement M
+past_limit_spec = tie.close (tie.spec returns head-within-requires returns-2)

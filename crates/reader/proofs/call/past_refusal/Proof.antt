@@ -20,17 +20,17 @@ not_found : (r b : Bool) → r ≡ not b → r ≡ false → ◌≡◌ {A = ℕ}
 not_found r true e h = refl
 not_found r false e h = absurd (clash e h)
 
-returns : tie.Need-returns
-returns c = let a = c.before.before in none (none_twice (read_volume a.args.s.now)) (a.requires.once c.if1.true)
+returns : tie.Need-returns-then-ordered
+returns c = let a = c in none (none_twice (read_volume a.args.s.now)) (a.requires.once c.if-ordered.true)
 
 doubled-requires : tie.Need-doubled-requires
-doubled-requires c κs = c.before.before.requires.sections
+doubled-requires c κs = c.requires.sections
 
-returns-2 : tie.Need-returns-2
-returns-2 c = found _ (none_twice (read_volume c.before.before.before.before.args.s.now)) c.before.doubled.ensures c.if2.true
+returns-2 : tie.Need-returns-then-doubled
+returns-2 c = found _ (none_twice (read_volume c.args.s.now)) c.doubled.ensures c.if-doubled.true
 
-returns-3 : tie.Need-returns-3
-returns-3 c = not_found _ (none_twice (read_volume c.before.before.before.before.args.s.now)) c.before.doubled.ensures c.if2.false
+returns-3 : tie.Need-returns
+returns-3 c = not_found _ (none_twice (read_volume c.args.s.now)) c.doubled.ensures c.if-doubled.false
 
-pub past-refusal-spec : {M : Type 1} → statement M
-past-refusal-spec = tie.close (tie.spec returns doubled-requires returns-2 returns-3)
+pub past_refusal_spec : {M : Type 1} → statement M
+past_refusal_spec = tie.close (tie.spec returns doubled-requires returns-2 returns-3)

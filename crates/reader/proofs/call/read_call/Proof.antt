@@ -7,16 +7,16 @@ use Rattle.reader.proofs.VolumeLaws.{call-refusal}
 use Rattle.reader.proofs.call.read_call.Statement.{statement}
 use Rattle.reader.proofs.call.read_call.Tie as tie
 
-read-list-requires : tie.Need-read-list-requires
+read-list-requires : tie.Need-read_list-requires
 read-list-requires c κs = search rules
 
-same_length : tie.Need-same-length
+same_length : tie.Need-shape_of-index
 same_length c = search rules
 
 returns : tie.Need-returns
 returns c =
-    let a = c.before.before.before.before.before.before.args in
-    subst (λ (n : ℕ). Answered n a.call a.s.now c.before.before.read-list.new.1.1.1.0 c.before.before.read-list.result) (call-refusal a.call a.s.now) c.before.before.read-list.ensures
+    let a = c.args in
+    subst (λ (n : ℕ). Answered n a.call a.s.now c.read_list.new.index c.read_list.result) (call-refusal a.call a.s.now) c.read_list.ensures
 
-pub read-call-spec : {M : Type 1} → statement M
-read-call-spec = tie.close (tie.spec read-list-requires same_length returns)
+pub read_call_spec : {M : Type 1} → statement M
+read_call_spec = tie.close (tie.spec read-list-requires same_length returns)

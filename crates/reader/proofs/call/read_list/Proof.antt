@@ -7,88 +7,88 @@ use Rattle.reader.proofs.call.read_list.Statement.{statement}
 use Rattle.reader.proofs.call.read_list.Tie as tie
 
 survey-requires : tie.Need-survey-requires
-survey-requires c κs = (c.before.before.before.before.requires, refl)
+survey-requires c κs = (c.requires, refl)
 
-enum-known-head : tie.Need-enum-known-head
-enum-known-head c = c.match.keys1
+enum-known-head : tie.Need-enum_known-head
+enum-known-head c = c.in-Laid-1.keys1
 
-enum_told : tie.Need-enum-told
-enum_told c = c.match.keys2
+enum_told : tie.Need-enum_told-1
+enum_told c = c.in_default-1.keys2
 
-same_length : tie.Need-same-length
+same_length : tie.Need-shape_of-index-in_default
 same_length c = search rules
 
-returns : tie.Need-returns
-returns c = broken _ _ _ (c.before.before.before.before.survey.ensures.broken c.enum_told.given.1)
+returns : tie.Need-returns-in_default
+returns c = broken _ _ _ (c.survey.ensures.broken c.in_default.is)
 
 -- the pass over a list that keeps its layout
-abbrev pass : tie.After-known-told → tie.After-survey
-pass c = c.before.before.before.before.before
+abbrev pass : tie.In-Laid → tie.After-survey
+pass c = c.before.before.before
 
-read-head-requires : tie.Need-read-head-requires
-read-head-requires c κs = ((pass c).survey.ensures.found _ _ _ c.before.head.given.1).inside
+read-head-requires : tie.Need-read_head-first-requires
+read-head-requires c κs = ((pass c).survey.ensures.found _ _ _ c.in-Laid.is).inside
 
-past-limit-requires : tie.Need-past-limit-requires
+past-limit-requires : tie.Need-past_limit-requires
 past-limit-requires c κs = tt
 
-past-refusal-requires : tie.Need-past-refusal-requires
+past-refusal-requires : tie.Need-past_refusal-requires
 past-refusal-requires c κs =
-    let h = c.before.before in past-asked ((pass h.before).survey.ensures.found _ _ _ h.before.before.head.given.1) _ h.read_head.ensures
+    let h = c in past-asked ((pass h.before.before.before).survey.ensures.found _ _ _ h.in-Laid.is) _ h.read_head-first.ensures
 
-same-length-2 : tie.Need-same-length-2
+same-length-2 : tie.Need-shape_of-index-then-past_limit
 same-length-2 c = search rules
 
-returns-2 : tie.Need-returns-2
+returns-2 : tie.Need-returns-then-past_limit
 returns-2 c =
-    let h = c.before.before.before in
-    read_past ((pass h.before).survey.ensures.found _ _ _ h.before.before.head.given.1) _ h.read_head.ensures _ (sym c.before.before.past-limit.ensures ∙ c.before.if1.true) c.past-refusal.ensures
+    let h = c in
+    read_past ((pass h.before.before.before.before).survey.ensures.found _ _ _ h.in-Laid.is) _ h.read_head-first.ensures _ (sym c.past_limit.ensures ∙ c.if-past_limit.true) c.past_refusal.ensures
 
-ends-of-requires : tie.Need-ends-of-requires
+ends-of-requires : tie.Need-ends_of-ends-requires
 ends-of-requires c κs =
-    let h = c.before.before in
-    table_fits ((pass h.before).survey.ensures.found _ _ _ h.before.before.head.given.1) _ h.read_head.ensures (sym c.before.past-limit.ensures ∙ c.if1.false)
+    let h = c in
+    table_fits ((pass h.before.before.before).survey.ensures.found _ _ _ h.in-Laid.is) _ h.read_head-first.ensures (sym c.past_limit.ensures ∙ c.if-past_limit.false)
 
-same-length-3 : tie.Need-same-length-3
+same-length-3 : tie.Need-shape_of-index-then-ordered
 same-length-3 c = search rules
 
-returns-3 : tie.Need-returns-3
+returns-3 : tie.Need-returns-then-ordered
 returns-3 c =
-    let o = c.before in
-    let h = o.before.before.before in
-    read-ordered ((pass h.before).survey.ensures.found _ _ _ h.before.before.head.given.1) _ h.read_head.ensures (sym o.before.before.past-limit.ensures ∙ o.before.if1.false) _
-    o.ends_of.ensures c.if2.true
+    let o = c in
+    let h = o in
+    read-ordered ((pass h.before.before.before.before.before).survey.ensures.found _ _ _ h.in-Laid.is) _ h.read_head-first.ensures (sym o.past_limit.ensures ∙ o.if-past_limit.false) _
+    o.ends_of-ends.ensures c.if-ordered.true
 
-sort-table-requires : tie.Need-sort-table-requires
+sort-table-requires : tie.Need-sort_table-requires
 sort-table-requires c κs =
-    let o = c.before.before in
-    let h = o.before.before.before in
-    table-sortable ((pass h.before).survey.ensures.found _ _ _ h.before.before.head.given.1) _ h.read_head.ensures (sym o.before.before.past-limit.ensures ∙ o.before.if1.false) _
-    o.ends_of.ensures
+    let o = c in
+    let h = o in
+    table-sortable ((pass h.before.before.before.before.before.before).survey.ensures.found _ _ _ h.in-Laid.is) _ h.read_head-first.ensures (sym o.past_limit.ensures ∙ o.if-past_limit.false) _
+    o.ends_of-ends.ensures
 
-same-length-4 : tie.Need-same-length-4
+same-length-4 : tie.Need-shape_of-index-then-sort_table
 same-length-4 c = search rules
 
-returns-4 : tie.Need-returns-4
+returns-4 : tie.Need-returns-then-sort_table
 returns-4 c =
-    let t = c.before.before.before in
-    let o = t.before.before.before in
-    let h = o.before.before.before in
-    read_twice ((pass h.before).survey.ensures.found _ _ _ h.before.before.head.given.1) _ h.read_head.ensures (sym o.before.before.past-limit.ensures ∙ o.before.if1.false)
-    _ c.if3.true t.sort-table.ensures
+    let t = c in
+    let o = t in
+    let h = o in
+    read_twice ((pass h.before.before.before.before.before.before.before.before.before.before).survey.ensures.found _ _ _ h.in-Laid.is) _ h.read_head-first.ensures (sym o.past_limit.ensures ∙ o.if-past_limit.false)
+    _ c.if-sort_table.true t.sort_table.ensures
 
-same-length-5 : tie.Need-same-length-5
+same-length-5 : tie.Need-shape_of-index
 same-length-5 c = search rules
 
-returns-5 : tie.Need-returns-5
+returns-5 : tie.Need-returns
 returns-5 c =
-    let t = c.before.before.before in
-    let o = t.before.before.before in
-    let h = o.before.before.before in
-    read-sorted ((pass h.before).survey.ensures.found _ _ _ h.before.before.head.given.1) _ h.read_head.ensures (sym o.before.before.past-limit.ensures ∙ o.before.if1.false) _
-    o.ends_of.ensures (search rules) _ c.if3.false t.sort-table.ensures
+    let t = c in
+    let o = t in
+    let h = o in
+    read-sorted ((pass h.before.before.before.before.before.before.before.before.before.before).survey.ensures.found _ _ _ h.in-Laid.is) _ h.read_head-first.ensures (sym o.past_limit.ensures ∙ o.if-past_limit.false) _
+    o.ends_of-ends.ensures (search rules) _ c.if-sort_table.false t.sort_table.ensures
 
-pub read-list-spec : {M : Type 1} → statement M
-read-list-spec =
+pub read_list_spec : {M : Type 1} → statement M
+read_list_spec =
     tie.close
     (tie.spec
     survey-requires

@@ -6,11 +6,11 @@ use borrow.Author.Rules.{rules}
 use Rattle.reader.proofs.key.pos_at.Statement.{statement}
 use Rattle.reader.proofs.key.pos_at.Tie as tie
 
-pos-at-requires : tie.Need-pos-at-requires
+pos-at-requires : tie.Need-pos_at-requires
 pos-at-requires c κs = search rules
 
 returns : tie.Need-returns
-returns c = c.pos-at.ensures ∙ sym (ap (λ (k : Key). k.pos) (here-at _ _ c.before.before.requires))
+returns c = c.pos_at.ensures ∙ sym (ap (λ (k : Key). k.pos) (here-at _ _ c.requires))
 
-pub pos-at-spec : {M : Type 1} → statement M
-pos-at-spec = tie.close (tie.spec pos-at-requires returns)
+pub pos_at_spec : {M : Type 1} → statement M
+pos_at_spec = tie.close (tie.spec pos-at-requires returns)

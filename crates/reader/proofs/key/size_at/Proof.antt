@@ -6,11 +6,11 @@ use borrow.Author.Rules.{rules}
 use Rattle.reader.proofs.key.size_at.Statement.{statement}
 use Rattle.reader.proofs.key.size_at.Tie as tie
 
-size-at-requires : tie.Need-size-at-requires
+size-at-requires : tie.Need-size_at-requires
 size-at-requires c κs = search rules
 
 returns : tie.Need-returns
-returns c = c.size-at.ensures ∙ sym (ap (λ (k : Key). k.size) (here-at _ _ c.before.before.requires))
+returns c = c.size_at.ensures ∙ sym (ap (λ (k : Key). k.size) (here-at _ _ c.requires))
 
-pub size-at-spec : {M : Type 1} → statement M
-size-at-spec = tie.close (tie.spec size-at-requires returns)
+pub size_at_spec : {M : Type 1} → statement M
+size_at_spec = tie.close (tie.spec size-at-requires returns)

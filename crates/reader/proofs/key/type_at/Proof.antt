@@ -6,11 +6,11 @@ use borrow.Author.Rules.{rules}
 use Rattle.reader.proofs.key.type_at.Statement.{statement}
 use Rattle.reader.proofs.key.type_at.Tie as tie
 
-type-at-requires : tie.Need-type-at-requires
+type-at-requires : tie.Need-type_at-requires
 type-at-requires c κs = search rules
 
 returns : tie.Need-returns
-returns c = c.type_at.ensures ∙ sym (ap (λ (k : Key). k.type) (here-at _ _ c.before.before.requires))
+returns c = c.type_at.ensures ∙ sym (ap (λ (k : Key). k.type) (here-at _ _ c.requires))
 
-pub type-at-spec : {M : Type 1} → statement M
-type-at-spec = tie.close (tie.spec type-at-requires returns)
+pub type_at_spec : {M : Type 1} → statement M
+type_at_spec = tie.close (tie.spec type-at-requires returns)

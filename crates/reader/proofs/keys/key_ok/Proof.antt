@@ -9,25 +9,25 @@ use Rattle.reader.proofs.ShapeLaws.{key-missized, key-sized, sized-least}
 use Rattle.reader.proofs.keys.key_ok.Statement.{statement}
 use Rattle.reader.proofs.keys.key_ok.Tie as tie
 
-key-sized-requires : tie.Need-key-sized-requires
+key-sized-requires : tie.Need-key_sized-requires
 key-sized-requires c κs = search rules
 
-returns : tie.Need-returns
+returns : tie.Need-returns-then-not-key_sized
 returns c =
-    sym (key-missized _ _ _ c.before.before.before.requires (sym c.before.key-sized.ensures ∙ not-true _ c.if1.true))
+    sym (key-missized _ _ _ c.requires (sym c.key_sized.ensures ∙ not-true _ c.if-not-key_sized.true-raw))
 
 -- the length is a key's
-long : (c : tie.Else1) → (leb 37 c.before.before.before.args.len && leb c.before.before.before.args.len 293) ≡ true
-long c = sym c.before.key-sized.ensures ∙ not-false _ c.if1.false
+long : (c : tie.Else-not-key_sized) → (leb 37 c.args.len && leb c.args.len 293) ≡ true
+long c = sym c.key_sized.ensures ∙ not-false _ c.if-not-key_sized.false-raw
 
-pos-at-requires : tie.Need-pos-at-requires
-pos-at-requires c κs = omega (arith, sized-least c.before.before.before.args.len (long c))
+pos-at-requires : tie.Need-pos_at-pos-requires
+pos-at-requires c κs = omega (arith, sized-least c.args.len (long c))
 
-returns-2 : tie.Need-returns-2
+returns-2 : tie.Need-returns
 returns-2 c =
     let l = long c.before.before in
-    let e = key-sized _ _ _ c.before.before.before.before.before.requires l (sized-least _ l) in
-    rw c.before.pos-at.ensures (sym e)
+    let e = key-sized _ _ _ c.requires l (sized-least _ l) in
+    rw c.pos_at-pos.ensures (sym e)
 
-pub key-ok-spec : {M : Type 1} → statement M
-key-ok-spec = tie.close (tie.spec key-sized-requires returns pos-at-requires returns-2)
+pub key_ok_spec : {M : Type 1} → statement M
+key_ok_spec = tie.close (tie.spec key-sized-requires returns pos-at-requires returns-2)

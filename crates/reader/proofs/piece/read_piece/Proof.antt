@@ -7,19 +7,19 @@ use Rattle.reader.proofs.piece.read_piece.Tie as tie
 le16-requires : tie.Need-le16-requires
 le16-requires c κs = search rules
 
-add-le16 : tie.Need-overflow-add-le16
+add-le16 : tie.Need-overflow_add-at
 add-le16 c = search rules
 
 le16-requires-2 : tie.Need-le16-requires-2
 le16-requires-2 c κs = search rules
 
-add-le8 : tie.Need-overflow-add-le8
+add-le8 : tie.Need-overflow_add-at-2
 add-le8 c = search rules
 
 le8-requires : tie.Need-le8-requires
 le8-requires c κs = search rules
 
-add-le64 : tie.Need-overflow-add-le64
+add-le64 : tie.Need-overflow_add-at-3
 add-le64 c = search rules
 
 le64-requires : tie.Need-le64-requires
@@ -27,12 +27,12 @@ le64-requires c κs = search rules
 
 returns : tie.Need-returns
 returns c =
-    let k = c.before.before.before in
-    let a = k.before.before.args in
-    rw (piece-at a.s.now a.at) (cc (k.le16.ensures, c.before.before.le162.ensures, c.before.le8.ensures, c.le64.ensures))
+    let k = c in
+    let a = k.args in
+    rw (piece-at a.s.now a.at) (cc (k.le16.ensures, c.le16-2.ensures, c.le8.ensures, c.le64.ensures))
 
-pub read-piece-spec : {M : Type 1} → statement M
-read-piece-spec =
+pub read_piece_spec : {M : Type 1} → statement M
+read_piece_spec =
     tie.close
     (tie.spec
     le16-requires

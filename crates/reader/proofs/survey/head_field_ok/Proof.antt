@@ -36,36 +36,36 @@ module _ (s : List ℕ) (call : ℕ) (any : Bool) (start len : ℕ) (fits : star
     told-own : head_ok h ≡ true → any ≡ false → head_field_ok call any (take len (drop start s)) ≡ eqb h.call call
     told-own b a = told ∙ simp (b, a)
 
-returns : tie.Need-returns
-returns c = sym (missized _ _ _ _ _ c.before.before.requires c.if1.true)
+returns : tie.Need-returns-then-len-ne39
+returns c = sym (missized _ _ _ _ _ c.requires c.if-len-ne39.true)
 
-read-head-requires : tie.Need-read-head-requires
-read-head-requires c κs = omega (arith, c.before.before.requires, c.if1.false)
+read-head-requires : tie.Need-read_head-first-requires
+read-head-requires c κs = omega (arith, c.requires, c.if-len-ne39.false)
 
-head-ok-requires : tie.Need-head-ok-requires
+head-ok-requires : tie.Need-head_ok-requires
 head-ok-requires c κs = tt
 
-returns-2 : tie.Need-returns-2
+returns-2 : tie.Need-returns-then-not-head_ok
 returns-2 c =
-    let h = c.before.before in
+    let h = c in
     sym
-    (told-bad _ _ _ _ _ h.before.before.before.requires h.before.if1.false _ h.read_head.ensures
-    (sym c.before.head_ok.ensures ∙ not-true _ c.if2.true))
+    (told-bad _ _ _ _ _ h.requires h.if-len-ne39.false _ h.read_head-first.ensures
+    (sym c.head_ok.ensures ∙ not-true _ c.if-not-head_ok.true-raw))
 
-returns-3 : tie.Need-returns-3
+returns-3 : tie.Need-returns-then-any
 returns-3 c =
-    let h = c.before.before.before in
+    let h = c in
     sym
-    (told-any _ _ _ _ _ h.before.before.before.requires h.before.if1.false _ h.read_head.ensures
-    (sym c.before.before.head_ok.ensures ∙ not-false _ c.before.if2.false) c.if3.true)
+    (told-any _ _ _ _ _ h.requires h.if-len-ne39.false _ h.read_head-first.ensures
+    (sym c.head_ok.ensures ∙ not-false _ c.if-not-head_ok.false-raw) c.if-any.true)
 
-returns-4 : tie.Need-returns-4
+returns-4 : tie.Need-returns
 returns-4 c =
-    let h = c.before.before.before.before in
+    let h = c in
     sym
-    (told-own _ _ _ _ _ h.before.before.before.requires h.before.if1.false _ h.read_head.ensures
-    (sym c.before.before.before.head_ok.ensures ∙ not-false _ c.before.before.if2.false) c.before.if3.false)
+    (told-own _ _ _ _ _ h.requires h.if-len-ne39.false _ h.read_head-first.ensures
+    (sym c.head_ok.ensures ∙ not-false _ c.if-not-head_ok.false-raw) c.if-any.false)
 
-pub head-field-ok-spec : {M : Type 1} → statement M
-head-field-ok-spec =
+pub head_field_ok_spec : {M : Type 1} → statement M
+head_field_ok_spec =
     tie.close (tie.spec returns read-head-requires head-ok-requires returns-2 returns-3 returns-4)

@@ -7,41 +7,41 @@ use Rattle.reader.proofs.SurveyStartLaws.{head-none, head-found}
 use Rattle.reader.proofs.survey.head_first.Statement.{statement}
 use Rattle.reader.proofs.survey.head_first.Tie as tie
 
-next-field-requires : tie.Need-next-field-requires
+next-field-requires : tie.Need-next_field-requires
 next-field-requires c κs = search rules
 
-enum-known-tag : tie.Need-enum-known-tag
+enum-known-tag : tie.Need-enum_known-tag
 enum-known-tag c = search rules
 
-enum_told : tie.Need-enum-told
+enum_told : tie.Need-enum_told-1
 enum_told c = search rules
 
-returns : tie.Need-returns
+returns : tie.Need-returns-in_default
 returns c = head-none
 
 -- the first field
 took :
-    (c : tie.After-known-told)
-    → FieldAt c.before.before.before.before.before.args.s.now 0 c.before.tag.given.0.0 c.before.tag.given.0.1.0
-    c.before.tag.given.0.1.1.0
-took c = field-at _ 0 _ _ _ (sym c.before.before.before.next_field.ensures ∙ c.before.tag.given.1)
+    (c : tie.In-Found)
+    → FieldAt c.args.s.now 0 c.in-Found.tag c.in-Found.start
+    c.in-Found.len
+took c = field-at _ 0 _ _ _ (sym c.next_field.ensures ∙ c.in-Found.is)
 
-returns-2 : tie.Need-returns-2
+returns-2 : tie.Need-returns-then-tag-ne1
 returns-2 c = head-none
 
-head-field-ok-requires : tie.Need-head-field-ok-requires
+head-field-ok-requires : tie.Need-head_field_ok-requires
 head-field-ok-requires c κs = (took c.before).within
 
-returns-3 : tie.Need-returns-3
+returns-3 : tie.Need-returns-then-not-head_field_ok
 returns-3 c = head-none
 
-returns-4 : tie.Need-returns-4
+returns-4 : tie.Need-returns
 returns-4 c =
-    let o = c.before.before in
-    head-found _ _ _ _ _ _ (took o.before) o.if1.false (sym c.before.head-field-ok.ensures ∙ not-false _ c.if2.false)
+    let o = c in
+    head-found _ _ _ _ _ _ (took o.before.before.before) o.if-tag-ne1.false (sym c.head_field_ok.ensures ∙ not-false _ c.if-not-head_field_ok.false-raw)
 
-pub head-first-spec : {M : Type 1} → statement M
-head-first-spec =
+pub head_first_spec : {M : Type 1} → statement M
+head_first_spec =
     tie.close
     (tie.spec
     next-field-requires

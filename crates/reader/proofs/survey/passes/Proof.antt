@@ -8,40 +8,40 @@ use Rattle.reader.proofs.survey.passes.Statement.{statement}
 use Rattle.reader.proofs.survey.passes.Tie as tie
 
 -- the call's start
-abbrev start : tie.After-field-within → tie.Start
+abbrev start : tie.After-field_within → tie.Start
 start c = c.before.before.before.before
 
-returns : tie.Need-returns
+returns : tie.Need-returns-then-over
 returns c = search rules
 
-field-within-requires : tie.Need-field-within-requires
+field-within-requires : tie.Need-field_within-requires
 field-within-requires c κs = search rules
 
-returns-2 : tie.Need-returns-2
+returns-2 : tie.Need-returns-then-not-field_within
 returns-2 c =
     let a = (start c.before).args in
-    passed-limit a.s.now a.over a.tag a.start a.n a.counts.now a.index.now c.before.before.if1.false
-    (sym c.before.field-within.ensures ∙ not-true _ c.if2.true)
+    passed-limit a.s.now a.over a.tag a.start a.n a.counts.now a.index.now c.if-over.false
+    (sym c.field_within.ensures ∙ not-true _ c.if-not-field_within.true-raw)
 
-rank-of-requires : tie.Need-rank-of-requires
+rank-of-requires : tie.Need-rank_of-requires
 rank-of-requires c κs = search rules
 
-note-requires : tie.Need-note-requires
+note-requires : tie.Need-note-noted-requires
 note-requires c κs =
-    (rw c.rank-of.ensures (rank_below _), rw c.rank-of.ensures ((start c.before.before.before.before).requires.1 c.before.before.before.before.before.if1.false))
+    (rw c.rank_of.ensures (rank_below _), rw c.rank_of.ensures ((start c.before.before.before.before).requires.1 c.if-over.false))
 
-same_length : tie.Need-same-length
+same_length : tie.Need-shape_of-index
 same_length c = search rules
 
-returns-3 : tie.Need-returns-3
+returns-3 : tie.Need-returns
 returns-3 c =
-    let w = c.before.before.before.before.before.before.before in
-    let a = (start w).args in
+    let w = c in
+    let a = (start w.before.before.before.before.before.before.before).args in
     passed-noted a.s.now a.over a.tag a.start a.n a.counts.now _ a.index.now _ _ _
-    w.before.if1.false
-    (sym w.field-within.ensures ∙ not-false _ c.before.before.before.before.before.before.if2.false)
-    c.before.before.before.rank-of.ensures
-    c.before.before.note.ensures
+    w.if-over.false
+    (sym w.field_within.ensures ∙ not-false _ c.if-not-field_within.false-raw)
+    c.rank_of.ensures
+    c.note-noted.ensures
 
-pub passes-spec : {M : Type 1} → statement M
-passes-spec = tie.close (tie.spec returns field-within-requires returns-2 rank-of-requires note-requires same_length returns-3)
+pub passes_spec : {M : Type 1} → statement M
+passes_spec = tie.close (tie.spec returns field-within-requires returns-2 rank-of-requires note-requires same_length returns-3)
