@@ -16,7 +16,7 @@ ID = r"[A-Za-z_₀-₉'][\w'₀-₉-]*"
 
 
 def norm(s):
-    return re.sub(r"[-']", "_", s).lower()
+    return re.sub(r"[-']", "_", s.strip("«»")).lower()
 
 
 def bare(s):
@@ -78,6 +78,8 @@ class Function:
         at = self.up(start, k)
         rest = [{"pre": "requires", "inv": "invariant", "good": "well_formed"}.get(x, x) for x in rest]
         first = norm(rest[0])
+        if first.endswith("_lem") and not any(norm(s[0]) == first for s in self.step):
+            first = first[:-4]
         if first in ("args", "requires", "lifetimes", "well_formed", "ranges"):
             return [first] + rest[1:]
         hit = next((i for i in self.chain(at) if norm(self.step[i][0]) == first and self.step[i][0]), None)
@@ -161,7 +163,12 @@ WORD = re.compile(rf"(?<![\w.'₀-])({ID})((?:\.[A-Za-z0-9_«][\w'»-]*)*)")
 
 def body(part, f, place, helper, path, said):
     # (place of c as it was written, in the old chain)
-    names = {"c": (place, 0)}
+    own = re.match(rf"(?:(?:pub|abbrev) )*({ID})", part)[1]
+    clause = re.search(rf"(?m)^\s*{re.escape(own)} ({ID})", part[len(own) + 1 :])
+    names = {clause[1] if clause else "c": (place, 0)}
+    for m in re.finditer(rf"\(({ID}) : {re.escape(f.prefix)}\.([A-Z][\w'-]*)", part):
+        if m[2] in f.new:
+            names[m[1]] = (f.new.index(m[2]), 0)
     out, at, before = [], 0, ""
     m = re.search(r"\n(?=\S*.* = |\S* .*=\n)|\n", part)
     for m in WORD.finditer(part):
@@ -169,7 +176,7 @@ def body(part, f, place, helper, path, said):
         gap = part[at : m.start()]
         piece = m[0]
         line = part[part.rfind("\n", 0, m.start()) + 1 : m.start()]
-        if line.lstrip().startswith("--"):
+        if line.lstrip().startswith("--") or re.search(r"\blet $", part[: m.start()]):
             pass
         elif name in names and rest:
             start, k0 = names[name]

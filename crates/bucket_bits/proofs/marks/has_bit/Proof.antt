@@ -8,11 +8,11 @@ use Rattle.bucket_bits.proofs.marks.has_bit.Tie as tie
 array-read-result : tie.Need-array-read-result
 array-read-result c = search rules
 
-div-result : tie.Need-nonzero-div-result
+div-result : tie.Need-nonzero_div-result
 div-result c = omega (arith, power-some c.args.k 0 _ (power_at c.args.k c.requires))
 
 returns : tie.Need-returns
 returns c = bit-by c.args.k c.args.x _ (power_at c.args.k c.requires)
 
-pub has-bit-spec : {M : Type 1} → statement M
-has-bit-spec = tie.close (tie.spec array-read-result div-result returns)
+pub has_bit_spec : {M : Type 1} → statement M
+has_bit_spec = tie.close (tie.spec array-read-result div-result returns)

@@ -18,71 +18,71 @@ use Rattle.bucket_bits.proofs.marks.mark_key.Statement.{statement}
 use Rattle.bucket_bits.proofs.marks.mark_key.Tie as tie
 
 -- the byte that is read is the value's
-byte : (c : tie.After-data-type) →
-    let a = c.before.before.before.before.before.before.before.before in
-    c.data-type.result ≡ get_or (key_here a.args.s.now a.args.at).value 14 0
+byte : (c : tie.After-data_type) →
+    let a = c in
+    c.data_type.result ≡ get_or (key_here a.args.s.now a.args.at).value 14 0
 unfolding get
 byte c =
-    let a = c.before.before.before.before.before.before.before.before in
-    c.data-type.ensures
-    ∙ rw (c.before.value-at.ensures, drop-drop 14 (value_at a.args.at) a.args.s.now) (byte-here a.args.s.now a.args.at a.requires.0 14 (omega (arith, c.before.before.before.value_len.ensures)))
+    let a = c in
+    c.data_type.ensures
+    ∙ rw (c.value_at.ensures, drop-drop 14 (value_at a.args.at) a.args.s.now) (byte-here a.args.s.now a.args.at a.requires.0 14 (omega (arith, c.value_len.ensures)))
 
-pos-at-requires : tie.Need-pos-at-requires
+pos-at-requires : tie.Need-pos_at-p-requires
 pos-at-requires c κs = search rules
 
-returns : tie.Need-returns
+returns : tie.Need-returns-then-p-ne0
 returns c =
-    let a = c.before.before.before.before in
-    used-inode (key_here a.args.s.now a.args.at) _ (λ e. c.if1.true (ap (λ (p : Bpos). p.inode) c.before.before.pos-at.ensures ∙ e))
+    let a = c in
+    used-inode (key_here a.args.s.now a.args.at) _ (λ e. c.if-p-ne0.true (ap (λ (p : Bpos). p.inode) c.pos_at-p.ensures ∙ e))
 
-value-len-requires : tie.Need-value-len-requires
+value-len-requires : tie.Need-value_len-requires
 value-len-requires c κs = search rules
 
-returns-2 : tie.Need-returns-2
+returns-2 : tie.Need-returns-then-value_len-lt16
 returns-2 c =
-    let a = c.before.before.before.before.before.before in
-    used-short (key_here a.args.s.now a.args.at) _ (omega (arith, c.before.value_len.ensures))
+    let a = c in
+    used-short (key_here a.args.s.now a.args.at) _ (omega (arith, c.value_len.ensures))
 
-value-at-requires : tie.Need-value-at-requires
+value-at-requires : tie.Need-value_at-requires
 value-at-requires c κs = search rules
 
-data-type-requires : tie.Need-data-type-requires
+data-type-requires : tie.Need-data_type-requires
 data-type-requires c κs =
-    let a = c.before.before.before.before.before.before.before in
-    omega (arith, c.value-at.ensures, c.before.before.value_len.ensures, value-within a.args.s.now a.args.at a.requires.0)
+    let a = c in
+    omega (arith, c.value_at.ensures, c.value_len.ensures, value-within a.args.s.now a.args.at a.requires.0)
 
-returns-3 : tie.Need-returns-3
+returns-3 : tie.Need-returns-then-data_type-eq0
 returns-3 c =
-    let a = c.before.before.before.before.before.before.before.before.before in
-    used-free (key_here a.args.s.now a.args.at) _ (sym (byte c.before) ∙ c.if3.true)
+    let a = c in
+    used-free (key_here a.args.s.now a.args.at) _ (sym (byte c.before) ∙ c.if-data_type-eq0.true)
 
-bucket-in-requires : tie.Need-bucket-in-requires
+bucket-in-requires : tie.Need-bucket_in-requires
 bucket-in-requires c κs = search rules
 
 -- the call's start
-abbrev start : tie.After-data-type → tie.Start
+abbrev start : tie.After-data_type → tie.Start
 start c = c.before.before.before.before.before.before.before.before
 
 mark-requires : tie.Need-mark-requires
 mark-requires c κs =
     let a = start c.before.before.before in
     let k = key_here a.args.s.now a.args.at in
-    let e = c.before.before.before.before.before.before.before.before.before.pos-at.ensures in
-    let i : k.pos.inode ≡ 0 = sym (ap (λ (p : Bpos). p.inode) e) ∙ c.before.before.before.before.before.before.before.if1.false in
-    rw (c.bucket-in.ensures, e) (range_at k a.pre.1 i)
+    let e = c.pos_at-p.ensures in
+    let i : k.pos.inode ≡ 0 = sym (ap (λ (p : Bpos). p.inode) e) ∙ c.if-p-ne0.false in
+    rw (c.bucket_in.ensures, e) (range_at k a.requires.1 i)
 
-returns-4 : tie.Need-returns-4
+returns-4 : tie.Need-returns
 returns-4 c =
-    let d = c.before.before.before in
-    let a = start d.before in
+    let d = c in
+    let a = start d.before.before.before.before in
     let k = key_here a.args.s.now a.args.at in
-    let e = d.before.before.before.before.before.before.before.pos-at.ensures in
-    c.mark.ensures ∙ ap (λ (b : Bucket). with_mark a.args.bits.now b) (c.before.bucket-in.ensures ∙ ap bucket_in e)
-    ∙ used-here k _ (sym (ap (λ (p : Bpos). p.inode) e) ∙ d.before.before.before.before.before.if1.false)
-    (omega (arith, d.before.before.before.before.value_len.ensures)) (λ z. d.if3.false (byte d.before ∙ z))
+    let e = d.pos_at-p.ensures in
+    c.mark.ensures ∙ ap (λ (b : Bucket). with_mark a.args.bits.now b) (c.bucket_in.ensures ∙ ap bucket_in e)
+    ∙ used-here k _ (sym (ap (λ (p : Bpos). p.inode) e) ∙ d.if-p-ne0.false)
+    (omega (arith, d.value_len.ensures)) (λ z. d.if-data_type-eq0.false (byte d.before.before.before.before ∙ z))
 
-pub mark-key-spec : {M : Type 1} → statement M
-mark-key-spec =
+pub mark_key_spec : {M : Type 1} → statement M
+mark_key_spec =
     tie.close
     (tie.spec
     pos-at-requires

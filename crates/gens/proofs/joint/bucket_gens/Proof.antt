@@ -9,95 +9,95 @@ use native.Mathlib.Omega.{arith}
 use Rattle.gens.proofs.joint.bucket_gens.Statement.{statement}
 use Rattle.gens.proofs.joint.bucket_gens.Tie as tie
 
-abbrev invariant-loop : tie.invariant-loop
+abbrev invariant-loop : tie.invariant-loop-i
 invariant-loop out₀ s gens buckets k₀ i₀ out k i = Looking (keys_here s gens) buckets out₀ out k i
 
-abbrev decreases-loop : tie.decreases-loop
+abbrev decreases-loop : tie.decreases-loop-i
 decreases-loop out₀ s gens buckets k₀ i₀ out k i = length buckets - i
 
-abbrev start : tie.At-loop invariant-loop decreases-loop → tie.Start invariant-loop decreases-loop
+abbrev start : tie.At-loop-i invariant-loop decreases-loop → tie.Start invariant-loop decreases-loop
 start l = l.before.before.before.before.before
 
-abbrev looped : tie.After-keys-up-to invariant-loop decreases-loop → tie.At-loop invariant-loop decreases-loop
+abbrev looped : tie.After-keys_up_to-k invariant-loop decreases-loop → tie.At-loop-i invariant-loop decreases-loop
 looped c = c.before.before.before
 
-loop-holds : tie.Need-loop-init invariant-loop decreases-loop
+loop-holds : tie.Need-loop-i-init invariant-loop decreases-loop
 loop-holds c = looking-start _ _ _
 
-mul-t8 : tie.Need-overflow-mul-t8 invariant-loop decreases-loop
+mul-t8 : tie.Need-offset_bounds-buckets-i invariant-loop decreases-loop
 mul-t8 c = omega arith
 
-shared-slice-read-t11 : tie.Need-shared-slice-read-t11 invariant-loop decreases-loop
+shared-slice-read-t11 : tie.Need-bounds-buckets-i invariant-loop decreases-loop
 shared-slice-read-t11 c = omega arith
 
-keys-up-to-requires : tie.Need-keys-up-to-requires invariant-loop decreases-loop
+keys-up-to-requires : tie.Need-keys_up_to-k-requires invariant-loop decreases-loop
 keys-up-to-requires c κs =
-    let l = c.before.before in
-    let a = start l in
-    (a.pre.0.0, looking-known _ _ l.loop.invariant a.pre.1.0 c.before.loop-test.true)
+    let l = c in
+    let a = start l.before.before in
+    (a.requires.0.0, looking-known _ _ l.loop-i.invariant a.requires.1.0 c.loop-i-test.true)
 
-record-up-to-requires : tie.Need-record-up-to-requires invariant-loop decreases-loop
-record-up-to-requires c κs = let a = start (looped c) in (a.pre.0.0, a.pre.0.1, c.keys-up-to.ensures)
+record-up-to-requires : tie.Need-record_up_to-requires invariant-loop decreases-loop
+record-up-to-requires c κs = let a = start (looped c) in (a.requires.0.0, a.requires.0.1, c.keys_up_to-k.ensures)
 
-bucket-gen-requires : tie.Need-bucket-gen-requires invariant-loop decreases-loop
-bucket-gen-requires c κs = c.record-up-to.ensures.stands
+bucket-gen-requires : tie.Need-bucket_gen-requires invariant-loop decreases-loop
+bucket-gen-requires c κs = c.record_up_to.ensures.stands
 
-slice-write-out : tie.Need-slice-write-out invariant-loop decreases-loop
+slice-write-out : tie.Need-bounds-out-i invariant-loop decreases-loop
 slice-write-out c =
-    let k = c.before.before in
-    let l = looped k in
-    omega (arith, l.loop.inv.long, (start l).pre.1.1, k.before.before.loop-test.true)
+    let k = c in
+    let l = looped k.before.before in
+    omega (arith, l.loop-i.invariant.long, (start l).requires.1.1, k.loop-i-test.true)
 
-add-i : tie.Need-overflow-add-i invariant-loop decreases-loop
+add-i : tie.Need-overflow_add-i invariant-loop decreases-loop
 add-i c = omega arith
 
-loop-less : tie.Need-loop-smaller invariant-loop decreases-loop
+loop-less : tie.Need-loop-i-smaller invariant-loop decreases-loop
 loop-less c = omega arith
 
-loop-again : tie.Need-loop-preserved invariant-loop decreases-loop
+loop-again : tie.Need-loop-i-preserved invariant-loop decreases-loop
 loop-again c =
-    let k = c.before.before in
-    let l = looped k in
+    let k = c in
+    let l = looped k.before.before in
     let a = start l in
-    looking-next _ _ l.loop.inv k.keys-up-to.result c.bucket-gen.result k.before.before.loop-test.true a.pre.1.1 k.keys-up-to.ensures
-    (c.bucket-gen.ensures ∙ gen-read c.before.record-up-to.ensures)
+    looking-next _ _ l.loop-i.invariant k.keys_up_to-k.result c.bucket_gen.result k.loop-i-test.true a.requires.1.1 k.keys_up_to-k.ensures
+    (c.bucket_gen.ensures ∙ gen-read c.record_up_to.ensures)
 
-same_length : tie.Need-same-length invariant-loop decreases-loop
-same_length c = c.before.before.loop.invariant.long
+same_length : tie.Need-shape_of-out-then-i-eq0 invariant-loop decreases-loop
+same_length c = c.loop-i.invariant.long
 
-returns : tie.Need-returns invariant-loop decreases-loop
+returns : tie.Need-returns-then-i-eq0 invariant-loop decreases-loop
 returns c =
-    let l = c.before.before in
-    let a = start l in
-    looked-none _ _ l.loop.invariant a.pre.1.0 a.pre.0.1 c.before.loop-test.false c.if1.true
+    let l = c in
+    let a = start l.before.before in
+    looked-none _ _ l.loop-i.invariant a.requires.1.0 a.requires.0.1 c.loop-i-test.false c.if-i-eq0.true
 
-add-result : tie.Need-overflow-add-result invariant-loop decreases-loop
+add-result : tie.Need-overflow_add-result invariant-loop decreases-loop
 add-result c = omega arith
 
-same-length-2 : tie.Need-same-length-2 invariant-loop decreases-loop
-same-length-2 c = c.before.before.before.loop.invariant.long
+same-length-2 : tie.Need-shape_of-out-then-k-gens invariant-loop decreases-loop
+same-length-2 c = c.loop-i.invariant.long
 
 -- as many keys as places
-keys-many : (l : tie.At-loop invariant-loop decreases-loop) → length (keys_here (start l).args.s.now (start l).args.gens.now) ≡ length (start l).args.gens.now
+keys-many : (l : tie.At-loop-i invariant-loop decreases-loop) → length (keys_here (start l).args.s.now (start l).args.gens.now) ≡ length (start l).args.gens.now
 keys-many l = length-map (start l).args.gens.now (key_here (start l).args.s.now)
 
-returns-2 : tie.Need-returns-2 invariant-loop decreases-loop
+returns-2 : tie.Need-returns-then-k-gens invariant-loop decreases-loop
 returns-2 c =
-    let l = c.before.before.before in
-    let a = start l in
-    looked-past _ _ l.loop.invariant a.pre.1.0 a.pre.0.1 c.before.before.loop-test.false c.before.if1.false (omega (arith, c.if2.true, keys-many l))
+    let l = c in
+    let a = start l.before.before.before in
+    looked-past _ _ l.loop-i.invariant a.requires.1.0 a.requires.0.1 c.loop-i-test.false c.if-i-eq0.false (omega (arith, c.if-k-gens.true, keys-many l.before.before.before))
 
-same-length-3 : tie.Need-same-length-3 invariant-loop decreases-loop
-same-length-3 c = c.before.before.before.loop.invariant.long
+same-length-3 : tie.Need-shape_of-out invariant-loop decreases-loop
+same-length-3 c = c.loop-i.invariant.long
 
-returns-3 : tie.Need-returns-3 invariant-loop decreases-loop
+returns-3 : tie.Need-returns invariant-loop decreases-loop
 returns-3 c =
-    let l = c.before.before.before in
-    let a = start l in
-    looked-all _ _ l.loop.invariant a.pre.1.0 a.pre.0.1 c.before.before.loop-test.false c.before.if1.false (omega (arith, c.if2.false, keys-many l))
+    let l = c in
+    let a = start l.before.before.before in
+    looked-all _ _ l.loop-i.invariant a.requires.1.0 a.requires.0.1 c.loop-i-test.false c.if-i-eq0.false (omega (arith, c.if-k-gens.false, keys-many l.before.before.before))
 
-pub bucket-gens-spec : {M : Type 1} → statement M
-bucket-gens-spec =
+pub bucket_gens_spec : {M : Type 1} → statement M
+bucket_gens_spec =
     tie.close
     (tie.spec
     invariant-loop

@@ -10,73 +10,73 @@ use borrow.Author.Rules.{rules}
 use Rattle.gens.proofs.records.note_record.Statement.{statement}
 use Rattle.gens.proofs.records.note_record.Tie as tie
 
-abbrev start : tie.Else3 → tie.Start
+abbrev start : tie.Else-p-ge256 → tie.Start
 start c = c.before.before.before.before.before.before.before.before
 
 -- the key stands where a record does
-placed : (c : tie.Else3) →
+placed : (c : tie.Else-p-ge256) →
     let k = key_here (start c).args.s.now (start c).args.at in
     (k.pos.inode ≡ 0) × ((k.pos.snapshot ≡ 0) × (k.pos.offset < 256))
 placed c =
-    let e = c.before.before.before.before.before.before.pos-at.ensures in (
-      sym (ap (λ (p : Bpos). p.inode) e) ∙ c.before.before.before.before.if1.false,
-      (sym (ap (λ (p : Bpos). p.snapshot) e) ∙ c.before.before.if2.false, omega (arith, c.if3.false, ap (λ (p : Bpos). p.offset) e)),
+    let e = c.pos_at-p.ensures in (
+      sym (ap (λ (p : Bpos). p.inode) e) ∙ c.if-p-ne0.false,
+      (sym (ap (λ (p : Bpos). p.snapshot) e) ∙ c.if-p-ne0-2.false, omega (arith, c.if-p-ge256.false, ap (λ (p : Bpos). p.offset) e)),
     )
 
-pos-at-requires : tie.Need-pos-at-requires
+pos-at-requires : tie.Need-pos_at-p-requires
 pos-at-requires c κs = search rules
 
-returns : tie.Need-returns
+returns : tie.Need-returns-then-p-ne0
 returns c =
-    let a = c.before.before.before.before in
-    let e = c.before.before.pos-at.ensures in
-    noted-inode a.args.at (key_here a.args.s.now a.args.at) _ (λ z. c.if1.true (ap (λ (p : Bpos). p.inode) e ∙ z))
+    let a = c in
+    let e = c.pos_at-p.ensures in
+    noted-inode a.args.at (key_here a.args.s.now a.args.at) _ (λ z. c.if-p-ne0.true (ap (λ (p : Bpos). p.inode) e ∙ z))
 
-returns-2 : tie.Need-returns-2
+returns-2 : tie.Need-returns-then-p-ne0-2
 returns-2 c =
-    let a = c.before.before.before.before.before.before in
-    let e = c.before.before.before.before.pos-at.ensures in
-    noted-snapshot a.args.at (key_here a.args.s.now a.args.at) _ (λ z. c.if2.true (ap (λ (p : Bpos). p.snapshot) e ∙ z))
+    let a = c in
+    let e = c.pos_at-p.ensures in
+    noted-snapshot a.args.at (key_here a.args.s.now a.args.at) _ (λ z. c.if-p-ne0-2.true (ap (λ (p : Bpos). p.snapshot) e ∙ z))
 
-returns-3 : tie.Need-returns-3
+returns-3 : tie.Need-returns-then-p-ge256
 returns-3 c =
-    let a = c.before.before.before.before.before.before.before.before in
-    let e = c.before.before.before.before.before.before.pos-at.ensures in
-    noted-past a.args.at (key_here a.args.s.now a.args.at) _ (omega (arith, c.if3.true, ap (λ (p : Bpos). p.offset) e))
+    let a = c in
+    let e = c.pos_at-p.ensures in
+    noted-past a.args.at (key_here a.args.s.now a.args.at) _ (omega (arith, c.if-p-ge256.true, ap (λ (p : Bpos). p.offset) e))
 
-type-at-requires : tie.Need-type-at-requires
+type-at-requires : tie.Need-type_at-requires
 type-at-requires c κs = search rules
 
-mul-table : tie.Need-overflow-mul-table
+mul-table : tie.Need-offset_bounds-table-o
 mul-table c = search rules
 
-element-write-table : tie.Need-element-write-table
+element-write-table : tie.Need-bounds-table-o
 element-write-table c = search rules
 
-mul-table-2 : tie.Need-overflow-mul-table-2
+mul-table-2 : tie.Need-offset_bounds-table-o-else-type_at-eq30
 mul-table-2 c = search rules
 
-element-write-table-2 : tie.Need-element-write-table-2
+element-write-table-2 : tie.Need-bounds-table-o-else-type_at-eq30
 element-write-table-2 c = search rules
 
-returns-4 : tie.Need-returns-4
+returns-4 : tie.Need-returns-then-type_at-eq30
 returns-4 c =
-    let d = c.before.before in
-    let a = start d in
-    let e = d.before.before.before.before.before.before.pos-at.ensures in
+    let d = c in
+    let a = start d.before.before.before in
+    let e = d.pos_at-p.ensures in
     ap (λ (o : ℕ). set a.args.table.now o a.args.at) (ap (λ (p : Bpos). p.offset) e)
-    ∙ noted-record a.args.at (key_here a.args.s.now a.args.at) _ (placed d).0 (placed d).1.0 (placed d).1.1 (sym c.before.type_at.ensures ∙ c.if4.true)
+    ∙ noted-record a.args.at (key_here a.args.s.now a.args.at) _ (placed d.before.before.before).0 (placed d.before.before.before).1.0 (placed d.before.before.before).1.1 (sym c.type_at.ensures ∙ c.if-type_at-eq30.true)
 
-returns-5 : tie.Need-returns-5
+returns-5 : tie.Need-returns-else-type_at-eq30
 returns-5 c =
-    let d = c.before.before in
-    let a = start d in
-    let e = d.before.before.before.before.before.before.pos-at.ensures in
+    let d = c in
+    let a = start d.before.before.before in
+    let e = d.pos_at-p.ensures in
     ap (λ (o : ℕ). set a.args.table.now o 0) (ap (λ (p : Bpos). p.offset) e)
-    ∙ noted_other a.args.at (key_here a.args.s.now a.args.at) _ (placed d).0 (placed d).1.0 (placed d).1.1 (λ z. c.if4.false (c.before.type_at.ensures ∙ z))
+    ∙ noted_other a.args.at (key_here a.args.s.now a.args.at) _ (placed d.before.before.before).0 (placed d.before.before.before).1.0 (placed d.before.before.before).1.1 (λ z. c.if-type_at-eq30.false (c.type_at.ensures ∙ z))
 
-pub note-record-spec : {M : Type 1} → statement M
-note-record-spec =
+pub note_record_spec : {M : Type 1} → statement M
+note_record_spec =
     tie.close
     (tie.spec
     pos-at-requires

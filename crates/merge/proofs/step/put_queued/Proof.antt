@@ -6,44 +6,44 @@ use Rattle.merge.proofs.SectionLaws.{put_one}
 use Rattle.merge.proofs.step.put_queued.Statement.{statement}
 use Rattle.merge.proofs.step.put_queued.Tie as tie
 
-pos-at-requires : tie.Need-pos-at-requires
+pos-at-requires : tie.Need-pos_at-pos-requires
 pos-at-requires c κs = search rules
 
-type-at-requires : tie.Need-type-at-requires
+type-at-requires : tie.Need-type_at-ty-requires
 type-at-requires c κs = search rules
 
-put-below-requires : tie.Need-put-below-requires
+put-below-requires : tie.Need-put_below-s-requires
 put-below-requires c κs = search rules
 
-skip-at-requires : tie.Need-skip-at-requires
+skip-at-requires : tie.Need-skip_at-at-requires
 skip-at-requires c κs = search rules
 
-put-shown-requires : tie.Need-put-shown-requires
+put-shown-requires : tie.Need-put_shown-p-requires
 put-shown-requires c κs = search rules
 
-add-shown-requires : tie.Need-add-shown-requires
+add-shown-requires : tie.Need-add_shown-count-requires
 add-shown-requires c κs = search rules
 
-same_length : tie.Need-same-length
+same_length : tie.Need-shape_of-out
 same_length c = search rules
 
 returns : tie.Need-returns
 returns c =
-    let d = c.before.before.before in
-    let k = d.before.before in
-    let b = k.before.before.before in
-    let y = b.before.before in
-    let e = y.before in
-    let a = e.before.before.before.before.before.args in
+    let d = c in
+    let k = d in
+    let b = k in
+    let y = b in
+    let e = y in
+    let a = e.args in
     let k₀ = entry_from a.section a.list.now a.o in
     put_one k₀
-    (rw e.pos-at.ensures at b.put-below.ensures)
-    (rw e.pos-at.ensures at k.skip_at.ensures)
-    d.put-shown.ensures
-    (rw (count-shown a.section k₀, ← e.pos-at.ensures, ← y.type_at.ensures) c.add-shown.ensures)
+    (rw e.pos_at-pos.ensures at b.put_below-s.ensures)
+    (rw e.pos_at-pos.ensures at k.skip_at-at.ensures)
+    d.put_shown-p.ensures
+    (rw (count-shown a.section k₀, ← e.pos_at-pos.ensures, ← y.type_at-ty.ensures) c.add_shown-count.ensures)
 
-pub put-queued-spec : {M : Type 1} → statement M
-put-queued-spec =
+pub put_queued_spec : {M : Type 1} → statement M
+put_queued_spec =
     tie.close
     (tie.spec
     pos-at-requires

@@ -8,7 +8,7 @@ generation-requires : tie.Need-generation-requires
 generation-requires c κs = search rules
 
 returns : tie.Need-returns
-returns c = let a = c.before.before.args in taken_is a.s.now a.at c.generation.ensures
+returns c = let a = c.args in taken_is a.s.now a.at c.generation.ensures
 
-pub gen-taken-spec : {M : Type 1} → statement M
-gen-taken-spec = tie.close (tie.spec generation-requires returns)
+pub gen_taken_spec : {M : Type 1} → statement M
+gen_taken_spec = tie.close (tie.spec generation-requires returns)

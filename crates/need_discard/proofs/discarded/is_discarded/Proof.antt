@@ -13,90 +13,90 @@ use Rattle.need_discard.proofs.discarded.is_discarded.Statement.{statement}
 use Rattle.need_discard.proofs.discarded.is_discarded.Tie as tie
 
 -- the call's start, and the key's position
-abbrev start : tie.After-pos-at → tie.Start
+abbrev start : tie.After-pos_at-pos → tie.Start
 start c = c.before.before.before.before.before.before
 
-abbrev pos : tie.After-value-at → tie.After-pos-at
+abbrev pos : tie.After-value_at-value → tie.After-pos_at-pos
 pos v = v.before.before.before.before.before
 
-type-at-requires : tie.Need-type-at-requires
+type-at-requires : tie.Need-type_at-requires
 type-at-requires c κs = search rules
 
-returns : tie.Need-returns
-returns c = let a = c.before.before.before.before.before.args in other-type a.s.now a.needs.now a.o (λ e. c.if1.true (c.before.type_at.ensures ∙ e))
+returns : tie.Need-returns-then-type_at-ne27
+returns c = let a = c.args in other-type a.s.now a.needs.now a.o (λ e. c.if-type_at-ne27.true (c.type_at.ensures ∙ e))
 
-pos-at-requires : tie.Need-pos-at-requires
+pos-at-requires : tie.Need-pos_at-pos-requires
 pos-at-requires c κs = search rules
 
-returns-2 : tie.Need-returns-2
+returns-2 : tie.Need-returns-then-pos-ne0
 returns-2 c =
     let a = (start c.before.before).args in
-    other-inode a.s.now a.needs.now a.o (λ e. c.if2.true (ap (λ (p : Bpos). p.inode) c.before.before.pos-at.ensures ∙ e))
+    other-inode a.s.now a.needs.now a.o (λ e. c.if-pos-ne0.true (ap (λ (p : Bpos). p.inode) c.pos_at-pos.ensures ∙ e))
 
-value-len-requires : tie.Need-value-len-requires
+value-len-requires : tie.Need-value_len-requires
 value-len-requires c κs = search rules
 
-returns-3 : tie.Need-returns-3
+returns-3 : tie.Need-returns-then-value_len-lt56
 returns-3 c =
     let a = (start c.before.before.before.before).args in
-    short-value a.s.now a.needs.now a.o (omega (arith, c.before.value_len.ensures))
+    short-value a.s.now a.needs.now a.o (omega (arith, c.value_len.ensures))
 
-value-at-requires : tie.Need-value-at-requires
+value-at-requires : tie.Need-value_at-value-requires
 value-at-requires c κs = search rules
 
 -- the value is long enough, and so lies in the list
-long : (c : tie.After-value-at) → let a = (start (pos c)).args in 56 ≤ length (key_here a.s.now a.o).value
-long c = omega (arith, c.before.before.value_len.ensures, c.before.if3.false)
+long : (c : tie.After-value_at-value) → let a = (start (pos c)).args in 56 ≤ length (key_here a.s.now a.o).value
+long c = omega (arith, c.value_len.ensures, c.if-value_len-lt56.false)
 
-ends : (c : tie.After-value-at) → c.value-at.result + 56 ≤ length (start (pos c)).args.s.now
+ends : (c : tie.After-value_at-value) → c.value_at-value.result + 56 ≤ length (start (pos c)).args.s.now
 ends c =
     let a = start (pos c) in
-    value-ends a.args.s.now a.args.needs.now a.args.o a.pre.0.kept (long c) c.value-at.ensures
+    value-ends a.args.s.now a.args.needs.now a.args.o a.requires.0.kept (long c) c.value_at-value.ensures
 
-data-type-requires : tie.Need-data-type-requires
+data-type-requires : tie.Need-data_type-requires
 data-type-requires c κs = omega (arith, ends c)
 
-returns-4 : tie.Need-returns-4
+returns-4 : tie.Need-returns-then-data_type-ne9
 returns-4 c =
-    let v = c.before.before in
-    let a = start (pos v) in
-    other-data a.args.s.now a.args.needs.now a.args.o a.pre.0.kept (long v) v.value-at.ensures c.before.data-type.ensures c.if4.true
+    let v = c in
+    let a = start (pos v.before.before) in
+    other-data a.args.s.now a.args.needs.now a.args.o a.requires.0.kept (long v.before.before) v.value_at-value.ensures c.data_type.ensures c.if-data_type-ne9.true
 
-gen-taken-requires : tie.Need-gen-taken-requires
+gen-taken-requires : tie.Need-gen_taken-requires
 gen-taken-requires c κs = omega (arith, ends c.before.before)
 
-returns-5 : tie.Need-returns-5
+returns-5 : tie.Need-returns-then-not-gen_taken
 returns-5 c =
-    let v = c.before.before.before.before in
-    let a = start (pos v) in
-    gen-left a.args.s.now a.args.needs.now a.args.o a.pre.0.kept (long v) v.value-at.ensures c.before.gen-taken.ensures (not-true _ c.if5.true)
+    let v = c in
+    let a = start (pos v.before.before.before.before) in
+    gen-left a.args.s.now a.args.needs.now a.args.o a.requires.0.kept (long v.before.before.before.before) v.value_at-value.ensures c.gen_taken.ensures (not-true _ c.if-not-gen_taken.true-raw)
 
-bucket-in-requires : tie.Need-bucket-in-requires
+bucket-in-requires : tie.Need-bucket_in-requires
 bucket-in-requires c κs = search rules
 
-is-waiting-requires : tie.Need-is-waiting-requires
+is-waiting-requires : tie.Need-is_waiting-requires
 is-waiting-requires c κs =
-    let v = c.before.before.before.before.before in
-    let p = (pos v).pos-at.ensures in
-    let a = (start (pos v)).requires in
-    (a.1, rw (c.bucket-in.ensures ∙ ap bucket_in p) (a.0.below (sym (ap (λ (p : Bpos). p.inode) p) ∙ v.before.before.before.if2.false)))
+    let v = c in
+    let p = (pos v.before.before.before.before.before).pos_at-pos.ensures in
+    let a = (start (pos v.before.before.before.before.before)).requires in
+    (a.1, rw (c.bucket_in.ensures ∙ ap bucket_in p) (a.0.below (sym (ap (λ (p : Bpos). p.inode) p) ∙ v.if-pos-ne0.false)))
 
-returns-6 : tie.Need-returns-6
+returns-6 : tie.Need-returns
 returns-6 c =
-    let v = c.before.before.before.before.before.before in
-    let a = start (pos v) in
-    let p = (pos v).pos-at.ensures in
-    all-passed a.args.s.now a.args.needs.now a.args.o a.pre.0.kept (long v) v.value-at.ensures
-    (sym (pos v).before.before.type_at.ensures ∙ (pos v).before.if1.false)
-    (sym (ap (λ (p : Bpos). p.inode) p) ∙ v.before.before.before.if2.false)
-    c.before.before.before.before.before.data-type.ensures
-    c.before.before.before.before.if4.false
-    c.before.before.before.gen-taken.ensures
-    (not-false _ c.before.before.if5.false)
-    (rw (c.before.bucket-in.ensures ∙ ap bucket_in p) at c.is-waiting.ensures)
+    let v = c in
+    let a = start (pos v.before.before.before.before.before.before) in
+    let p = (pos v.before.before.before.before.before.before).pos_at-pos.ensures in
+    all-passed a.args.s.now a.args.needs.now a.args.o a.requires.0.kept (long v.before.before.before.before.before.before) v.value_at-value.ensures
+    (sym (pos v.before.before.before.before.before.before).before.before.type_at.ensures ∙ (pos v.before.before.before.before.before.before).before.if1.false)
+    (sym (ap (λ (p : Bpos). p.inode) p) ∙ v.if-pos-ne0.false)
+    c.data_type.ensures
+    c.if-data_type-ne9.false
+    c.gen_taken.ensures
+    (not-false _ c.if-not-gen_taken.false-raw)
+    (rw (c.bucket_in.ensures ∙ ap bucket_in p) at c.is_waiting.ensures)
 
-pub is-discarded-spec : {M : Type 1} → statement M
-is-discarded-spec =
+pub is_discarded_spec : {M : Type 1} → statement M
+is_discarded_spec =
     tie.close
     (tie.spec
     type-at-requires

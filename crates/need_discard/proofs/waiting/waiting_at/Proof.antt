@@ -7,32 +7,32 @@ use borrow.Author.Rules.{rules}
 use Rattle.need_discard.proofs.waiting.waiting_at.Statement.{statement}
 use Rattle.need_discard.proofs.waiting.waiting_at.Tie as tie
 
-entry-of-requires : tie.Need-entry-of-requires
+entry-of-requires : tie.Need-entry_of-e-requires
 entry-of-requires c κs = search rules
 
-returns : tie.Need-returns
-returns c = waits-not c.before.entry_of.ensures c.if1.true
+returns : tie.Need-returns-then-e-eq0
+returns c = waits-not c.entry_of-e.ensures c.if-e-eq0.true
 
-sub-pos-at : tie.Need-overflow-sub-pos-at
+sub-pos-at : tie.Need-overflow_sub-e
 sub-pos-at c = search rules
 
-mul-pos-at : tie.Need-overflow-mul-pos-at
-mul-pos-at c = omega (arith, entry_place c.before.entry_of.ensures c.if1.false)
+mul-pos-at : tie.Need-offset_bounds-needs-e
+mul-pos-at c = omega (arith, entry_place c.entry_of-e.ensures c.if-e-eq0.false)
 
-shared-slice-read-pos-at : tie.Need-shared-slice-read-pos-at
-shared-slice-read-pos-at c = entry_place c.before.before.entry_of.ensures c.before.if1.false
+shared-slice-read-pos-at : tie.Need-bounds-needs-e
+shared-slice-read-pos-at c = entry_place c.entry_of-e.ensures c.if-e-eq0.false
 
-cast-pos-at : tie.Need-overflow-cast-pos-at
-cast-pos-at c = omega (arith, c.shared-slice-known4.given (c.before.before.entry_of.result - 1))
+cast-pos-at : tie.Need-overflow_cast-needs
+cast-pos-at c = omega (arith, c.shared_slice_known-4-1.given (c.entry_of-e.result - 1))
 
-pos-at-requires : tie.Need-pos-at-requires
-pos-at-requires c κs = (all-nth 0 c.before.before.before.before.before.before.requires.0.kept _ (entry_place c.before.before.entry_of.ensures c.before.if1.false)).kept
+pos-at-requires : tie.Need-pos_at-requires
+pos-at-requires c κs = (all-nth 0 c.requires.0.kept _ (entry_place c.entry_of-e.ensures c.if-e-eq0.false)).kept
 
-returns-2 : tie.Need-returns-2
-returns-2 c = waits-at c.before.before.before.entry_of.ensures c.before.before.if1.false c.pos-at.ensures
+returns-2 : tie.Need-returns
+returns-2 c = waits-at c.entry_of-e.ensures c.if-e-eq0.false c.pos_at.ensures
 
-pub waiting-at-spec : {M : Type 1} → statement M
-waiting-at-spec =
+pub waiting_at_spec : {M : Type 1} → statement M
+waiting_at_spec =
     tie.close
     (tie.spec
     entry-of-requires

@@ -11,39 +11,39 @@ use borrow.Author.Rules.{rules}
 use Rattle.next_fit.proofs.needed.lay_out.Statement.{statement}
 use Rattle.next_fit.proofs.needed.lay_out.Tie as tie
 
-returns : tie.Need-returns
+returns : tie.Need-returns-then-n-eq0
 returns c =
-    let a = c.before.before.before.before in
+    let a = c in
     let ps = (read_call a.args.s.now).pieces in
-    (none-need a.args.bucket ps (sym a.requires.0.count ∙ c.if1.true), none-laid a.args.bucket _ ps a.args.slots.now c.if1.true a.requires.0.count)
+    (none-need a.args.bucket ps (sym a.requires.0.count ∙ c.if-n-eq0.true), none-laid a.args.bucket _ ps a.args.slots.now c.if-n-eq0.true a.requires.0.count)
 
-read-pieces-requires : tie.Need-read-pieces-requires
+read-pieces-requires : tie.Need-read_pieces-records-requires
 read-pieces-requires c κs = search rules
 
-layout-of-requires : tie.Need-layout-of-requires
+layout-of-requires : tie.Need-layout_of-o-requires
 layout-of-requires c κs = search rules
 
-add-result : tie.Need-overflow-add-result
+add-result : tie.Need-overflow_add-result
 add-result c =
-    let l = c.before.before.before in
-    let a = l.before.before.before.before.before.before.before in
-    let few = lay-few a.args.bucket (length a.args.pieces.now) l.before.before.read-pieces.result in
-    omega (arith, ap (λ (o : Open). o.index) l.layout_of.ensures.0, few, a.requires.1.0)
+    let l = c in
+    let a = l in
+    let few = lay-few a.args.bucket (length a.args.pieces.now) l.read_pieces-records.result in
+    omega (arith, ap (λ (o : Open). o.index) l.layout_of-o.ensures.0, few, a.requires.1.0)
 
-same_length : tie.Need-same-length
+same_length : tie.Need-shape_of-slots
 same_length c = search rules
 
-returns-2 : tie.Need-returns-2
+returns-2 : tie.Need-returns
 returns-2 c =
-    let l = c.before.before.before in
-    let a = l.before.before.before.before.before.before.before in
+    let l = c in
+    let a = l in
     let ps = (read_call a.args.s.now).pieces in
-    let read = l.before.before.read-pieces.ensures in
-    let records = take (length a.args.pieces.now) l.before.before.read-pieces.result in (
-      ap (λ (o : Open). o.index + 1) l.layout_of.ensures.0
-          ∙ some-need a.args.bucket records ps read (omega (arith, a.requires.0.count, l.before.before.before.if1.false)),
-      l.layout_of.ensures.1 ∙ same-slots a.args.bucket records ps read,
+    let read = l.read_pieces-records.ensures in
+    let records = take (length a.args.pieces.now) l.read_pieces-records.result in (
+      ap (λ (o : Open). o.index + 1) l.layout_of-o.ensures.0
+          ∙ some-need a.args.bucket records ps read (omega (arith, a.requires.0.count, l.if-n-eq0.false)),
+      l.layout_of-o.ensures.1 ∙ same-slots a.args.bucket records ps read,
     )
 
-pub lay-out-spec : {M : Type 1} → statement M
-lay-out-spec = tie.close (tie.spec returns read-pieces-requires layout-of-requires add-result same_length returns-2)
+pub lay_out_spec : {M : Type 1} → statement M
+lay_out_spec = tie.close (tie.spec returns read-pieces-requires layout-of-requires add-result same_length returns-2)

@@ -12,47 +12,47 @@ use Rattle.next_fit.proofs.pieces.fit_piece.Statement.{statement}
 use Rattle.next_fit.proofs.pieces.fit_piece.Tie as tie
 
 -- the slot is within its bounds
-high : (k : tie.After-next-fit) → k.next-fit.result.index ≤ k.before.before.before.args.o.index + 1
+high : (k : tie.After-next_fit-slot) → k.next-fit.result.index ≤ k.before.before.before.args.o.index + 1
 high k = fit-high _ _ _ _ (slot_in k.next-fit.result) k.next-fit.ensures
 
-low : (k : tie.After-next-fit) → k.next-fit.result.offset ≤ k.before.before.before.args.o.used
+low : (k : tie.After-next_fit-slot) → k.next-fit.result.offset ≤ k.before.before.before.args.o.used
 low k = fit-offset _ _ _ _ (slot_in k.next-fit.result) k.next-fit.ensures
 
-cast-stored : tie.Need-overflow-cast-stored
+cast-stored : tie.Need-overflow_cast-stored
 cast-stored c = search rules
 
-next-fit-requires : tie.Need-next-fit-requires
+next-fit-requires : tie.Need-next_fit-slot-requires
 next-fit-requires c κs = search rules
 
-mul-slots : tie.Need-overflow-mul-slots
-mul-slots c = omega (arith, high c, c.before.before.before.requires.1)
+mul-slots : tie.Need-overflow_mul-slots
+mul-slots c = omega (arith, high c, c.requires.1)
 
-add-slots : tie.Need-overflow-add-slots
-add-slots c = let a = c.before.before.before.before in omega (arith, high c.before, low c.before, a.requires.1, a.requires.2)
+add-slots : tie.Need-overflow_add-slots
+add-slots c = let a = c in omega (arith, high c.before, low c.before, a.requires.1, a.requires.2)
 
-cast-slots : tie.Need-overflow-cast-slots
-cast-slots c = let a = c.before.before.before.before in omega (arith, high c.before, low c.before, a.requires.1, a.requires.2)
+cast-slots : tie.Need-overflow_cast-slots
+cast-slots c = let a = c in omega (arith, high c.before, low c.before, a.requires.1, a.requires.2)
 
-mul-slots-2 : tie.Need-overflow-mul-slots-2
+mul-slots-2 : tie.Need-offset_bounds-slots-i
 mul-slots-2 c = search rules
 
-slice-write-slots : tie.Need-slice-write-slots
+slice-write-slots : tie.Need-bounds-slots-i
 slice-write-slots c = search rules
 
-add-t8 : tie.Need-overflow-add-t8
-add-t8 c = let a = c.before.before.before.before.before in omega (arith, low c.before.before, a.requires.2)
+add-t8 : tie.Need-overflow_add-result
+add-t8 c = let a = c in omega (arith, low c.before.before, a.requires.2)
 
-same_length : tie.Need-same-length
+same_length : tie.Need-shape_of-slots
 same_length c = search rules
 
 returns : tie.Need-returns
 unfolding fit_piece slot_number
 returns c =
-    let k = c.before.before.next-fit in
-    let a = c.before.before.before.before.before.args in
+    let k = c.next_fit-slot in
+    let a = c.args in
     let e = sym (slot_is a.bucket a.o a.p (slot_in k.result) k.ensures) in
     (ap (λ (t : Slot). record { index = t.index; used = t.offset + a.p.stored }) e, ap (λ (t : Slot). set a.slots.now a.i (t.index * 65536 + t.offset)) e)
 
-pub fit-piece-spec : {M : Type 1} → statement M
-fit-piece-spec =
+pub fit_piece_spec : {M : Type 1} → statement M
+fit_piece_spec =
     tie.close (tie.spec cast-stored next-fit-requires mul-slots add-slots cast-slots mul-slots-2 slice-write-slots add-t8 same_length returns)

@@ -5,17 +5,17 @@ use borrow.Author.Rules.{rules}
 use Rattle.next_fit.proofs.slot.next_fit.Statement.{statement}
 use Rattle.next_fit.proofs.slot.next_fit.Tie as tie
 
-add-if1 : tie.Need-overflow-add-if1
+add-if1 : tie.Need-overflow_add-o
 add-if1 c = search rules
 
-returns : tie.Need-returns
-returns c = let a = c.before.before.args in fits a.bucket a.o.index a.o.used a.stored (omega (arith, c.if1.true))
+returns : tie.Need-returns-then-o-stored
+returns c = let a = c.args in fits a.bucket a.o.index a.o.used a.stored (omega (arith, c.if-o-stored.true))
 
-add-t6 : tie.Need-overflow-add-t6
+add-t6 : tie.Need-overflow_add-result
 add-t6 c = search rules
 
-returns-2 : tie.Need-returns-2
-returns-2 c = let a = c.before.before.before.args in exceeds a.bucket a.o.index a.o.used a.stored (omega (arith, c.before.if1.false))
+returns-2 : tie.Need-returns
+returns-2 c = let a = c.args in exceeds a.bucket a.o.index a.o.used a.stored (omega (arith, c.if-o-stored.false))
 
-pub next-fit-spec : {M : Type 1} → statement M
-next-fit-spec = tie.close (tie.spec add-if1 returns add-t6 returns-2)
+pub next_fit_spec : {M : Type 1} → statement M
+next_fit_spec = tie.close (tie.spec add-if1 returns add-t6 returns-2)

@@ -6,18 +6,18 @@ use borrow.Author.Rules.{rules}
 use Rattle.next_fit.proofs.slot.slot_at.Statement.{statement}
 use Rattle.next_fit.proofs.slot.slot_at.Tie as tie
 
-mul-n : tie.Need-overflow-mul-n
+mul-n : tie.Need-offset_bounds-slots-i
 mul-n c = search rules
 
-shared-slice-read-n : tie.Need-shared-slice-read-n
+shared-slice-read-n : tie.Need-bounds-slots-i
 shared-slice-read-n c = search rules
 
-cast-n : tie.Need-overflow-cast-n
-cast-n c = omega (arith, c.shared-slice-known.given c.before.args.i)
+cast-n : tie.Need-overflow_cast-n
+cast-n c = omega (arith, c.shared_slice_known-1.given c.args.i)
 
 returns : tie.Need-returns
 unfolding slot_of
 returns c = refl
 
-pub slot-at-spec : {M : Type 1} → statement M
-slot-at-spec = tie.close (tie.spec mul-n shared-slice-read-n cast-n returns)
+pub slot_at_spec : {M : Type 1} → statement M
+slot_at_spec = tie.close (tie.spec mul-n shared-slice-read-n cast-n returns)

@@ -12,49 +12,49 @@ use Rattle.release_sums.proofs.FreedLaws.{freeds-next, freeds-none}
 use Rattle.release_sums.proofs.requests.all_freed_ok.Statement.{statement}
 use Rattle.release_sums.proofs.requests.all_freed_ok.Tie as tie
 
-abbrev invariant-loop : tie.invariant-loop
+abbrev invariant-loop : tie.invariant-loop-i
 invariant-loop s requests sectors i₀ i = (i ≤ length requests) × (all_of (freed_ok sectors) (drop i (freeds_in s requests)) ≡ all_of (freed_ok sectors) (freeds_in s requests))
 
-abbrev decreases-loop : tie.decreases-loop
+abbrev decreases-loop : tie.decreases-loop-i
 decreases-loop s requests sectors i₀ i = length requests - i
 
-loop-holds : tie.Need-loop-init invariant-loop decreases-loop
+loop-holds : tie.Need-loop-i-init invariant-loop decreases-loop
 loop-holds c = (omega arith, refl)
 
-freed-at-requires : tie.Need-freed-at-requires invariant-loop decreases-loop
-freed-at-requires c κs = (c.before.before.before.before.requires.0, omega arith)
+freed-at-requires : tie.Need-freed_at-r-requires invariant-loop decreases-loop
+freed-at-requires c κs = (c.requires.0, omega arith)
 
-freed-ok-requires : tie.Need-freed-ok-requires invariant-loop decreases-loop
-freed-ok-requires c κs = c.before.before.before.before.before.requires.1
+freed-ok-requires : tie.Need-freed_ok-requires invariant-loop decreases-loop
+freed-ok-requires c κs = c.requires.1
 
-returns : tie.Need-returns invariant-loop decreases-loop
+returns : tie.Need-returns-then-not-freed_ok invariant-loop decreases-loop
 returns c =
-    let l = c.before.before.before.before in
-    let a = l.before.before.before in
-    let e = freeds-next a.args.s.now a.args.requests.now l.loop.i a.requires.0 (omega arith) c.before.before.freed-at.ensures in
-    sym (all-of-stop (freed_ok a.args.sectors) e (sym c.before.freed-ok.ensures ∙ not-true _ c.if1.true)) ∙ l.loop.invariant.1
+    let l = c in
+    let a = l in
+    let e = freeds-next a.args.s.now a.args.requests.now l.loop-i.i a.requires.0 (omega arith) c.freed_at-r.ensures in
+    sym (all-of-stop (freed_ok a.args.sectors) e (sym c.freed_ok.ensures ∙ not-true _ c.if-not-freed_ok.true-raw)) ∙ l.loop-i.invariant.1
 
-add-i : tie.Need-overflow-add-i invariant-loop decreases-loop
+add-i : tie.Need-overflow_add-i invariant-loop decreases-loop
 add-i c = omega arith
 
-loop-less : tie.Need-loop-smaller invariant-loop decreases-loop
+loop-less : tie.Need-loop-i-smaller invariant-loop decreases-loop
 loop-less c = omega arith
 
-loop-again : tie.Need-loop-preserved invariant-loop decreases-loop
+loop-again : tie.Need-loop-i-preserved invariant-loop decreases-loop
 loop-again c =
-    let l = c.before.before.before.before in
-    let a = l.before.before.before in
-    let e = freeds-next a.args.s.now a.args.requests.now l.loop.i a.requires.0 (omega arith) c.before.before.freed-at.ensures in
-    (omega arith, all-of-next (freed_ok a.args.sectors) e (sym c.before.freed-ok.ensures ∙ not-false _ c.if1.false) ∙ l.loop.invariant.1)
+    let l = c in
+    let a = l in
+    let e = freeds-next a.args.s.now a.args.requests.now l.loop-i.i a.requires.0 (omega arith) c.freed_at-r.ensures in
+    (omega arith, all-of-next (freed_ok a.args.sectors) e (sym c.freed_ok.ensures ∙ not-false _ c.if-not-freed_ok.false-raw) ∙ l.loop-i.invariant.1)
 
-returns-2 : tie.Need-returns-2 invariant-loop decreases-loop
+returns-2 : tie.Need-returns invariant-loop decreases-loop
 returns-2 c =
-    let l = c.before in
-    let a = l.before.before.before in
-    sym (all-of-none (freed_ok a.args.sectors) (freeds-none a.args.s.now a.args.requests.now l.loop.i a.requires.0 (omega arith))) ∙ l.loop.invariant.1
+    let l = c in
+    let a = l in
+    sym (all-of-none (freed_ok a.args.sectors) (freeds-none a.args.s.now a.args.requests.now l.loop-i.i a.requires.0 (omega arith))) ∙ l.loop-i.invariant.1
 
-pub all-freed-ok-spec : {M : Type 1} → statement M
-all-freed-ok-spec =
+pub all_freed_ok_spec : {M : Type 1} → statement M
+all_freed_ok_spec =
     tie.close
     (tie.spec
     invariant-loop

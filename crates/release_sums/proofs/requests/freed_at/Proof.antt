@@ -5,23 +5,23 @@ use borrow.Author.Rules.{rules}
 use Rattle.release_sums.proofs.requests.freed_at.Statement.{statement}
 use Rattle.release_sums.proofs.requests.freed_at.Tie as tie
 
-mul-read-freed : tie.Need-overflow-mul-read-freed
+mul-read-freed : tie.Need-offset_bounds-requests-i
 mul-read-freed c = search rules
 
-shared-slice-read-read-freed : tie.Need-shared-slice-read-read-freed
+shared-slice-read-read-freed : tie.Need-bounds-requests-i
 shared-slice-read-read-freed c = search rules
 
-cast-read-freed : tie.Need-overflow-cast-read-freed
-cast-read-freed c = omega (arith, c.shared-slice-known3.given c.before.before.before.args.i)
+cast-read-freed : tie.Need-overflow_cast-requests
+cast-read-freed c = omega (arith, c.shared_slice_known-3-1.given c.args.i)
 
-read-freed-requires : tie.Need-read-freed-requires
-read-freed-requires c κs = let a = c.before.before.before in omega (arith, (a.requires.0.at a.args.i a.requires.1).within)
+read-freed-requires : tie.Need-read_freed-requires
+read-freed-requires c κs = let a = c in omega (arith, (a.requires.0.at a.args.i a.requires.1).within)
 
 returns : tie.Need-returns
-returns c = let a = c.before.before.before.before in c.read_freed.ensures ∙ (a.requires.0.at a.args.i a.requires.1).is
+returns c = let a = c in c.read_freed.ensures ∙ (a.requires.0.at a.args.i a.requires.1).is
 
-pub freed-at-spec : {M : Type 1} → statement M
-freed-at-spec =
+pub freed_at_spec : {M : Type 1} → statement M
+freed_at_spec =
     tie.close
     (tie.spec
     mul-read-freed

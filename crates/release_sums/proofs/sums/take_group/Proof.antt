@@ -10,93 +10,93 @@ use Rattle.release_sums.proofs.TakeLaws.{Taking, taking-starts, taking-length, t
 use Rattle.release_sums.proofs.sums.take_group.Statement.{statement}
 use Rattle.release_sums.proofs.sums.take_group.Tie as tie
 
-abbrev invariant-loop : tie.invariant-loop
+abbrev invariant-loop : tie.invariant-loop-b
 invariant-loop sums₀ from buckets₀ freed₀ n end n₀ b₀ sums buckets freed n' b = Taking (summed_from 64 (bucket_is from) sums₀) (from + 64) sums₀ buckets₀ freed₀ n sums buckets freed n' b × (length buckets ≡ length buckets₀) × (length freed ≡ length freed₀)
 
-abbrev decreases-loop : tie.decreases-loop
+abbrev decreases-loop : tie.decreases-loop-b
 decreases-loop sums₀ from buckets₀ freed₀ n end n₀ b₀ sums buckets freed n' b = from + 64 - b
 
 -- the group ends within the sums
 long : (c : tie.Start invariant-loop decreases-loop) → c.args.from + 64 ≤ length c.args.sums.now
 long c = omega arith
 
-size : (c : tie.At-loop invariant-loop decreases-loop) → length c.loop.sums ≡ length c.before.args.sums.now
-size c = taking-length c.loop.invariant.0 (long c.before)
+size : (c : tie.At-loop-b invariant-loop decreases-loop) → length c.loop-b.sums ≡ length c.args.sums.now
+size c = taking-length c.loop-b.invariant.0 (long c.before)
 
-room : (c : tie.Then1 invariant-loop decreases-loop) → c.before.before.before.loop.n < length c.before.before.before.before.args.buckets.now
+room : (c : tie.Then-x-gt0 invariant-loop decreases-loop) → c.loop-b.n < length c.args.buckets.now
 room c =
-    let l = c.before.before.before in
-    omega (arith, taking-room l.loop.invariant.0 (long l.before) c.before.before.loop-test.true c.if1.true, l.before.requires.1.0)
+    let l = c in
+    omega (arith, taking-room l.loop-b.invariant.0 (long l.before.before.before.before) c.loop-b-test.true c.if-x-gt0.true, l.requires.1.0)
 
-add-end : tie.Need-overflow-add-end invariant-loop decreases-loop
+add-end : tie.Need-overflow_add-end invariant-loop decreases-loop
 add-end c = omega arith
 
-loop-holds : tie.Need-loop-init invariant-loop decreases-loop
+loop-holds : tie.Need-loop-b-init invariant-loop decreases-loop
 loop-holds c = (taking-starts _ _ _ _ _ 64 c.requires.0.2, refl, refl)
 
-mul-x : tie.Need-overflow-mul-x invariant-loop decreases-loop
+mul-x : tie.Need-offset_bounds-sums-b invariant-loop decreases-loop
 mul-x c = omega arith
 
-slice-read-x : tie.Need-slice-read-x invariant-loop decreases-loop
+slice-read-x : tie.Need-bounds-sums-b invariant-loop decreases-loop
 slice-read-x c = omega (arith, size c.before.before)
 
-cast-buckets : tie.Need-overflow-cast-buckets invariant-loop decreases-loop
+cast-buckets : tie.Need-overflow_cast-buckets invariant-loop decreases-loop
 cast-buckets c = omega arith
 
-mul-buckets : tie.Need-overflow-mul-buckets invariant-loop decreases-loop
+mul-buckets : tie.Need-offset_bounds-buckets-n invariant-loop decreases-loop
 mul-buckets c = omega (arith, room c)
 
-slice-write-buckets : tie.Need-slice-write-buckets invariant-loop decreases-loop
+slice-write-buckets : tie.Need-bounds-buckets-n invariant-loop decreases-loop
 slice-write-buckets c = omega (arith, room c)
 
-mul-freed : tie.Need-overflow-mul-freed invariant-loop decreases-loop
+mul-freed : tie.Need-offset_bounds-freed-n invariant-loop decreases-loop
 mul-freed c = omega (arith, room c)
 
-slice-write-freed : tie.Need-slice-write-freed invariant-loop decreases-loop
+slice-write-freed : tie.Need-bounds-freed-n invariant-loop decreases-loop
 slice-write-freed c = omega (arith, room c)
 
-mul-sums : tie.Need-overflow-mul-sums invariant-loop decreases-loop
+mul-sums : tie.Need-offset_bounds-sums-b-then-x-gt0 invariant-loop decreases-loop
 mul-sums c = omega arith
 
-slice-write-sums : tie.Need-slice-write-sums invariant-loop decreases-loop
+slice-write-sums : tie.Need-bounds-sums-b-then-x-gt0 invariant-loop decreases-loop
 slice-write-sums c = omega (arith, size c.before.before.before)
 
-add-n : tie.Need-overflow-add-n invariant-loop decreases-loop
+add-n : tie.Need-overflow_add-n invariant-loop decreases-loop
 add-n c = omega (arith, room c)
 
-add-b : tie.Need-overflow-add-b invariant-loop decreases-loop
+add-b : tie.Need-overflow_add-b invariant-loop decreases-loop
 add-b c = omega arith
 
-loop-less : tie.Need-loop-smaller invariant-loop decreases-loop
+loop-less : tie.Need-loop-b-smaller invariant-loop decreases-loop
 loop-less c = omega arith
 
-loop-again : tie.Need-loop-preserved invariant-loop decreases-loop
+loop-again : tie.Need-loop-b-preserved invariant-loop decreases-loop
 loop-again c =
-    let l = c.before.before.before in
-    let v = l.loop.invariant in
-    let g = long l.before in
-    let t = c.before.before.loop-test.true in
+    let l = c in
+    let v = l.loop-b.invariant in
+    let g = long l.before.before.before.before in
+    let t = c.loop-b-test.true in
     ⊎_elim
     (λ w.
     let m = taking-room v.0 g t w.0.taken in
-    rw (w.1, w.2, w.3, w.4) (taking-hit v.0 g t w.0.taken (omega (arith, l.before.requires.1.0)) (omega (arith, l.before.requires.1.0)), simp length-set v.1, simp length-set v.2))
+    rw (w.1, w.2, w.3, w.4) (taking-hit v.0 g t w.0.taken (omega (arith, l.requires.1.0)) (omega (arith, l.requires.1.0)), simp length-set v.1, simp length-set v.2))
     (λ w. rw (w.1, w.2, w.3, w.4) (taking-miss v.0 g t w.0.left, v.1, v.2))
-    c.if1.branch
+    c.if-x-gt0.branch-raw
 
-same_length : tie.Need-same-length invariant-loop decreases-loop
+same_length : tie.Need-shape_of-sums invariant-loop decreases-loop
 same_length c = size c.before
 
-same-length-2 : tie.Need-same-length-2 invariant-loop decreases-loop
-same-length-2 c = c.before.loop.invariant.1
+same-length-2 : tie.Need-shape_of-buckets invariant-loop decreases-loop
+same-length-2 c = c.loop-b.invariant.1
 
-same-length-3 : tie.Need-same-length-3 invariant-loop decreases-loop
-same-length-3 c = c.before.loop.invariant.2
+same-length-3 : tie.Need-shape_of-freed invariant-loop decreases-loop
+same-length-3 c = c.loop-b.invariant.2
 
 returns : tie.Need-returns invariant-loop decreases-loop
-returns c = taking-appends c.before.loop.invariant.0 (long c.before.before) (omega arith)
+returns c = taking-appends c.loop-b.invariant.0 (long c.before.before) (omega arith)
 
-pub take-group-spec : {M : Type 1} → statement M
-take-group-spec =
+pub take_group_spec : {M : Type 1} → statement M
+take_group_spec =
     tie.close
     (tie.spec
     invariant-loop
