@@ -227,7 +227,7 @@ def body(part, f, place, helper, path, said):
     # a helper's result is a place: `(start c).args`, `(turn (beside c)).loop`
     at = 0
     while helper:
-        m = re.compile(r"\)\.(?!before\b)([\w'₀-₉][\w'.-]*)").search(text, at)
+        m = re.compile(r"\)\.([\w'₀-₉][\w'.-]*)").search(text, at)
         if not m:
             break
         at, deep, i = m.end(), 0, m.start()
@@ -238,7 +238,12 @@ def body(part, f, place, helper, path, said):
             i -= 1
         h = re.match(rf"\(({ID}) ", text[i:]) if i >= 0 else None
         if h and h[1] in helper and helper[h[1]][1] is not None:
-            new = ".".join(f.path(helper[h[1]][1], 0, m[1].split("."), said))
+            fields, k = m[1].split("."), 0
+            while k < len(fields) and fields[k] == "before":
+                k += 1
+            if k == len(fields):
+                continue
+            new = ".".join(f.path(helper[h[1]][1], k, fields[k:], said))
             text = text[: m.start()] + ")." + new + text[m.end() :]
             at = m.start() + 2 + len(new)
     return text

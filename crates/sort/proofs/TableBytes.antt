@@ -59,4 +59,4 @@ module _ {s places : List ℕ} where
     standing-tag {k} {next} [] e l h q = let z : next ≡ k = omega arith in rw z at q
     standing-tag {k} {next} {t} (b ∷ bs) e l h q =
         standing-one (omega arith) (let z : k + 0 ≡ k = omega arith in rw z at (h 0 (omega arith)))
-        (standing-tag bs (omega arith) l (λ i m. let z : k + suc i ≡ k + 1 + i = omega arith in rw z at (h (suc i) (omega arith))) q)
+        (standing-tag {k = k + 1} bs (omega arith) l (λ i m. let z : k + suc i ≡ k + 1 + i = omega arith in rw z at (h (suc i) (omega arith))) q)

@@ -5,7 +5,7 @@ use borrow.Author.Rules.{rules}
 use Rattle.bucket_bits.proofs.marks.has_bit.Statement.{statement}
 use Rattle.bucket_bits.proofs.marks.has_bit.Tie as tie
 
-array-read-result : tie.Need-array-read-result
+array-read-result : tie.Need-bounds-k
 array-read-result c = search rules
 
 div-result : tie.Need-nonzero_div-result

@@ -11,7 +11,7 @@ has-bit-requires c κs = search rules
 returns : tie.Need-returns-then-has_bit
 returns c = let a = c in bit_kept a.args.k a.args.x _ (power_at a.args.k a.requires) (sym c.has_bit.ensures ∙ c.if-has_bit.true)
 
-array-read-result : tie.Need-array-read-result
+array-read-result : tie.Need-bounds-k
 array-read-result c = search rules
 
 add-result : tie.Need-overflow_add-result

@@ -46,7 +46,7 @@ loop-again c =
     let t = c in
     let a = (start t.before.before.before.before.before.before.before).args in
     let l = t.loop-i in
-    (omega arith, omega arith, c.add_if-n.auto.0 ∙ l.invariant.2, chosen_more a.s.now a.needs.now a.alloc.now l.i (omega arith) c.is_discarded.ensures l.invariant.3 c.add_if-n.ensures.1)
+    (omega arith, omega arith, c.add_if-n.auto.discarded ∙ l.invariant.2, chosen_more a.s.now a.needs.now a.alloc.now l.i (omega arith) c.is_discarded.ensures l.invariant.3 c.add_if-n.ensures.1)
 
 same_length : tie.Need-shape_of-discarded invariant-loop decreases-loop
 same_length c = c.loop-i.invariant.2

@@ -87,7 +87,7 @@ returns-6 c =
     let a = start (pos v.before.before.before.before.before.before) in
     let p = (pos v.before.before.before.before.before.before).pos_at-pos.ensures in
     all-passed a.args.s.now a.args.needs.now a.args.o a.requires.0.kept (long v.before.before.before.before.before.before) v.value_at-value.ensures
-    (sym (pos v.before.before.before.before.before.before).before.before.type_at.ensures ∙ (pos v.before.before.before.before.before.before).before.if1.false)
+    (sym c.type_at.ensures ∙ c.if-type_at-ne27.false)
     (sym (ap (λ (p : Bpos). p.inode) p) ∙ v.if-pos-ne0.false)
     c.data_type.ensures
     c.if-data_type-ne9.false

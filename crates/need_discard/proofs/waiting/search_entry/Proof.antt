@@ -45,8 +45,8 @@ entry c =
     let l = c.loop-i in
     let n = c.names_bucket.ensures in
     ⊎_elim
-    (λ w. rw w.1 (search-found a.s.now a.needs.now a.b l.i (omega arith) l.invariant.1 n w.0.taken))
-    (λ w. rw w.1 (search-past a.s.now a.needs.now a.b l.i (omega arith) l.invariant.1 n w.0.left))
+    (λ w. rw w.e-is (search-found a.s.now a.needs.now a.b l.i (omega arith) l.invariant.1 n w.if-names_bucket.true))
+    (λ w. rw w.e-is (search-past a.s.now a.needs.now a.b l.i (omega arith) l.invariant.1 n w.if-names_bucket.false))
     c.if-names_bucket.branch-raw
 
 loop-again : tie.Need-loop-i-preserved invariant-loop decreases-loop

@@ -24,11 +24,11 @@ decreases-loop s requests sectors sums₀ marks₀ i₀ sums marks i = length re
 -- what is known of a piece where its bucket is
 record Here (c : tie.After-bucket_of-b invariant-loop decreases-loop) : Type 0 where
   here :
-      drop c.before.before.before.before.loop.i (freeds_in c.before.before.before.before.before.before.before.before.args.s.now c.before.before.before.before.before.before.before.before.args.requests.now)
-      ≡ freed_held c.before.before.freed-at.result ∷ drop (c.before.before.before.before.loop.i + 1) (freeds_in c.before.before.before.before.before.before.before.before.args.s.now c.before.before.before.before.before.before.before.before.args.requests.now)
-  inside : FreedWithin c.before.before.before.before.before.before.before.before.args.sectors (freed_held c.before.before.freed-at.result)
-  bucket : (bucket_of c.before.before.freed-at.result.first c.before.before.before.before.before.before.before.before.args.sectors).0 ≡ c.bucket-of.result.0
-  low : c.bucket-of.result.0 < 65536
+      drop c.loop-i.i (freeds_in c.args.s.now c.args.requests.now)
+      ≡ freed_held c.freed_at-r.result ∷ drop (c.loop-i.i + 1) (freeds_in c.args.s.now c.args.requests.now)
+  inside : FreedWithin c.args.sectors (freed_held c.freed_at-r.result)
+  bucket : (bucket_of c.freed_at-r.result.first c.args.sectors).0 ≡ c.bucket_of-b.result.0
+  low : c.bucket_of-b.result.0 < 65536
 
 here-is : (c : tie.After-bucket_of-b invariant-loop decreases-loop) → Here c
 here-is c =

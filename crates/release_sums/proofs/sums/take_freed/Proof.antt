@@ -47,8 +47,8 @@ loop-again c =
     let v = l.loop-g.invariant in
     let e : (l.loop-g.g + 1) * 64 ≡ l.loop-g.g * 64 + 64 = omega arith in
     ⊎_elim
-    (λ w. rw (e, w.11, w.12, w.13, w.14) (taking-group v.0 a.requires.0 64 (omega arith) w.4.ensures.0 w.4.ensures.1, w.4.kept.1.1.0 ∙ v.1, w.4.kept.1.1.1.0 ∙ v.2))
-    (λ w. rw (e, w.1, w.2, w.3, w.4) (taking-skip v.0 a.requires.0 64 (omega arith) (unmarked a.requires.3 l.loop-g.g (omega arith) w.0.left), v.1, v.2))
+    (λ w. rw (e, w.sums-is, w.buckets-is, w.freed-is, w.n-is) (taking-group v.0 a.requires.0 64 (omega arith) w.take_group-n.ensures.0 w.take_group-n.ensures.1, w.take_group-n.auto.buckets ∙ v.1, w.take_group-n.auto.freed ∙ v.2))
+    (λ w. rw (e, w.sums-is, w.buckets-is, w.freed-is, w.n-is) (taking-skip v.0 a.requires.0 64 (omega arith) (unmarked a.requires.3 l.loop-g.g (omega arith) w.if-marks-g-ne0.false), v.1, v.2))
     c.if-marks-g-ne0.branch-raw
 
 same_length : tie.Need-shape_of-sums invariant-loop decreases-loop

@@ -78,9 +78,9 @@ loop-again c =
     let t = c.loop-b-test.true in
     ⊎_elim
     (λ w.
-    let m = taking-room v.0 g t w.0.taken in
-    rw (w.1, w.2, w.3, w.4) (taking-hit v.0 g t w.0.taken (omega (arith, l.requires.1.0)) (omega (arith, l.requires.1.0)), simp length-set v.1, simp length-set v.2))
-    (λ w. rw (w.1, w.2, w.3, w.4) (taking-miss v.0 g t w.0.left, v.1, v.2))
+    let m = taking-room v.0 g t w.if-x-gt0.true in
+    rw (w.sums-is, w.buckets-is, w.freed-is, w.n-is) (taking-hit v.0 g t w.if-x-gt0.true (omega (arith, l.requires.1.0)) (omega (arith, l.requires.1.0)), simp length-set v.1, simp length-set v.2))
+    (λ w. rw (w.sums-is, w.buckets-is, w.freed-is, w.n-is) (taking-miss v.0 g t w.if-x-gt0.false, v.1, v.2))
     c.if-x-gt0.branch-raw
 
 same_length : tie.Need-shape_of-sums invariant-loop decreases-loop
