@@ -96,12 +96,12 @@ class Function:
                 return [self.arm[j][0], row[0]] + rest[1 + len(row[2]) :]
         name = self.step[hit][1]
         callee = self.v["params"].get(self.v["places"][hit][3])
-        if callee and rest[1:2] == ["new"]:
+        if callee and rest[1:2] in (["new"], ["auto"], ["kept"]):
             ones = 0
             while rest[2 + ones : 3 + ones] == ["1"]:
                 ones += 1
             if rest[2 + ones : 3 + ones] == ["0"] and ones < len(callee):
-                rest = [rest[0], "new", callee[ones]] + rest[3 + ones :]
+                rest = [rest[0], "new" if rest[1] == "new" else "auto", callee[ones]] + rest[3 + ones :]
         if self.arm[hit]:
             name = self.new[hit][0].lower() + self.new[hit][1:] if self.arm[hit][1] == 1 else name
         tail = [{"left": "false", "taken": "true"}.get(x, x) if i == 0 else x for i, x in enumerate(rest[1:])]
@@ -176,7 +176,10 @@ def body(part, f, place, helper, path, said):
         gap = part[at : m.start()]
         piece = m[0]
         line = part[part.rfind("\n", 0, m.start()) + 1 : m.start()]
-        if line.lstrip().startswith("--") or re.search(r"\blet $", part[: m.start()]):
+        behind = part[m.end() : m.end() + 3]
+        if line.lstrip().startswith("--") or re.search(r"(\blet |λ |λ \(|\{)$", part[: m.start()]):
+            pass
+        elif not rest and (behind.startswith(" :") or behind.startswith(" =") and "==" not in behind):
             pass
         elif name in names and rest:
             start, k0 = names[name]

@@ -38,8 +38,8 @@ pub record Small (n : ℕ) (t : Tally) : Type 0 where
 -- tallies of at most 1,024 pieces
 pub record Smalls (t : Tallies) : Type 0 where
   pub all : Small 1024 t.all
-  pub kind-2 : Small 1024 t.kind_2
-  pub kind-3 : Small 1024 t.kind_3
+  pub kind_2 : Small 1024 t.kind_2
+  pub kind_3 : Small 1024 t.kind_3
   pub kind-4 : Small 1024 t.kind_4
   pub kind-5 : Small 1024 t.kind_5
 

@@ -8,28 +8,28 @@ use Rattle.accounting.proofs.discard_rows.put_rows.Tie as tie
 plus-requires : tie.Need-plus-requires
 plus-requires c κs = search rules
 
-put-buckets-row-requires : tie.Need-put-buckets-row-requires
+put-buckets-row-requires : tie.Need-put_buckets_row-p-requires
 put-buckets-row-requires c κs = search rules
 
 minus-requires : tie.Need-minus-requires
 minus-requires c κs = search rules
 
-put-buckets-row-requires-2 : tie.Need-put-buckets-row-requires-2
+put-buckets-row-requires-2 : tie.Need-put_buckets_row-requires
 put-buckets-row-requires-2 c κs = search rules
 
-same_length : tie.Need-same-length
+same_length : tie.Need-shape_of-out
 same_length c = search rules
 
 returns : tie.Need-returns
 returns c =
-    let w = c.before.before in
-    let m = w.before in
-    let f = m.before.before.before.before in
-    let p = f.before in
-    rows-and (_ ∷ []) (_ ∷ []) (rw (passed p.plus.type-inv p.plus.ensures) at f.put-buckets-row.ensures) (rw (passed m.minus.type-inv m.minus.ensures) at w.put-buckets-row2.ensures)
+    let w = c in
+    let m = w in
+    let f = m in
+    let p = f in
+    rows-and (_ ∷ []) (_ ∷ []) (rw (passed p.plus.type_inv p.plus.ensures) at f.put_buckets_row-p.ensures) (rw (passed m.minus.type_inv m.minus.ensures) at w.put_buckets_row.ensures)
 
-pub put-rows-spec : {M : Type 1} → statement M
-put-rows-spec =
+pub put_rows_spec : {M : Type 1} → statement M
+put_rows_spec =
     tie.close
     (tie.spec
     plus-requires

@@ -12,33 +12,33 @@ use borrow.Author.Rules.{rules}
 use Rattle.accounting.proofs.place_rows.put_owner.Statement.{statement}
 use Rattle.accounting.proofs.place_rows.put_owner.Tie as tie
 
-reversed-requires : tie.Need-reversed-requires
+reversed-requires : tie.Need-reversed-y-requires
 reversed-requires c κs = search rules
 
-add-put-counts : tie.Need-overflow-add-put-counts
+add-put-counts : tie.Need-overflow_add-y
 add-put-counts c = search rules
 
-mul-put-counts : tie.Need-overflow-mul-put-counts
+mul-put-counts : tie.Need-overflow_mul-y
 mul-put-counts c = search rules
 
-put-counts-requires : tie.Need-put-counts-requires
+put-counts-requires : tie.Need-put_counts-requires
 put-counts-requires c κs = search rules
 
-same_length : tie.Need-same-length
+same_length : tie.Need-shape_of-out
 same_length c = search rules
 
 returns : tie.Need-returns
 returns c =
-    let k = c.before.before in
-    let r = k.before.before in
-    let a = r.before.before.args in
-    let y = r.reversed.result in
+    let k = c in
+    let r = k in
+    let a = r.args in
+    let y = r.reversed-y.result in
     let e : owner_counts a.inode a.t ≡ counts_row (0x0800000000000000 + y / 256) (y % 256 * 0x0100000000000000) a.t =
-    rw (← r.reversed.ensures, ← owner-inode y, ← owner-offset y) in
-    emitted (ap (λ q. encode (map row_field (counted_rows (q ∷ [])))) (sym e)) k.put-counts.ensures
+    rw (← r.reversed-y.ensures, ← owner-inode y, ← owner-offset y) in
+    emitted (ap (λ q. encode (map row_field (counted_rows (q ∷ [])))) (sym e)) k.put_counts.ensures
 
-pub put-owner-spec : {M : Type 1} → statement M
-put-owner-spec =
+pub put_owner_spec : {M : Type 1} → statement M
+put_owner_spec =
     tie.close
     (tie.spec
     reversed-requires

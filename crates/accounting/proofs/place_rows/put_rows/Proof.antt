@@ -12,39 +12,39 @@ use borrow.Author.Rules.{rules}
 use Rattle.accounting.proofs.place_rows.put_rows.Statement.{statement}
 use Rattle.accounting.proofs.place_rows.put_rows.Tie as tie
 
-cast-put-taken-rows : tie.Need-overflow-cast-put-taken-rows
+cast-put-taken-rows : tie.Need-overflow_cast-h
 cast-put-taken-rows c = search rules
 
-put-taken-rows-requires : tie.Need-put-taken-rows-requires
+put-taken-rows-requires : tie.Need-put_taken_rows-p-requires
 put-taken-rows-requires c κs = search rules
 
-put-kinds-requires : tie.Need-put-kinds-requires
+put-kinds-requires : tie.Need-put_kinds-p-requires
 put-kinds-requires c κs = search rules
 
-put-extents-row-requires : tie.Need-put-extents-row-requires
+put-extents-row-requires : tie.Need-put_extents_row-p-requires
 put-extents-row-requires c κs = search rules
 
-put-owner-requires : tie.Need-put-owner-requires
+put-owner-requires : tie.Need-put_owner-requires
 put-owner-requires c κs = search rules
 
-same_length : tie.Need-same-length
+same_length : tie.Need-shape_of-out
 same_length c = search rules
 
 returns : tie.Need-returns
 returns c =
-    let k3 = c.before.before in
-    let k2 = k3.before.before.before.before in
-    let k1 = k2.before.before.before.before in
-    let k0 = k1.before.before.before.before in
-    let a = k0.before.before.before.before.before in
+    let k3 = c in
+    let k2 = k3 in
+    let k1 = k2 in
+    let k0 = k1 in
+    let a = k0 in
     λ bs ps e t.
     let n : length ps ≡ a.args.t.all.count = sym (length-map ps (λ p. p.piece)) ∙ ap (λ (x : Tallies). x.all.count) (sym t) in
-    let w = rows-and (_ ∷ _ ∷ _ ∷ []) _ k0.put-taken-rows.ensures
-    (rows-and (_ ∷ _ ∷ _ ∷ _ ∷ []) _ k1.put-kinds.ensures (rows-and (_ ∷ []) (_ ∷ []) (k2.put-extents-row.ensures ps n) k3.put-owner.ensures)) in
+    let w = rows-and (_ ∷ _ ∷ _ ∷ []) _ k0.put_taken_rows-p.ensures
+    (rows-and (_ ∷ _ ∷ _ ∷ _ ∷ []) _ k1.put_kinds-p.ensures (rows-and (_ ∷ []) (_ ∷ []) (k2.put_extents_row-p.ensures ps n) k3.put_owner.ensures)) in
     emitted (rw (place-rows (head_in a.args.h) bs ps (map (extent_key (head_in a.args.h)) ps) a.args.t t, e)) w
 
-pub put-rows-spec : {M : Type 1} → statement M
-put-rows-spec =
+pub put_rows_spec : {M : Type 1} → statement M
+put_rows_spec =
     tie.close
     (tie.spec
     cast-put-taken-rows

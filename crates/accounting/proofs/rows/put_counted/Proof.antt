@@ -13,29 +13,29 @@ use borrow.Author.Rules.{rules}
 use Rattle.accounting.proofs.rows.put_counted.Statement.{statement}
 use Rattle.accounting.proofs.rows.put_counted.Tie as tie
 
-is-counted-requires : tie.Need-is-counted-requires
+is-counted-requires : tie.Need-is_counted-requires
 is-counted-requires c κs = search rules
 
-returns : tie.Need-returns
+returns : tie.Need-returns-then-not-is_counted
 returns c =
-    let k = c.before in
-    let a = k.before.before.args in
-    nothing (omega arith) (fields-none row_field (counted-other (counters_in a.r) (sym k.is-counted.ensures ∙ not-true k.is-counted.result c.if1.true)))
+    let k = c in
+    let a = k.args in
+    nothing (omega arith) (fields-none row_field (counted-other (counters_in a.r) (sym k.is_counted.ensures ∙ not-true k.is_counted.result c.if-not-is_counted.true-raw)))
 
-put-row-requires : tie.Need-put-row-requires
+put-row-requires : tie.Need-put_row-requires
 put-row-requires c κs = search rules
 
-same_length : tie.Need-same-length
+same_length : tie.Need-shape_of-out
 same_length c = search rules
 
-returns-2 : tie.Need-returns-2
+returns-2 : tie.Need-returns
 returns-2 c =
-    let p = c.before.before in
-    let k = p.before.before.before in
-    let a = k.before.before.args in
-    let e = counted-one (counters_in a.r) (sym k.is-counted.ensures ∙ not-false k.is-counted.result p.before.before.if1.false) in
-    emitted (sym (ap (λ l. encode (map row_field l)) e ∙ encode_one _)) p.put-row.ensures
+    let p = c in
+    let k = p in
+    let a = k.args in
+    let e = counted-one (counters_in a.r) (sym k.is_counted.ensures ∙ not-false k.is_counted.result p.if-not-is_counted.false-raw) in
+    emitted (sym (ap (λ l. encode (map row_field l)) e ∙ encode_one _)) p.put_row.ensures
 
-pub put-counted-spec : {M : Type 1} → statement M
-put-counted-spec =
+pub put_counted_spec : {M : Type 1} → statement M
+put_counted_spec =
     tie.close (tie.spec is-counted-requires returns put-row-requires same_length returns-2)

@@ -7,14 +7,14 @@ use borrow.Author.Rules.{rules}
 use Rattle.accounting.proofs.tally.with_kind.Statement.{statement}
 use Rattle.accounting.proofs.tally.with_kind.Tie as tie
 
-with-piece-requires : tie.Need-with-piece-requires
+with-piece-requires : tie.Need-with_piece-requires
 with-piece-requires c κs = search rules
 
-returns : tie.Need-returns
-returns c = let a = c.before.before.before.args in c.with-piece.ensures ∙ ap (λ l. sum a.t (tally_of l)) (sym (kind-one a.kind (piece_in a.p) c.before.if1.true))
+returns : tie.Need-returns-then-p-kind
+returns c = let a = c.args in c.with_piece.ensures ∙ ap (λ l. sum a.t (tally_of l)) (sym (kind-one a.kind (piece_in a.p) c.if-p-kind.true))
 
-returns-2 : tie.Need-returns-2
-returns-2 c = let a = c.before.before.args in sym (sum-none a.t) ∙ ap (λ l. sum a.t (tally_of l)) (sym (kind-other a.kind (piece_in a.p) c.if1.false))
+returns-2 : tie.Need-returns
+returns-2 c = let a = c.args in sym (sum-none a.t) ∙ ap (λ l. sum a.t (tally_of l)) (sym (kind-other a.kind (piece_in a.p) c.if-p-kind.false))
 
-pub with-kind-spec : {M : Type 1} → statement M
-with-kind-spec = tie.close (tie.spec with-piece-requires returns returns-2)
+pub with_kind_spec : {M : Type 1} → statement M
+with_kind_spec = tie.close (tie.spec with-piece-requires returns returns-2)

@@ -5,23 +5,23 @@ use borrow.Author.Rules.{rules}
 use Rattle.accounting.proofs.tally.with_piece.Statement.{statement}
 use Rattle.accounting.proofs.tally.with_piece.Tie as tie
 
-add-t3 : tie.Need-overflow-add-t3
+add-t3 : tie.Need-overflow_add-result
 add-t3 c = search rules
 
-cast-t4 : tie.Need-overflow-cast-t4
+cast-t4 : tie.Need-overflow_cast-result
 cast-t4 c = search rules
 
-add-t5 : tie.Need-overflow-add-t5
+add-t5 : tie.Need-overflow_add-result-2
 add-t5 c = search rules
 
-cast-t6 : tie.Need-overflow-cast-t6
+cast-t6 : tie.Need-overflow_cast-result-2
 cast-t6 c = search rules
 
-add-t7 : tie.Need-overflow-add-t7
+add-t7 : tie.Need-overflow_add-result-3
 add-t7 c = search rules
 
 returns : tie.Need-returns
-returns c = let a = c.before.before.before.before.before.args in tally-one a.t (piece_in a.p)
+returns c = let a = c.args in tally-one a.t (piece_in a.p)
 
-pub with-piece-spec : {M : Type 1} → statement M
-with-piece-spec = tie.close (tie.spec add-t3 cast-t4 add-t5 cast-t6 add-t7 returns)
+pub with_piece_spec : {M : Type 1} → statement M
+with_piece_spec = tie.close (tie.spec add-t3 cast-t4 add-t5 cast-t6 add-t7 returns)

@@ -11,33 +11,33 @@ use borrow.Author.Rules.{rules}
 use Rattle.freespace.proofs.runs.began_early.Statement.{statement}
 use Rattle.freespace.proofs.runs.began_early.Tie as tie
 
-is-run-requires : tie.Need-is-run-requires
+is-run-requires : tie.Need-is_run-requires
 is-run-requires c κs = search rules
 
-returns : tie.Need-returns
-returns c = let a = c.before.before.before.args in sym (early-not (key_here a.s.now a.at) (sym c.before.is-run.ensures ∙ not-true _ c.if1.true))
+returns : tie.Need-returns-then-not-is_run
+returns c = let a = c.args in sym (early-not (key_here a.s.now a.at) (sym c.is_run.ensures ∙ not-true _ c.if-not-is_run.true-raw))
 
-bucket-at-requires : tie.Need-bucket-at-requires
+bucket-at-requires : tie.Need-bucket_at-requires
 bucket-at-requires c κs = search rules
 
-size-at-requires : tie.Need-size-at-requires
+size-at-requires : tie.Need-size_at-requires
 size-at-requires c κs = search rules
 
-began-before-requires : tie.Need-began-before-requires
+began-before-requires : tie.Need-began_before-requires
 began-before-requires c κs = search rules
 
-returns-2 : tie.Need-returns-2
+returns-2 : tie.Need-returns
 returns-2 c =
-    let e = c.before.before.before in
-    let a = e.before.before.before.args in
+    let e = c in
+    let a = e.args in
     let k = key_here a.s.now a.at in
-    c.began-before.ensures
-    ∙ ap (λ (b : Bucket). began_before b c.before.size-at.result) c.before.before.bucket-at.ensures
-    ∙ ap (λ (n : ℕ). began_before (end_of k) n) c.before.size-at.ensures
-    ∙ sym (early-else k (sym e.before.is-run.ensures ∙ not-false _ e.if1.false))
+    c.began_before.ensures
+    ∙ ap (λ (b : Bucket). began_before b c.size_at.result) c.bucket_at.ensures
+    ∙ ap (λ (n : ℕ). began_before (end_of k) n) c.size_at.ensures
+    ∙ sym (early-else k (sym e.is_run.ensures ∙ not-false _ e.if-not-is_run.false-raw))
 
-pub began-early-spec : {M : Type 1} → statement M
-began-early-spec =
+pub began_early_spec : {M : Type 1} → statement M
+began_early_spec =
     tie.close
     (tie.spec
     is-run-requires

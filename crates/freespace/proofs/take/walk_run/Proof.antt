@@ -19,116 +19,116 @@ use borrow.Author.Rules.{rules}
 use Rattle.freespace.proofs.take.walk_run.Statement.{statement}
 use Rattle.freespace.proofs.take.walk_run.Tie as tie
 
-abbrev invariant-loop : tie.invariant-loop
+abbrev invariant-loop : tie.invariant-loop-end
 invariant-loop s at reserved used n taken₀ end passed b₀ count₀ refusal₀ taken b count refusal = Ahead (marked reserved) (marked used) (pass (marked reserved) (marked used) (n - count₀) (buckets_up_to b₀ end)) n count₀ taken₀ end b count refusal taken
 
-abbrev decreases-loop : tie.decreases-loop
+abbrev decreases-loop : tie.decreases-loop-end
 decreases-loop s at reserved used n taken₀ end passed b₀ count₀ refusal₀ taken b count refusal = end.0 - b.0
 
-abbrev run : tie.At-loop invariant-loop decreases-loop → tie.After-run-of invariant-loop decreases-loop
+abbrev run : tie.At-loop-end invariant-loop decreases-loop → tie.After-run_of-r invariant-loop decreases-loop
 run l = l.before.before.before.before
 
-abbrev start : tie.At-loop invariant-loop decreases-loop → tie.Start invariant-loop decreases-loop
+abbrev start : tie.At-loop-end invariant-loop decreases-loop → tie.Start invariant-loop decreases-loop
 start l = (run l).before.before.before
 
-abbrev key : tie.At-loop invariant-loop decreases-loop → Key
+abbrev key : tie.At-loop-end invariant-loop decreases-loop → Key
 key l = key_here (start l).args.s.now (start l).args.at
 
 -- the end's bound
-limit : (l : tie.At-loop invariant-loop decreases-loop) → (run l).run_of.result.end.0 ≤ 65536
-limit l = subst⁻¹ (λ (r : Run). r.end.0 ≤ 65536) (run l).run_of.ensures (run_end (key l) (start l).requires.0.end)
+limit : (l : tie.At-loop-end invariant-loop decreases-loop) → (run l).run_of-r.result.end.0 ≤ 65536
+limit l = subst⁻¹ (λ (r : Run). r.end.0 ≤ 65536) (run l).run_of-r.ensures (run_end (key l) (start l).requires.0.end)
 
-below : (c : tie.Then1 invariant-loop decreases-loop) → c.before.before.loop.b.0 < (run c.before.before).run_of.result.end.0
-below c = ltb-true _ _ (sym c.before.bucket-below.ensures ∙ c.if1.true)
+below : (c : tie.In-loop-end invariant-loop decreases-loop) → c.loop-end.b.0 < (run c.before.before).run_of-r.result.end.0
+below c = ltb-true _ _ (sym c.bucket_below.ensures ∙ c.loop-end-test.true)
 
 -- a bucket is still needed, and there is room for it
-room : (c : tie.Else2 invariant-loop decreases-loop) →
-    let l = c.before.before.before in
-    (l.loop.count < (start l).args.n) × (l.loop.count < length l.loop.taken) × (length l.loop.taken ≡ length (start l).args.taken.now)
+room : (c : tie.Else-count-n invariant-loop decreases-loop) →
+    let l = c in
+    (l.loop-end.count < (start l.before.before.before).args.n) × (l.loop-end.count < length l.loop-end.true) × (length l.loop-end.true ≡ length (start l.before.before.before).args.taken.now)
 room c =
-    let l = c.before.before.before in
-    let h : l.loop.count < (start l).args.n = omega (arith, l.loop.invariant.most, c.if2.false) in
-    (h, omega (arith, (start l).requires.0.room, l.loop.invariant.size), l.loop.invariant.size)
+    let l = c in
+    let h : l.loop-end.count < (start l.before.before.before).args.n = omega (arith, l.loop-end.invariant.most, c.if-count-n.false) in
+    (h, omega (arith, (start l.before.before.before).requires.0.room, l.loop-end.invariant.size), l.loop-end.invariant.size)
 
-run-of-requires : tie.Need-run-of-requires invariant-loop decreases-loop
-run-of-requires c κs = c.before.before.requires.0.key
+run-of-requires : tie.Need-run_of-r-requires invariant-loop decreases-loop
+run-of-requires c κs = c.requires.0.key
 
-add-passed : tie.Need-overflow-add-passed invariant-loop decreases-loop
-add-passed c = omega (arith, c.before.before.before.before.before.requires.0.few)
+add-passed : tie.Need-overflow_add-passed invariant-loop decreases-loop
+add-passed c = omega (arith, c.requires.0.few)
 
-loop-holds : tie.Need-loop-init invariant-loop decreases-loop
-loop-holds c = ahead-start _ _ _ _ _ _ _ c.before.before.before.before.before.before.requires.0.most
+loop-holds : tie.Need-loop-end-init invariant-loop decreases-loop
+loop-holds c = ahead-start _ _ _ _ _ _ _ c.requires.0.most
 
-bucket-below-requires : tie.Need-bucket-below-requires invariant-loop decreases-loop
+bucket-below-requires : tie.Need-bucket_below-requires invariant-loop decreases-loop
 bucket-below-requires c κs = search rules
 
-buckets-between-requires : tie.Need-buckets-between-requires invariant-loop decreases-loop
+buckets-between-requires : tie.Need-buckets_between-left-requires invariant-loop decreases-loop
 buckets-between-requires c κs = (omega (arith, below c.before), limit c.before.before.before)
 
-same_length : tie.Need-same-length invariant-loop decreases-loop
-same_length c = c.before.before.before.before.loop.invariant.size
+same_length : tie.Need-shape_of-taken-then-count-n invariant-loop decreases-loop
+same_length c = c.loop-end.invariant.size
 
-returns : tie.Need-returns invariant-loop decreases-loop
+returns : tie.Need-returns-then-count-n invariant-loop decreases-loop
 returns c =
-    let l = c.before.before.before.before in
-    let a = start l in
-    let q = a.pre.0 in
-    key-walked _ _ (key l) _ a.args.from _ _ _ _ q.tables.reserved-told q.tables.used-told q.end a.pre.1 q.most
-    (run l).run_of.result (run l).run_of.ensures _
-    (ahead-full _ _ l.loop.invariant _ c.before.if2.true c.buckets-between.ensures) refl
+    let l = c in
+    let a = start l.before.before.before.before in
+    let q = a.requires.0 in
+    key-walked _ _ (key l.before.before.before.before) _ a.args.from _ _ _ _ q.tables.reserved-told q.tables.used-told q.end a.requires.1 q.most
+    (run l.before.before.before.before).run_of-r.result (run l.before.before.before.before).run_of-r.ensures _
+    (ahead-full _ _ l.loop-end.invariant _ c.if-count-n.true c.buckets_between-left.ensures) refl
 
-is-marked-requires : tie.Need-is-marked-requires invariant-loop decreases-loop
-is-marked-requires c κs = lt-ltb c.before.before.before.loop.b.0 65536 (omega (arith, below c.before, limit c.before.before.before))
+is-marked-requires : tie.Need-is_marked-requires invariant-loop decreases-loop
+is-marked-requires c κs = lt-ltb c.loop-end.b.0 65536 (omega (arith, below c.before, limit c.before.before.before))
 
-is-marked-requires-2 : tie.Need-is-marked-requires-2 invariant-loop decreases-loop
-is-marked-requires-2 c κs = lt-ltb c.before.before.before.before.before.loop.b.0 65536 (omega (arith, below c.before.before.before, limit c.before.before.before.before.before))
+is-marked-requires-2 : tie.Need-is_marked-requires-then-not-is_marked invariant-loop decreases-loop
+is-marked-requires-2 c κs = lt-ltb c.loop-end.b.0 65536 (omega (arith, below c.before.before.before, limit c.before.before.before.before.before))
 
-mul-taken : tie.Need-overflow-mul-taken invariant-loop decreases-loop
-mul-taken c = omega (arith, room c.before.before.before.before, (start c.before.before.before.before.before.before.before).good)
+mul-taken : tie.Need-offset_bounds-taken-count invariant-loop decreases-loop
+mul-taken c = omega (arith, room c.before.before.before.before, (start c.before.before.before.before.before.before.before).well_formed)
 
-slice-write-taken : tie.Need-slice-write-taken invariant-loop decreases-loop
+slice-write-taken : tie.Need-bounds-taken-count invariant-loop decreases-loop
 slice-write-taken c = omega (arith, room c.before.before.before.before)
 
-add-count : tie.Need-overflow-add-count invariant-loop decreases-loop
+add-count : tie.Need-overflow_add-count invariant-loop decreases-loop
 add-count c = omega (arith, room c.before.before.before.before)
 
-next-bucket-requires : tie.Need-next-bucket-requires invariant-loop decreases-loop
+next-bucket-requires : tie.Need-next_bucket-b-requires invariant-loop decreases-loop
 next-bucket-requires c κs = omega (arith, below c.before.before.before, limit c.before.before.before.before.before)
 
-loop-less : tie.Need-loop-smaller invariant-loop decreases-loop
-loop-less c = omega (arith, below c.before.before.before.before, ap (λ (b : Bucket). b.0) c.next-bucket.ensures)
+loop-less : tie.Need-loop-end-smaller invariant-loop decreases-loop
+loop-less c = omega (arith, below c.before.before.before.before, ap (λ (b : Bucket). b.0) c.next_bucket-b.ensures)
 
-loop-again : tie.Need-loop-preserved invariant-loop decreases-loop
+loop-again : tie.Need-loop-end-preserved invariant-loop decreases-loop
 loop-again c =
-    let e = c.before.before.before in
-    let l = e.before.before.before in
-    let m = sym c.before.before.is-marked.ensures in
+    let e = c in
+    let l = e in
+    let m = sym c.is_marked.ensures in
     ⊎_elim
     (λ w.
-    let met : w.2.refusal ≡ thirteen (marked (start l).args.used.now l.loop.b) l.loop.refusal =
-    ⊎_elim (λ u. u.1 ∙ met-one l.loop.refusal (sym w.1.ensures ∙ u.0.taken)) (λ u. u.1 ∙ met-none l.loop.refusal (sym w.1.ensures ∙ u.0.left))
+    let met : w.2.refusal ≡ thirteen (marked (start l.before.before.before.before.before.before).args.used.now l.loop-end.b) l.loop-end.refusal =
+    ⊎_elim (λ u. u.1 ∙ met-one l.loop-end.refusal (sym w.1.ensures ∙ u.0.taken)) (λ u. u.1 ∙ met-none l.loop-end.refusal (sym w.1.ensures ∙ u.0.left))
     w.2.came in
-    ahead-at c.next-bucket.ensures w.4 w.5 w.3
-    (ahead-take _ _ l.loop.invariant w.2.refusal (room e).0 (start l).requires.0.room (below e.before) (m ∙ not-true _ w.0.taken) met))
+    ahead-at c.next_bucket-b.ensures w.4 w.5 w.3
+    (ahead-take _ _ l.loop-end.invariant w.2.refusal (room e.before.before.before).0 (start l.before.before.before.before.before.before).requires.0.room (below e.before.before.before.before) (m ∙ not-true _ w.0.taken) met))
     (λ w.
-    ahead-at c.next-bucket.ensures w.2 w.3 w.1
-    (ahead-skip _ _ l.loop.invariant (room e).0 (below e.before) (m ∙ not-false _ w.0.left)))
-    c.before.if3.branch
+    ahead-at c.next_bucket-b.ensures w.2 w.3 w.1
+    (ahead-skip _ _ l.loop-end.invariant (room e.before.before.before).0 (below e.before.before.before.before) (m ∙ not-false _ w.0.left)))
+    c.if-not-is_marked.branch-raw
 
-same-length-2 : tie.Need-same-length-2 invariant-loop decreases-loop
-same-length-2 c = c.before.before.loop.invariant.size
+same-length-2 : tie.Need-shape_of-taken invariant-loop decreases-loop
+same-length-2 c = c.loop-end.invariant.size
 
-returns-2 : tie.Need-returns-2 invariant-loop decreases-loop
+returns-2 : tie.Need-returns invariant-loop decreases-loop
 returns-2 c =
-    let l = c.before.before in
-    let a = start l in
-    let q = a.pre.0 in
-    key-walked _ _ (key l) _ a.args.from _ _ _ _ q.tables.reserved-told q.tables.used-told q.end a.pre.1 q.most
-    (run l).run_of.result (run l).run_of.ensures _
-    (ahead-done _ _ l.loop.invariant (ltb-false l.loop.b.0 (run l).run_of.result.end.0 (sym c.before.bucket-below.ensures ∙ c.if1.false))) refl
+    let l = c in
+    let a = start l.before.before in
+    let q = a.requires.0 in
+    key-walked _ _ (key l.before.before) _ a.args.from _ _ _ _ q.tables.reserved-told q.tables.used-told q.end a.requires.1 q.most
+    (run l.before.before).run_of-r.result (run l.before.before).run_of-r.ensures _
+    (ahead-done _ _ l.loop-end.invariant (ltb-false l.loop-end.b.0 (run l.before.before).run_of-r.result.end.0 (sym c.bucket_below.ensures ∙ c.loop-end-test.false))) refl
 
-pub walk-run-spec : {M : Type 1} → statement M
-walk-run-spec =
+pub walk_run_spec : {M : Type 1} → statement M
+walk_run_spec =
     tie.close
     (tie.spec
     invariant-loop

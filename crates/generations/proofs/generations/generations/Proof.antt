@@ -11,41 +11,41 @@ use Rattle.generations.proofs.generations.generations.Tie as tie
 ascend-requires : tie.Need-ascend-requires
 ascend-requires c κs = search rules
 
-returns : tie.Need-returns
+returns : tie.Need-returns-then-not-ascend
 returns c =
-    let a = c.before.before.before.before.before in
-    not-ascending a.args.volume.now _ a.args.out.now (sym c.before.ascend.ensures ∙ not-true c.before.ascend.result c.if1.true)
+    let a = c in
+    not-ascending a.args.volume.now _ a.args.out.now (sym c.ascend.ensures ∙ not-true c.ascend.result c.if-not-ascend.true-raw)
 
-slice-aggregate-generations-by : tie.Need-slice-aggregate-generations-by
+slice-aggregate-generations-by : tie.Need-slice_bounds-generations_by-end
 slice-aggregate-generations-by c = search rules
 
-generations-by-requires : tie.Need-generations-by-requires
+generations-by-requires : tie.Need-generations_by-requires
 generations-by-requires c κs =
-    let e = c.before.before.before.before in
-    (inr (omega arith), sym e.before.ascend.ensures ∙ not-false e.before.ascend.result e.if1.false, refl)
+    let e = c in
+    (inr (omega arith), sym e.ascend.ensures ∙ not-false e.ascend.result e.if-not-ascend.false-raw, refl)
 
-same_length : tie.Need-same-length
+same_length : tie.Need-shape_of-out-then-volume-le3072
 same_length c = search rules
 
-returns-2 : tie.Need-returns-2
+returns-2 : tie.Need-returns-then-volume-le3072
 returns-2 c = search rules
 
-slice-aggregate-generations-by-2 : tie.Need-slice-aggregate-generations-by-2
+slice-aggregate-generations-by-2 : tie.Need-slice_bounds-generations_by-end-2
 slice-aggregate-generations-by-2 c = search rules
 
-generations-by-requires-2 : tie.Need-generations-by-requires-2
+generations-by-requires-2 : tie.Need-generations_by-requires-2
 generations-by-requires-2 c κs =
-    let e = c.before.before.before.before in
-    (inl (omega arith), sym e.before.ascend.ensures ∙ not-false e.before.ascend.result e.if1.false, refl)
+    let e = c in
+    (inl (omega arith), sym e.ascend.ensures ∙ not-false e.ascend.result e.if-not-ascend.false-raw, refl)
 
-same-length-2 : tie.Need-same-length-2
+same-length-2 : tie.Need-shape_of-out
 same-length-2 c = search rules
 
-returns-3 : tie.Need-returns-3
+returns-3 : tie.Need-returns
 returns-3 c = search rules
 
-pub generations-spec : {M : Type 1} → statement M
-generations-spec =
+pub generations_spec : {M : Type 1} → statement M
+generations_spec =
     tie.close
     (tie.spec
     ascend-requires

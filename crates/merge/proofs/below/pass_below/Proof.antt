@@ -53,7 +53,7 @@ here :
 here c = stands c.before.before.before.before.before.before _ c.loop-next-test.true
 
 pos-at-requires : tie.Need-pos_at-x-requires invariant-loop decreases-loop
-pos-at-requires c κs = (here c).stands.auto
+pos-at-requires c κs = (here c).stands.kept
 
 is-under-requires : tie.Need-is_under-requires invariant-loop decreases-loop
 is-under-requires c κs = tt
@@ -93,7 +93,7 @@ loop-again c =
     let b = bytes-from s.args.vol.now (λ i. let h = l.shared_slice_known-1.given i in omega arith) in
     stretching-on l.loop-next.invariant e.loop-next-test.true b (here e.before.before.before.before.before).stands e.if-o-end.false c.len_at.ensures
     (cc (p, c.is_under.ensures, t))
-    (omega (arith, c.add_within-count.ensures, count_fits _ _ _ (here e.before.before.before.before.before).ranges))
+    (omega (arith, c.add_within-count.ensures, count_fits _ _ _ (here e.before.before.before.before.before).fits))
 
 returns-3 : tie.Need-returns invariant-loop decreases-loop
 returns-3 c =

@@ -9,14 +9,14 @@ use borrow.Author.Rules.{rules}
 use Rattle.release_keys.proofs.alloc_keys.free_part.Statement.{statement}
 use Rattle.release_keys.proofs.alloc_keys.free_part.Tie as tie
 
-with-dirty-requires : tie.Need-with-dirty-requires
+with-dirty-requires : tie.Need-with_dirty-r-requires
 with-dirty-requires c κs = search rules
 
 returns : tie.Need-returns
 returns c =
-    let a = c.before.before in
-    let e = c.with-dirty.ensures in
+    let a = c in
+    let e = c.with_dirty-r.ensures in
     (omega (arith, e.0, a.requires), ap (λ (l : List ℕ). with_value (key_in a.args.k) l) e.1)
 
-pub free-part-spec : {M : Type 1} → statement M
-free-part-spec = tie.close (tie.spec with-dirty-requires returns)
+pub free_part_spec : {M : Type 1} → statement M
+free_part_spec = tie.close (tie.spec with-dirty-requires returns)

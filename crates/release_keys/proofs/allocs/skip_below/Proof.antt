@@ -10,46 +10,46 @@ use Rattle.release_keys.proofs.AllocLaws.{Passing, pass-starts, pass-turn, pass-
 use Rattle.release_keys.proofs.allocs.skip_below.Statement.{statement}
 use Rattle.release_keys.proofs.allocs.skip_below.Tie as tie
 
-abbrev invariant-loop : tie.invariant-loop
+abbrev invariant-loop : tie.invariant-loop-i
 invariant-loop s offsets from p i₀ i = Passing s offsets from p i
 
-abbrev decreases-loop : tie.decreases-loop
+abbrev decreases-loop : tie.decreases-loop-i
 decreases-loop s offsets from p i₀ i = length offsets - i
 
-loop-holds : tie.Need-loop-init invariant-loop decreases-loop
-loop-holds c = let a = c.before.before in pass-starts _ _ _ _ a.requires.1
+loop-holds : tie.Need-loop-i-init invariant-loop decreases-loop
+loop-holds c = let a = c in pass-starts _ _ _ _ a.requires.1
 
-pos-of-requires : tie.Need-pos-of-requires invariant-loop decreases-loop
-pos-of-requires c κs = (c.before.before.before.before.requires.0, omega arith)
+pos-of-requires : tie.Need-pos_of-requires invariant-loop decreases-loop
+pos-of-requires c κs = (c.requires.0, omega arith)
 
-pos-less-requires : tie.Need-pos-less-requires invariant-loop decreases-loop
+pos-less-requires : tie.Need-pos_less-requires invariant-loop decreases-loop
 pos-less-requires c κs = tt
 
-returns : tie.Need-returns invariant-loop decreases-loop
+returns : tie.Need-returns-then-not-pos_less invariant-loop decreases-loop
 returns c =
-    let l = c.before.before.before.before in
-    let a = l.before.before.before in
-    let e = ap (λ (x : Bpos). pos_less x a.args.p) (sym c.before.before.pos_of.ensures) in
-    pass-stops a.requires.0 a.args.from a.args.p l.loop.i l.loop.invariant (e ∙ sym c.before.pos-less.ensures ∙ not-true _ c.if1.true)
+    let l = c in
+    let a = l in
+    let e = ap (λ (x : Bpos). pos_less x a.args.p) (sym c.pos_of.ensures) in
+    pass-stops a.requires.0 a.args.from a.args.p l.loop-i.i l.loop-i.invariant (e ∙ sym c.pos_less.ensures ∙ not-true _ c.if-not-pos_less.true-raw)
 
-add-i : tie.Need-overflow-add-i invariant-loop decreases-loop
+add-i : tie.Need-overflow_add-i invariant-loop decreases-loop
 add-i c = omega arith
 
-loop-less : tie.Need-loop-smaller invariant-loop decreases-loop
+loop-less : tie.Need-loop-i-smaller invariant-loop decreases-loop
 loop-less c = omega arith
 
-loop-again : tie.Need-loop-preserved invariant-loop decreases-loop
+loop-again : tie.Need-loop-i-preserved invariant-loop decreases-loop
 loop-again c =
-    let l = c.before.before.before.before in
-    let a = l.before.before.before in
-    let e = ap (λ (x : Bpos). pos_less x a.args.p) (sym c.before.before.pos_of.ensures) in
-    pass-turn a.requires.0 a.args.from a.args.p l.loop.i l.loop.invariant (omega arith) (e ∙ sym c.before.pos-less.ensures ∙ not-false _ c.if1.false)
+    let l = c in
+    let a = l in
+    let e = ap (λ (x : Bpos). pos_less x a.args.p) (sym c.pos_of.ensures) in
+    pass-turn a.requires.0 a.args.from a.args.p l.loop-i.i l.loop-i.invariant (omega arith) (e ∙ sym c.pos_less.ensures ∙ not-false _ c.if-not-pos_less.false-raw)
 
-returns-2 : tie.Need-returns-2 invariant-loop decreases-loop
-returns-2 c = let a = c.before.before.before.before in pass-ends a.requires.0 a.args.from a.args.p c.before.loop.i c.before.loop.invariant (omega arith)
+returns-2 : tie.Need-returns invariant-loop decreases-loop
+returns-2 c = let a = c in pass-ends a.requires.0 a.args.from a.args.p c.loop-i.i c.loop-i.invariant (omega arith)
 
-pub skip-below-spec : {M : Type 1} → statement M
-skip-below-spec =
+pub skip_below_spec : {M : Type 1} → statement M
+skip_below_spec =
     tie.close
     (tie.spec
     invariant-loop

@@ -15,43 +15,43 @@ use Rattle.release_keys.proofs.freed_buckets.freed_bucket.Tie as tie
 its : (c : tie.Start) → AllocHeld c.args.s.now c.requires.0.volume.head.bucket_sectors (get_or c.args.freed.now c.args.k 0) (get_or c.args.places.now c.args.k 0)
 its c = ready c.requires.0 c.args.k c.requires.1
 
-mul-place : tie.Need-overflow-mul-place
-mul-place c = omega (arith, c.before.before.before.before.requires.0.tabled.keys)
+mul-place : tie.Need-offset_bounds-places-k
+mul-place c = omega (arith, c.requires.0.tabled.keys)
 
-shared-slice-read-place : tie.Need-shared-slice-read-place
-shared-slice-read-place c = omega (arith, c.before.before.before.before.before.requires.0.tabled.keys)
+shared-slice-read-place : tie.Need-bounds-places-k
+shared-slice-read-place c = omega (arith, c.requires.0.tabled.keys)
 
-cast-place : tie.Need-overflow-cast-place
-cast-place c = omega (arith, c.shared-slice-known5.given c.before.before.before.before.before.args.k)
+cast-place : tie.Need-overflow_cast-place
+cast-place c = omega (arith, c.shared_slice_known-5-1.given c.args.k)
 
-mul-t7 : tie.Need-overflow-mul-t7
+mul-t7 : tie.Need-offset_bounds-buckets-k
 mul-t7 c = search rules
 
-shared-slice-read-t9 : tie.Need-shared-slice-read-t9
+shared-slice-read-t9 : tie.Need-bounds-buckets-k
 shared-slice-read-t9 c = search rules
 
-cast-t11 : tie.Need-overflow-cast-t11
-cast-t11 c = omega (arith, c.shared-slice-known6.given c.before.before.before.before.before.before.args.k)
+cast-t11 : tie.Need-overflow_cast-result
+cast-t11 c = omega (arith, c.shared_slice_known-6-1.given c.args.k)
 
-value-at-requires : tie.Need-value-at-requires
+value-at-requires : tie.Need-value_at-requires
 value-at-requires c κs = (its c.before.before.before.before.before.before).there
 
-dirty-sectors-requires : tie.Need-dirty-sectors-requires
+dirty-sectors-requires : tie.Need-dirty_sectors-requires
 dirty-sectors-requires c κs =
     let i = its c.before.before.before.before.before.before.before in
-    omega (arith, c.value-at.ensures, i.long, value-within _ _ i.there)
+    omega (arith, c.value_at.ensures, i.long, value-within _ _ i.there)
 
-mul-t15 : tie.Need-overflow-mul-t15
-mul-t15 c = omega (arith, c.before.before.before.before.before.before.before.before.requires.0.tabled.sums)
+mul-t15 : tie.Need-offset_bounds-freed-k
+mul-t15 c = omega (arith, c.requires.0.tabled.sums)
 
-shared-slice-read-t17 : tie.Need-shared-slice-read-t17
-shared-slice-read-t17 c = omega (arith, c.before.before.before.before.before.before.before.before.before.requires.0.tabled.sums)
+shared-slice-read-t17 : tie.Need-bounds-freed-k
+shared-slice-read-t17 c = omega (arith, c.requires.0.tabled.sums)
 
 returns : tie.Need-returns
-returns c = λ v rs t. let a = c.before.before.before.before.before.before.before.before.before in rw (table_at a.args.buckets.now a.args.k) (freed-bucket-is (entry_at t a.args.k a.requires.1) (its a) (c.before.dirty-sectors.ensures ∙ member-there (its a).there dirty_sectors (omega (arith, (its a).long)) _ c.before.before.value-at.ensures))
+returns c = λ v rs t. let a = c in rw (table_at a.args.buckets.now a.args.k) (freed-bucket-is (entry_at t a.args.k a.requires.1) (its a.before.before.before.before.before.before.before.before.before) (c.dirty_sectors.ensures ∙ member-there (its a.before.before.before.before.before.before.before.before.before).there dirty_sectors (omega (arith, (its a.before.before.before.before.before.before.before.before.before).long)) _ c.value_at.ensures))
 
-pub freed-bucket-spec : {M : Type 1} → statement M
-freed-bucket-spec =
+pub freed_bucket_spec : {M : Type 1} → statement M
+freed_bucket_spec =
     tie.close
     (tie.spec
     mul-place

@@ -15,39 +15,39 @@ use borrow.Author.Rules.{rules}
 use Rattle.release_keys.proofs.gen_records.old_record.Statement.{statement}
 use Rattle.release_keys.proofs.gen_records.old_record.Tie as tie
 
-abbrev start : tie.After-record-of → tie.Start
+abbrev start : tie.After-record_of-at → tie.Start
 start c = c.before.before.before
 
 -- the entry of the bucket's record, in any tree whose records the table finds
-its : (c : tie.After-record-of) (gens : List Key) → RecordsFound (start c).args.s.now gens (start c).args.records.now
-    → RecordIs (start c).args.s.now gens (start c).args.b c.record_of.result
-its c gens r = let a = start c in record_is r a.args.b a.pre.1 c.record_of.ensures
+its : (c : tie.After-record_of-at) (gens : List Key) → RecordsFound (start c).args.s.now gens (start c).args.records.now
+    → RecordIs (start c).args.s.now gens (start c).args.b c.record_of-at.result
+its c gens r = let a = start c in record_is r a.args.b a.requires.1 c.record_of-at.ensures
 
 -- where the record stands
-there : (c : tie.Else1) → Whole (start c.before).args.s.now c.before.record_of.result
-there c = let a = start c.before in (its c.before a.pre.0.gens a.pre.0.are).stands c.if1.false
+there : (c : tie.Else-at-eq0) → Whole (start c.before).args.s.now c.record_of-at.result
+there c = let a = start c.before in (its c.before a.requires.0.gens a.requires.0.are).stands c.if-at-eq0.false
 
-record-of-requires : tie.Need-record-of-requires
-record-of-requires c κs = let a = c.before.before in (a.requires.0.are.stand.count, a.requires.1)
+record-of-requires : tie.Need-record_of-at-requires
+record-of-requires c κs = let a = c in (a.requires.0.are.stand.count, a.requires.1)
 
-new-record-requires : tie.Need-new-record-requires
+new-record-requires : tie.Need-new_record-requires
 new-record-requires c κs = search rules
 
-returns : tie.Need-returns
+returns : tie.Need-returns-then-at-eq0
 returns c =
-    let e = c.new-record.ensures in
-    (e.0, λ gens r. e.1 ∙ sym (key-new _ gens _ _ (its c.before.before gens r).is c.before.if1.true))
+    let e = c.new_record.ensures in
+    (e.0, λ gens r. e.1 ∙ sym (key-new _ gens _ _ (its c.before.before gens r).is c.if-at-eq0.true))
 
-key-at-requires : tie.Need-key-at-requires
+key-at-requires : tie.Need-key_at-requires
 key-at-requires c κs = there c
 
-returns-2 : tie.Need-returns-2
+returns-2 : tie.Need-returns
 returns-2 c =
-    let k = c.before in
-    let e = c.key-at.ensures in (
-      omega (arith, ap (λ (k : Bkey). k.value.len) e, value-short (there k)),
-      λ gens r. ap key_in e ∙ held_back (key_here (start k.before).args.s.now k.before.record_of.result) ∙ sym (key-old _ gens _ _ (its k.before gens r).is k.if1.false),
+    let k = c in
+    let e = c.key_at.ensures in (
+      omega (arith, ap (λ (k : Bkey). k.value.len) e, value-short (there k.before)),
+      λ gens r. ap key_in e ∙ held_back (key_here (start k.before.before).args.s.now k.record_of-at.result) ∙ sym (key-old _ gens _ _ (its k.before.before gens r).is k.if-at-eq0.false),
     )
 
-pub old-record-spec : {M : Type 1} → statement M
-old-record-spec = tie.close (tie.spec record-of-requires new-record-requires returns key-at-requires returns-2)
+pub old_record_spec : {M : Type 1} → statement M
+old_record_spec = tie.close (tie.spec record-of-requires new-record-requires returns key-at-requires returns-2)

@@ -11,24 +11,24 @@ use borrow.Author.Rules.{rules}
 use Rattle.release_keys.proofs.gen_records.with_generation.Statement.{statement}
 use Rattle.release_keys.proofs.gen_records.with_generation.Tie as tie
 
-gens-byte-requires : tie.Need-gens-byte-requires
+gens-byte-requires : tie.Need-gens_byte-requires
 gens-byte-requires c κs = search rules
 
-returns : tie.Need-returns
+returns : tie.Need-returns-then-value-gens_byte
 returns c =
-    let a = c.before.before.before.before in
+    let a = c in
     let h : length (value_in a.args.k.value) ≤ a.args.k.value.len = simp length-take (omega arith) in
-    (a.requires, ap (λ (l : List ℕ). with_value (key_in a.args.k) l) (sym (generation-past a.args.b a.args.generation (value_in a.args.k.value) (omega (arith, c.before.before.gens-byte.ensures)))))
+    (a.requires, ap (λ (l : List ℕ). with_value (key_in a.args.k) l) (sym (generation-past a.args.b a.args.generation (value_in a.args.k.value) (omega (arith, c.gens_byte.ensures)))))
 
-with-gen-requires : tie.Need-with-gen-requires
-with-gen-requires c κs = (omega (arith, c.before.before.gens-byte.ensures), c.before.before.before.before.requires)
+with-gen-requires : tie.Need-with_gen-r-requires
+with-gen-requires c κs = (omega (arith, c.gens_byte.ensures), c.requires)
 
-returns-2 : tie.Need-returns-2
+returns-2 : tie.Need-returns
 returns-2 c =
-    let a = c.before.before.before.before.before in
-    let e = c.with-gen.ensures in
+    let a = c in
+    let e = c.with_gen-r.ensures in
     (omega (arith, e.0, a.requires), ap (λ (l : List ℕ). with_value (key_in a.args.k) l) e.1)
 
-pub with-generation-spec : {M : Type 1} → statement M
-with-generation-spec =
+pub with_generation_spec : {M : Type 1} → statement M
+with_generation_spec =
     tie.close (tie.spec gens-byte-requires returns with-gen-requires returns-2)

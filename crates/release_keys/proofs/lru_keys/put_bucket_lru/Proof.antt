@@ -8,37 +8,37 @@ use borrow.Author.Rules.{rules}
 use Rattle.release_keys.proofs.lru_keys.put_bucket_lru.Statement.{statement}
 use Rattle.release_keys.proofs.lru_keys.put_bucket_lru.Tie as tie
 
-put-lru-deletion-requires : tie.Need-put-lru-deletion-requires
+put-lru-deletion-requires : tie.Need-put_lru_deletion-p-requires
 put-lru-deletion-requires c κs = search rules
 
-same_length : tie.Need-same-length
+same_length : tie.Need-shape_of-out-then-f
 same_length c = search rules
 
-returns : tie.Need-returns
+returns : tie.Need-returns-then-f
 returns c =
-    let d = c.before.before.before.before in
-    let a = d.before.before.before.before.args in
-    emitted (sym (lru-emptied (lru_deletions a.sectors a.f.bucket a.f.dirty) (lru_keys a.sectors a.f.bucket (a.f.dirty - a.f.freed)) _ _ c.if1.true)) d.put-lru-deletion.ensures
+    let d = c in
+    let a = d.args in
+    emitted (sym (lru-emptied (lru_deletions a.sectors a.f.bucket a.f.dirty) (lru_keys a.sectors a.f.bucket (a.f.dirty - a.f.freed)) _ _ c.if-f.true)) d.put_lru_deletion-p.ensures
 
-sub-left : tie.Need-overflow-sub-left
+sub-left : tie.Need-overflow_sub-left
 sub-left c = search rules
 
-put-lru-key-requires : tie.Need-put-lru-key-requires
+put-lru-key-requires : tie.Need-put_lru_key-requires
 put-lru-key-requires c κs = search rules
 
-same-length-2 : tie.Need-same-length-2
+same-length-2 : tie.Need-shape_of-out
 same-length-2 c = search rules
 
-returns-2 : tie.Need-returns-2
+returns-2 : tie.Need-returns
 returns-2 c =
-    let k = c.before.before in
-    let i = k.before.before.before in
-    let d = i.before.before.before.before in
-    let a = d.before.before.before.before.args in
-    emitted (sym (lru-left (lru_deletions a.sectors a.f.bucket a.f.dirty) (lru_keys a.sectors a.f.bucket (a.f.dirty - a.f.freed)) _ _ i.if1.false)) (and_then d.put-lru-deletion.ensures k.put-lru-key.ensures)
+    let k = c in
+    let i = k in
+    let d = i in
+    let a = d.args in
+    emitted (sym (lru-left (lru_deletions a.sectors a.f.bucket a.f.dirty) (lru_keys a.sectors a.f.bucket (a.f.dirty - a.f.freed)) _ _ i.if-f.false)) (and_then d.put_lru_deletion-p.ensures k.put_lru_key.ensures)
 
-pub put-bucket-lru-spec : {M : Type 1} → statement M
-put-bucket-lru-spec =
+pub put_bucket_lru_spec : {M : Type 1} → statement M
+put_bucket_lru_spec =
     tie.close
     (tie.spec
     put-lru-deletion-requires
