@@ -121,11 +121,11 @@ loop-again c =
     let l = at-loop o.before.before.before.before in
     ⊎_elim
     (λ w.
-    let q = counted (record { before = b.before; if1 = w.0 }) in
-    q.on _ _ (w.4 ∙ omega (arith, w.3.ensures ∙ from-length _ _, w.1.ensures, w.2.ensures)) (w.5 ∙ w.2.ensures))
+    let q = counted (record { before = b.before; if-bucket_below = w.if-bucket_below }) in
+    q.on _ _ (w.free-is ∙ omega (arith, w.buckets_between.ensures ∙ from-length _ _, w.reserved_below-from.ensures, w.reserved_below-j.ensures)) (w.j-is ∙ w.reserved_below-j.ensures))
     (λ w.
-    counting-at w.1 w.2
-    (counting-past l.loop-i.invariant (rising _ (start l).requires.0.reserved) _ (next o.before.before.before.before) _ o.run_of-r.ensures (sym b.bucket_below.ensures ∙ w.0.left)))
+    counting-at w.free-is w.j-is
+    (counting-past l.loop-i.invariant (rising _ (start l).requires.0.reserved) _ (next o.before.before.before.before) _ o.run_of-r.ensures (sym b.bucket_below.ensures ∙ w.if-bucket_below.false)))
     c.if-bucket_below.branch-raw
 
 returns : tie.Need-returns invariant-loop decreases-loop

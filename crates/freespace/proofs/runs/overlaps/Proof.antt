@@ -93,13 +93,13 @@ loop-again c =
     ⊎_elim
     (λ w.
     ap (λ (x : Bucket). meets x (drop (l.loop-i.i + 1) (read_volume (start l).args.s.now).trees.freespace))
-    (w.3 ∙ ap (λ (r : Run). r.end) o.run_of-r.ensures)
-    ∙ meets_on l.loop-i.last (next o.before.before.before.before) (sym (some-run o.before.before.before.before) ∙ sym b.bucket_below.ensures ∙ w.0.taken)
-    (ap (λ (r : Run). bucket_below r.start l.loop-i.last) (sym o.run_of-r.ensures) ∙ sym w.1.ensures ∙ w.2.left)
+    (w.last-is ∙ ap (λ (r : Run). r.end) o.run_of-r.ensures)
+    ∙ meets_on l.loop-i.last (next o.before.before.before.before) (sym (some-run o.before.before.before.before) ∙ sym b.bucket_below.ensures ∙ w.if-bucket_below.true)
+    (ap (λ (r : Run). bucket_below r.start l.loop-i.last) (sym o.run_of-r.ensures) ∙ sym w.bucket_below-then-bucket_below.ensures ∙ w.if-bucket_below-2.false)
     ∙ l.loop-i.invariant)
     (λ w.
-    ap (λ (x : Bucket). meets x (drop (l.loop-i.i + 1) (read_volume (start l).args.s.now).trees.freespace)) w.1
-    ∙ meets-skip l.loop-i.last (next o.before.before.before.before) (sym (some-run o.before.before.before.before) ∙ sym b.bucket_below.ensures ∙ w.0.left)
+    ap (λ (x : Bucket). meets x (drop (l.loop-i.i + 1) (read_volume (start l).args.s.now).trees.freespace)) w.last-is
+    ∙ meets-skip l.loop-i.last (next o.before.before.before.before) (sym (some-run o.before.before.before.before) ∙ sym b.bucket_below.ensures ∙ w.if-bucket_below.false)
     ∙ l.loop-i.invariant)
     c.if-bucket_below.branch-raw
 

@@ -83,7 +83,7 @@ walk-key-requires c κs =
 same-length-2 : tie.Need-shape_of-taken-then-w-ne0 invariant-loop decreases-loop
 same-length-2 c =
     let w = c in
-    w.walk_key-w.auto.1.1.1.1.1.1.0 ∙ (loop w.before.before.before.before.before.before.before).loop-w.invariant.size
+    w.walk_key-w.auto.taken ∙ (loop w.before.before.before.before.before.before.before).loop-w.invariant.size
 
 returns-2 : tie.Need-returns-then-w-ne0 invariant-loop decreases-loop
 returns-2 c =
@@ -101,7 +101,7 @@ loop-again : tie.Need-loop-w-preserved invariant-loop decreases-loop
 loop-again c =
     let w = c in
     let e = w in
-    walking_on (loop e.before.before.before.before.before.before.before).loop-w.invariant (next e.before.before.before.before.before.before.before) (needed e.before.before.before.before.before.before.before) w.walk_key-w.ensures c.if-w-ne0.false w.walk_key-w.auto.1.1.1.1.1.1.0
+    walking_on (loop e.before.before.before.before.before.before.before).loop-w.invariant (next e.before.before.before.before.before.before.before) (needed e.before.before.before.before.before.before.before) w.walk_key-w.ensures c.if-w-ne0.false w.walk_key-w.auto.taken
 
 same-length-3 : tie.Need-shape_of-taken invariant-loop decreases-loop
 same-length-3 c = c.loop-w.invariant.size

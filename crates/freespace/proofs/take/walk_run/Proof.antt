@@ -44,7 +44,7 @@ below c = ltb-true _ _ (sym c.bucket_below.ensures ∙ c.loop-end-test.true)
 -- a bucket is still needed, and there is room for it
 room : (c : tie.Else-count-n invariant-loop decreases-loop) →
     let l = c in
-    (l.loop-end.count < (start l.before.before.before).args.n) × (l.loop-end.count < length l.loop-end.true) × (length l.loop-end.true ≡ length (start l.before.before.before).args.taken.now)
+    (l.loop-end.count < (start l.before.before.before).args.n) × (l.loop-end.count < length l.loop-end.taken) × (length l.loop-end.taken ≡ length (start l.before.before.before).args.taken.now)
 room c =
     let l = c in
     let h : l.loop-end.count < (start l.before.before.before).args.n = omega (arith, l.loop-end.invariant.most, c.if-count-n.false) in

@@ -90,7 +90,7 @@ returns c =
     λ v rs t e.
     let l = c in
     let a = start l.before in
-    emitted (ap (λ (l : List Bucket). keys_bytes 4 (map (released_key v rs) l.before)) t.named)
+    emitted (ap (λ (l : List Bucket). keys_bytes 4 (map (released_key v rs) l)) t.named)
     (done (l.loop-k.invariant.2 v rs t e) (fields-none (key_field 4) (ap (map (released_key v rs)) (table_none a.args.buckets.now l.loop-k.k (omega arith)))))
 
 pub put_allocs_spec : {M : Type 1} → statement M

@@ -75,24 +75,24 @@ loop-again c =
     ⊎_elim
     (λ w. (
       omega arith,
-      omega (arith, w.5),
-      rw w.3 (simp length-set l.loop-k.invariant.2),
-      rw w.4 (simp length-set l.loop-k.invariant.3),
+      omega (arith, w.n-is),
+      rw w.emptied-is (simp length-set l.loop-k.invariant.2),
+      rw w.generations-is (simp length-set l.loop-k.invariant.3),
       λ v rs t.
           let b = bucket (get_or a.args.buckets.now k 0) in
-          let e = emptied-is v rs b x (by_number v rs a.args.buckets.now k (c.freed_bucket-f.ensures v rs t)) ∙ eq-eqb x.freed x.dirty w.0.taken in
-          rw (w.3, w.4, w.5, w.2.ensures v rs t, table_at a.args.buckets.now k)
+          let e = emptied-is v rs b x (by_number v rs a.args.buckets.now k (c.freed_bucket-f.ensures v rs t)) ∙ eq-eqb x.freed x.dirty w.if-f.true in
+          rw (w.emptied-is, w.generations-is, w.n-is, w.emptied_gen.ensures v rs t, table_at a.args.buckets.now k)
           (pick-hit (l.loop-k.invariant.4 v rs t) (those-hit (is_emptied v rs) (table-next a.args.buckets.now k (omega arith)) e) (omega (arith, a.requires.1, l.loop-k.invariant.2)) (omega (arith, a.requires.2, l.loop-k.invariant.3))),
     ))
     (λ w. (
       omega arith,
-      omega (arith, w.3),
-      rw w.1 l.loop-k.invariant.2,
-      rw w.2 l.loop-k.invariant.3,
+      omega (arith, w.n-is),
+      rw w.emptied-is l.loop-k.invariant.2,
+      rw w.generations-is l.loop-k.invariant.3,
       λ v rs t.
           let b = bucket (get_or a.args.buckets.now k 0) in
-          let e = emptied-is v rs b x (by_number v rs a.args.buckets.now k (c.freed_bucket-f.ensures v rs t)) ∙ ne_eqb x.freed x.dirty w.0.left in
-          rw (w.1, w.2, w.3) (pick-miss (l.loop-k.invariant.4 v rs t) (those-miss (is_emptied v rs) (table-next a.args.buckets.now k (omega arith)) e)),
+          let e = emptied-is v rs b x (by_number v rs a.args.buckets.now k (c.freed_bucket-f.ensures v rs t)) ∙ ne_eqb x.freed x.dirty w.if-f.false in
+          rw (w.emptied-is, w.generations-is, w.n-is) (pick-miss (l.loop-k.invariant.4 v rs t) (those-miss (is_emptied v rs) (table-next a.args.buckets.now k (omega arith)) e)),
     ))
     c.if-f.branch-raw
 

@@ -63,7 +63,7 @@ returns c =
     λ v rs t e.
     let l = c in
     let a = l in
-    emitted (ap (λ (l : List Bucket). keys_bytes 10 (flat_map (released_lru v rs) l.before)) (t.named ∙ ap (λ (n : ℕ). freed_buckets n rs) e))
+    emitted (ap (λ (l : List Bucket). keys_bytes 10 (flat_map (released_lru v rs) l)) (t.named ∙ ap (λ (n : ℕ). freed_buckets n rs) e))
     (done (l.loop-k.invariant.2 v rs t e) (flat-none (key_field 10) (released_lru v rs) (table_none a.args.buckets.now l.loop-k.k (omega arith))))
 
 pub put_lrus_spec : {M : Type 1} → statement M
