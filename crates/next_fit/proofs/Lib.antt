@@ -4,5 +4,3 @@ pub mod LayLaws
 pub mod NeededLaws
 pub mod LaidLaws
 pub mod ReadLaws
-pub mod Front
-pub mod Again

@@ -29,6 +29,8 @@ pub fn layout(pieces: &[Piece], bucket: u64, slots: &mut [u32]) -> Open
     let mut c = Open { index: 0, used: 0 };
     let mut i = 0;
     while i < pieces.len() {
+        // Read by itself, so that a proof knows that it fits two bytes.
+        let _stored = pieces[i].stored;
         c = fit_piece(slots, i, bucket, c, pieces[i]);
         i = i + 1;
     }

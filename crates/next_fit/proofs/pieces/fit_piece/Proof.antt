@@ -12,11 +12,11 @@ use Rattle.next_fit.proofs.pieces.fit_piece.Statement.{statement}
 use Rattle.next_fit.proofs.pieces.fit_piece.Tie as tie
 
 -- the slot is within its bounds
-high : (k : tie.After-next_fit-slot) → k.next-fit.result.index ≤ k.before.before.before.args.o.index + 1
-high k = fit-high _ _ _ _ (slot_in k.next-fit.result) k.next-fit.ensures
+high : (k : tie.After-next_fit-slot) → k.next_fit-slot.result.index ≤ k.before.before.before.args.o.index + 1
+high k = fit-high _ _ _ _ (slot_in k.next_fit-slot.result) k.next_fit-slot.ensures
 
-low : (k : tie.After-next_fit-slot) → k.next-fit.result.offset ≤ k.before.before.before.args.o.used
-low k = fit-offset _ _ _ _ (slot_in k.next-fit.result) k.next-fit.ensures
+low : (k : tie.After-next_fit-slot) → k.next_fit-slot.result.offset ≤ k.before.before.before.args.o.used
+low k = fit-offset _ _ _ _ (slot_in k.next_fit-slot.result) k.next_fit-slot.ensures
 
 cast-stored : tie.Need-overflow_cast-stored
 cast-stored c = search rules
