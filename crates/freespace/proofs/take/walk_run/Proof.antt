@@ -105,14 +105,14 @@ loop-again c =
     let m = sym c.is_marked.ensures in
     ⊎_elim
     (λ w.
-    let met : w.2.refusal ≡ thirteen (marked (start l.before.before.before.before.before.before).args.used.now l.loop-end.b) l.loop-end.refusal =
-    ⊎_elim (λ u. u.1 ∙ met-one l.loop-end.refusal (sym w.1.ensures ∙ u.0.taken)) (λ u. u.1 ∙ met-none l.loop-end.refusal (sym w.1.ensures ∙ u.0.left))
-    w.2.came in
-    ahead-at c.next_bucket-b.ensures w.4 w.5 w.3
-    (ahead-take _ _ l.loop-end.invariant w.2.refusal (room e.before.before.before).0 (start l.before.before.before.before.before.before).requires.0.room (below e.before.before.before.before) (m ∙ not-true _ w.0.taken) met))
+    let met : w.if-is_marked.refusal ≡ thirteen (marked (start l.before.before.before.before.before.before).args.used.now l.loop-end.b) l.loop-end.refusal =
+    ⊎_elim (λ u. u.refusal-is ∙ met-one l.loop-end.refusal (sym w.is_marked-then-not-is_marked.ensures ∙ u.if-is_marked.true)) (λ u. u.refusal-is ∙ met-none l.loop-end.refusal (sym w.is_marked-then-not-is_marked.ensures ∙ u.if-is_marked.false))
+    w.if-is_marked.branch-raw in
+    ahead-at c.next_bucket-b.ensures w.count-is w.refusal-is w.taken-is
+    (ahead-take _ _ l.loop-end.invariant w.if-is_marked.refusal (room e.before.before.before).0 (start l.before.before.before.before.before.before).requires.0.room (below e.before.before.before.before) (m ∙ not-true _ w.if-not-is_marked.true-raw) met))
     (λ w.
-    ahead-at c.next_bucket-b.ensures w.2 w.3 w.1
-    (ahead-skip _ _ l.loop-end.invariant (room e.before.before.before).0 (below e.before.before.before.before) (m ∙ not-false _ w.0.left)))
+    ahead-at c.next_bucket-b.ensures w.count-is w.refusal-is w.taken-is
+    (ahead-skip _ _ l.loop-end.invariant (room e.before.before.before).0 (below e.before.before.before.before) (m ∙ not-false _ w.if-not-is_marked.false-raw)))
     c.if-not-is_marked.branch-raw
 
 same-length-2 : tie.Need-shape_of-taken invariant-loop decreases-loop
