@@ -34,10 +34,20 @@ class Function:
         self.step = [p[2] for p in v["places"]]
         self.inner = [dict(map(tuple, p[4])) for p in v["places"]]
         self.by_old = {norm(n): i for i, n in enumerate(self.old)}
+        self.args = {}
+        for n, i in self.by_old.items():
+            m = re.match(r"(after_.*_arg)\d*$", n)
+            if m:
+                self.args[m[1]] = max(i, self.args.get(m[1], 0))
         self.needs = {bare(o): n for o, n in v["needs"]}
         self.asked = {n: index[at[0]] for (o, n), at in zip(v["needs"], v["asked_at"]) if at[0] in index}
         self.loops = {norm(o): n for (o, n), _ in v["loops"]}
         self.arm = v["arms"]
+
+    def place(self, name):
+        """The place of that name before; the last argument of a call where there were more."""
+        key = norm(name)
+        return self.by_old.get(key, self.args.get(re.sub(r"\d+$", "", key)))
 
     def up(self, i, k):
         while k and self.parent[i] is not None:
@@ -122,8 +132,8 @@ def turn(text, f, path, said):
                     return f.prefix + "." + head + table[key]
                 said.append(f"{path}: no {name}")
                 return m[0]
-        if norm(name) in f.by_old:
-            return f.prefix + "." + f.new[f.by_old[norm(name)]]
+        if f.place(name) is not None:
+            return f.prefix + "." + f.new[f.place(name)]
         if name[0].isupper():
             said.append(f"{path}: no place {name}")
         return m[0]
@@ -139,9 +149,9 @@ def turn(text, f, path, said):
                 if types[0].startswith("Need-"):
                     new = f.needs.get(bare(types[0][5:]))
                     place = f.asked.get(new)
-                elif norm(types[0]) in f.by_old:
-                    place = f.by_old[norm(types[0])]
-                    helper[sig[1]] = (place, f.by_old.get(norm(types[1])) if len(types) > 1 and part.startswith("abbrev") else None)
+                elif f.place(types[0]) is not None:
+                    place = f.place(types[0])
+                    helper[sig[1]] = (place, f.place(types[1]) if len(types) > 1 and part.startswith("abbrev") else None)
         where.append(place)
     out = []
     for part, place in zip(parts, where):
@@ -155,6 +165,7 @@ def turn(text, f, path, said):
     text = re.sub(r"sym \(length-map (\S+) (?:\(λ x\. x\)|_)\) ∙ (c\.well_formed)", r"\2", text)
     text = text.replace(".type-inv", ".type_inv").replace(").pre", ").requires").replace(").good", ").well_formed")
     text = re.sub(r"(?<=\w)\.pre(?![\w-])", ".requires", text)
+    text = re.sub(r"(?<=[\w)])\.inv(?![\w-])", ".invariant", text)
     return re.sub(r"(?m)(?<![\w'-])([a-z][\w-]*)-spec\b", lambda m: norm(m[1]) + "_spec", text)
 
 

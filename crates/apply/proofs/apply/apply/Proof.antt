@@ -6,32 +6,32 @@ use mathlib.Core.Logic.{inl, inr}
 use Rattle.apply.proofs.apply.apply.Statement.{statement}
 use Rattle.apply.proofs.apply.apply.Tie as tie
 
-slice-aggregate-apply-by : tie.Need-slice-aggregate-apply-by
+slice-aggregate-apply-by : tie.Need-slice_bounds-apply_by-end
 slice-aggregate-apply-by c = search rules
 
-apply-by-requires : tie.Need-apply-by-requires
+apply-by-requires : tie.Need-apply_by-requires
 apply-by-requires c κs = (inr (omega arith), refl)
 
-same_length : tie.Need-same-length
+same_length : tie.Need-shape_of-out-then-volume-le3072
 same_length c = search rules
 
-returns : tie.Need-returns
+returns : tie.Need-returns-then-volume-le3072
 returns c = search rules
 
-slice-aggregate-apply-by-2 : tie.Need-slice-aggregate-apply-by-2
+slice-aggregate-apply-by-2 : tie.Need-slice_bounds-apply_by-end-2
 slice-aggregate-apply-by-2 c = search rules
 
-apply-by-requires-2 : tie.Need-apply-by-requires-2
+apply-by-requires-2 : tie.Need-apply_by-requires-2
 apply-by-requires-2 c κs = (inl (omega arith), refl)
 
-same-length-2 : tie.Need-same-length-2
+same-length-2 : tie.Need-shape_of-out
 same-length-2 c = search rules
 
-returns-2 : tie.Need-returns-2
+returns-2 : tie.Need-returns
 returns-2 c = search rules
 
-pub apply-spec : {M : Type 1} → statement M
-apply-spec =
+pub apply_spec : {M : Type 1} → statement M
+apply_spec =
     tie.close
     (tie.spec
     slice-aggregate-apply-by

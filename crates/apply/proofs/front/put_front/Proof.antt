@@ -5,15 +5,15 @@ use Rattle.apply.specs.Roots.{front_bytes}
 use Rattle.apply.proofs.front.put_front.Statement.{statement}
 use Rattle.apply.proofs.front.put_front.Tie as tie
 
-put-head-requires : tie.Need-put-head-requires
+put-head-requires : tie.Need-put_head-requires
 put-head-requires c κs = search rules
 
-same_length : tie.Need-same-length
+same_length : tie.Need-shape_of-out
 same_length c = search rules
 
 returns : tie.Need-returns
 unfolding front_bytes with_roots
-returns c = c.before.before.put-head.ensures
+returns c = c.put_head.ensures
 
-pub put-front-spec : {M : Type 1} → statement M
-put-front-spec = tie.close (tie.spec put-head-requires same_length returns)
+pub put_front_spec : {M : Type 1} → statement M
+put_front_spec = tie.close (tie.spec put-head-requires same_length returns)

@@ -6,27 +6,27 @@ use Rattle.apply.specs.NextVolume.{ends_of}
 use Rattle.apply.proofs.lists.end_at.Statement.{statement}
 use Rattle.apply.proofs.lists.end_at.Tie as tie
 
-returns : tie.Need-returns
+returns : tie.Need-returns-in-0
 returns c = search rules
 
-returns-2 : tie.Need-returns-2
+returns-2 : tie.Need-returns-in-1
 returns-2 c = search rules
 
-returns-3 : tie.Need-returns-3
+returns-3 : tie.Need-returns-in-2
 returns-3 c = search rules
 
-returns-4 : tie.Need-returns-4
+returns-4 : tie.Need-returns-in-3
 returns-4 c = search rules
 
-returns-5 : tie.Need-returns-5
+returns-5 : tie.Need-returns-in-4
 returns-5 c = search rules
 
-returns-6 : tie.Need-returns-6
+returns-6 : tie.Need-returns-in-5
 returns-6 c = search rules
 
-returns-7 : tie.Need-returns-7
-returns-7 c = last-at (ends_of c.before.args.e) c.before.args.i c.before.requires (omega arith)
+returns-7 : tie.Need-returns-in_default
+returns-7 c = last-at (ends_of c.args.e) c.args.i c.requires (omega arith)
 
-pub end-at-spec : {M : Type 1} → statement M
-end-at-spec =
+pub end_at_spec : {M : Type 1} → statement M
+end_at_spec =
     tie.close (tie.spec returns returns-2 returns-3 returns-4 returns-5 returns-6 returns-7)

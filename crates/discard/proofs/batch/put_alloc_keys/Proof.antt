@@ -16,48 +16,48 @@ use Rattle.discard.proofs.EmitLaws.{at_next, at_none}
 use Rattle.discard.proofs.batch.put_alloc_keys.Statement.{statement}
 use Rattle.discard.proofs.batch.put_alloc_keys.Tie as tie
 
-abbrev invariant-loop : tie.invariant-loop
+abbrev invariant-loop : tie.invariant-loop-i
 invariant-loop out₀ at s discarded p₀ i₀ out p i = Part out₀ at (keys_bytes 4 (map discarded_key (keys_here s discarded))) out p (keys_bytes 4 (map discarded_key (drop i (keys_here s discarded))))
 
-abbrev decreases-loop : tie.decreases-loop
+abbrev decreases-loop : tie.decreases-loop-i
 decreases-loop out₀ at s discarded p₀ i₀ out p i = length discarded - i
 
-loop-holds : tie.Need-loop-init invariant-loop decreases-loop
+loop-holds : tie.Need-loop-i-init invariant-loop decreases-loop
 loop-holds c = begin _ _ _ (omega arith)
 
-mul-put-alloc-key : tie.Need-overflow-mul-put-alloc-key invariant-loop decreases-loop
+mul-put-alloc-key : tie.Need-offset_bounds-discarded-i invariant-loop decreases-loop
 mul-put-alloc-key c = omega arith
 
-shared-slice-read-put-alloc-key : tie.Need-shared-slice-read-put-alloc-key invariant-loop decreases-loop
+shared-slice-read-put-alloc-key : tie.Need-bounds-discarded-i invariant-loop decreases-loop
 shared-slice-read-put-alloc-key c = omega arith
 
-put-alloc-key-requires : tie.Need-put-alloc-key-requires invariant-loop decreases-loop
-put-alloc-key-requires c κs = all-nth 0 c.before.before.before.before.before.before.before.requires c.before.before.before.loop.i (omega arith)
+put-alloc-key-requires : tie.Need-put_alloc_key-p-requires invariant-loop decreases-loop
+put-alloc-key-requires c κs = all-nth 0 c.requires c.loop-i.i (omega arith)
 
-add-i : tie.Need-overflow-add-i invariant-loop decreases-loop
+add-i : tie.Need-overflow_add-i invariant-loop decreases-loop
 add-i c = omega arith
 
-loop-less : tie.Need-loop-smaller invariant-loop decreases-loop
+loop-less : tie.Need-loop-i-smaller invariant-loop decreases-loop
 loop-less c = omega arith
 
-loop-again : tie.Need-loop-preserved invariant-loop decreases-loop
+loop-again : tie.Need-loop-i-preserved invariant-loop decreases-loop
 loop-again c =
-    let k = c.before.before in
-    let l = k.before.before.before.before in
-    let a = l.before.before.before.before.args in
-    turn _ l.loop.invariant (fields-next (key_field 4) (ap (map discarded_key) (at_next (key_here a.s.now) a.discarded.now l.loop.i (omega arith)))) k.put-alloc-key.ensures
+    let k = c in
+    let l = k in
+    let a = l.args in
+    turn _ l.loop-i.invariant (fields-next (key_field 4) (ap (map discarded_key) (at_next (key_here a.s.now) a.discarded.now l.loop-i.i (omega arith)))) k.put_alloc_key-p.ensures
 
-same_length : tie.Need-same-length invariant-loop decreases-loop
-same_length c = part_length c.before.loop.invariant
+same_length : tie.Need-shape_of-out invariant-loop decreases-loop
+same_length c = part_length c.loop-i.invariant
 
 returns : tie.Need-returns invariant-loop decreases-loop
 returns c =
-    let l = c.before in
-    let a = l.before.before.before.before.args in
-    done l.loop.invariant (fields-none (key_field 4) (ap (map discarded_key) (at_none (key_here a.s.now) a.discarded.now l.loop.i (omega arith))))
+    let l = c in
+    let a = l.args in
+    done l.loop-i.invariant (fields-none (key_field 4) (ap (map discarded_key) (at_none (key_here a.s.now) a.discarded.now l.loop-i.i (omega arith))))
 
-pub put-alloc-keys-spec : {M : Type 1} → statement M
-put-alloc-keys-spec =
+pub put_alloc_keys_spec : {M : Type 1} → statement M
+put_alloc_keys_spec =
     tie.close
     (tie.spec
     invariant-loop

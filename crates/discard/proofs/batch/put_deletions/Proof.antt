@@ -17,48 +17,48 @@ use Rattle.discard.proofs.EmitLaws.{at_next, at_none}
 use Rattle.discard.proofs.batch.put_deletions.Statement.{statement}
 use Rattle.discard.proofs.batch.put_deletions.Tie as tie
 
-abbrev invariant-loop : tie.invariant-loop
+abbrev invariant-loop : tie.invariant-loop-i
 invariant-loop out₀ at s discarded needs table p₀ i₀ out p i = Part out₀ at (keys_bytes 12 (flat_map (waiting_deletions (keys_here s needs)) (buckets_at s discarded))) out p (keys_bytes 12 (flat_map (waiting_deletions (keys_here s needs)) (drop i (buckets_at s discarded))))
 
-abbrev decreases-loop : tie.decreases-loop
+abbrev decreases-loop : tie.decreases-loop-i
 decreases-loop out₀ at s discarded needs table p₀ i₀ out p i = length discarded - i
 
-loop-holds : tie.Need-loop-init invariant-loop decreases-loop
+loop-holds : tie.Need-loop-i-init invariant-loop decreases-loop
 loop-holds c = begin _ _ _ (omega arith)
 
-mul-put-waiting : tie.Need-overflow-mul-put-waiting invariant-loop decreases-loop
+mul-put-waiting : tie.Need-offset_bounds-discarded-i invariant-loop decreases-loop
 mul-put-waiting c = omega arith
 
-shared-slice-read-put-waiting : tie.Need-shared-slice-read-put-waiting invariant-loop decreases-loop
+shared-slice-read-put-waiting : tie.Need-bounds-discarded-i invariant-loop decreases-loop
 shared-slice-read-put-waiting c = omega arith
 
-put-waiting-requires : tie.Need-put-waiting-requires invariant-loop decreases-loop
-put-waiting-requires c κs = (all-nth 0 c.before.before.before.before.before.before.before.before.before.requires.0 c.before.before.before.loop.i (omega arith), c.before.before.before.before.before.before.before.before.before.requires.1)
+put-waiting-requires : tie.Need-put_waiting-p-requires invariant-loop decreases-loop
+put-waiting-requires c κs = (all-nth 0 c.requires.0 c.loop-i.i (omega arith), c.requires.1)
 
-add-i : tie.Need-overflow-add-i invariant-loop decreases-loop
+add-i : tie.Need-overflow_add-i invariant-loop decreases-loop
 add-i c = omega arith
 
-loop-less : tie.Need-loop-smaller invariant-loop decreases-loop
+loop-less : tie.Need-loop-i-smaller invariant-loop decreases-loop
 loop-less c = omega arith
 
-loop-again : tie.Need-loop-preserved invariant-loop decreases-loop
+loop-again : tie.Need-loop-i-preserved invariant-loop decreases-loop
 loop-again c =
-    let k = c.before.before in
-    let l = k.before.before.before.before in
-    let a = l.before.before.before.before.before.before.args in
-    turn _ l.loop.invariant (flat-next (key_field 12) (waiting_deletions (keys_here a.s.now a.needs.now)) (at_next (bucket_here a.s.now) a.discarded.now l.loop.i (omega arith))) k.put-waiting.ensures
+    let k = c in
+    let l = k in
+    let a = l.args in
+    turn _ l.loop-i.invariant (flat-next (key_field 12) (waiting_deletions (keys_here a.s.now a.needs.now)) (at_next (bucket_here a.s.now) a.discarded.now l.loop-i.i (omega arith))) k.put_waiting-p.ensures
 
-same_length : tie.Need-same-length invariant-loop decreases-loop
-same_length c = part_length c.before.loop.invariant
+same_length : tie.Need-shape_of-out invariant-loop decreases-loop
+same_length c = part_length c.loop-i.invariant
 
 returns : tie.Need-returns invariant-loop decreases-loop
 returns c =
-    let l = c.before in
-    let a = l.before.before.before.before.before.before.args in
-    done l.loop.invariant (flat-none (key_field 12) (waiting_deletions (keys_here a.s.now a.needs.now)) (at_none (bucket_here a.s.now) a.discarded.now l.loop.i (omega arith)))
+    let l = c in
+    let a = l.args in
+    done l.loop-i.invariant (flat-none (key_field 12) (waiting_deletions (keys_here a.s.now a.needs.now)) (at_none (bucket_here a.s.now) a.discarded.now l.loop-i.i (omega arith)))
 
-pub put-deletions-spec : {M : Type 1} → statement M
-put-deletions-spec =
+pub put_deletions_spec : {M : Type 1} → statement M
+put_deletions_spec =
     tie.close
     (tie.spec
     invariant-loop

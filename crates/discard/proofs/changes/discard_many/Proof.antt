@@ -5,23 +5,23 @@ use borrow.Author.Rules.{rules}
 use Rattle.discard.proofs.changes.discard_many.Statement.{statement}
 use Rattle.discard.proofs.changes.discard_many.Tie as tie
 
-note-waiting-requires : tie.Need-note-waiting-requires
-note-waiting-requires c κs = let r = ready-found c.before.before.before.before.before.requires in (r.waits, r.few_waits, refl)
+note-waiting-requires : tie.Need-note_waiting-requires
+note-waiting-requires c κs = let r = ready-found c.requires in (r.waits, r.few_waits, refl)
 
-slice-aggregate-discard-tabled : tie.Need-slice-aggregate-discard-tabled
-slice-aggregate-discard-tabled c = sym c.before.note-waiting.ensures.0
+slice-aggregate-discard-tabled : tie.Need-slice_bounds-discard_tabled-end
+slice-aggregate-discard-tabled c = sym c.note_waiting.ensures.0
 
-discard-tabled-requires : tie.Need-discard-tabled-requires
-discard-tabled-requires c κs = (c.before.before.before.before.before.before.before.before.before.requires, c.before.before.before.note-waiting.ensures.1)
+discard-tabled-requires : tie.Need-discard_tabled-requires
+discard-tabled-requires c κs = (c.requires, c.note_waiting.ensures.1)
 
-same_length : tie.Need-same-length
+same_length : tie.Need-shape_of-out
 same_length c = search rules
 
 returns : tie.Need-returns
-returns c = c.before.before.discard-tabled.ensures
+returns c = c.discard_tabled.ensures
 
-pub discard-many-spec : {M : Type 1} → statement M
-discard-many-spec =
+pub discard_many_spec : {M : Type 1} → statement M
+discard_many_spec =
     tie.close
     (tie.spec
     note-waiting-requires

@@ -9,71 +9,71 @@ use Rattle.discard.proofs.RunLaws.{Runs, runs_none, runs-more, runs-all, with_si
 use Rattle.discard.proofs.runs.put_runs.Statement.{statement}
 use Rattle.discard.proofs.runs.put_runs.Tie as tie
 
-abbrev invariant-loop : tie.invariant-loop
+abbrev invariant-loop : tie.invariant-loop-i
 invariant-loop out₀ at s discarded p₀ r₀ i₀ out p r i = (r.size ≤ i) × Runs s discarded out₀ at out p r i
 
-abbrev decreases-loop : tie.decreases-loop
+abbrev decreases-loop : tie.decreases-loop-i
 decreases-loop out₀ at s discarded p₀ r₀ i₀ out p r i = length discarded - i
 
 -- the call's start, and the turn of the loop that has written what ended
-abbrev start : tie.At-loop invariant-loop decreases-loop → tie.Start invariant-loop decreases-loop
+abbrev start : tie.At-loop-i invariant-loop decreases-loop → tie.Start invariant-loop decreases-loop
 start l = l.before.before.before.before
 
-abbrev turn : tie.After-slice-known2 invariant-loop decreases-loop → tie.At-loop invariant-loop decreases-loop
+abbrev turn : tie.After-slice_known-in-loop-i-1 invariant-loop decreases-loop → tie.At-loop-i invariant-loop decreases-loop
 turn c = c.before.before.before.before.before.before.before
 
-loop-holds : tie.Need-loop-init invariant-loop decreases-loop
-loop-holds c = (omega arith, runs_none c.before.before.before.args.s.now c.before.before.before.args.discarded.now _ (omega arith))
+loop-holds : tie.Need-loop-i-init invariant-loop decreases-loop
+loop-holds c = (omega arith, runs_none c.args.s.now c.args.discarded.now _ (omega arith))
 
-mul-bucket-at : tie.Need-overflow-mul-bucket-at invariant-loop decreases-loop
+mul-bucket-at : tie.Need-offset_bounds-discarded-i invariant-loop decreases-loop
 mul-bucket-at c = omega arith
 
-shared-slice-read-bucket-at : tie.Need-shared-slice-read-bucket-at invariant-loop decreases-loop
+shared-slice-read-bucket-at : tie.Need-bounds-discarded-i invariant-loop decreases-loop
 shared-slice-read-bucket-at c = omega arith
 
-cast-bucket-at : tie.Need-overflow-cast-bucket-at invariant-loop decreases-loop
-cast-bucket-at c = omega (arith, c.shared-slice-known3.given c.before.before.loop.i)
+cast-bucket-at : tie.Need-overflow_cast-discarded invariant-loop decreases-loop
+cast-bucket-at c = omega (arith, c.shared_slice_known-in-loop-i-1.given c.loop-i.i)
 
-bucket-at-requires : tie.Need-bucket-at-requires invariant-loop decreases-loop
-bucket-at-requires c κs = (all-nth 0 (start c.before.before).pre.0 c.before.before.loop.i (omega arith)).kept
+bucket-at-requires : tie.Need-bucket_at-b-requires invariant-loop decreases-loop
+bucket-at-requires c κs = (all-nth 0 (start c.before.before).requires.0 c.loop-i.i (omega arith)).kept
 
-put-ended-requires : tie.Need-put-ended-requires invariant-loop decreases-loop
+put-ended-requires : tie.Need-put_ended-p-requires invariant-loop decreases-loop
 put-ended-requires c κs = tt
 
-with-bucket-requires : tie.Need-with-bucket-requires invariant-loop decreases-loop
+with-bucket-requires : tie.Need-with_bucket-r-requires invariant-loop decreases-loop
 with-bucket-requires c κs =
     let l = turn c in
-    let h = all-nth 0 (start l).pre.0 l.loop.i (omega arith) in
-    (rw c.before.before.before.before.bucket-at.ensures h.below, omega (arith, l.loop.inv.0, (start l).pre.1))
+    let h = all-nth 0 (start l).requires.0 l.loop-i.i (omega arith) in
+    (rw c.bucket_at-b.ensures h.below, omega (arith, l.loop-i.invariant.0, (start l).requires.1))
 
-add-i : tie.Need-overflow-add-i invariant-loop decreases-loop
+add-i : tie.Need-overflow_add-i invariant-loop decreases-loop
 add-i c = omega arith
 
-loop-less : tie.Need-loop-smaller invariant-loop decreases-loop
+loop-less : tie.Need-loop-i-smaller invariant-loop decreases-loop
 loop-less c = omega arith
 
-loop-again : tie.Need-loop-preserved invariant-loop decreases-loop
+loop-again : tie.Need-loop-i-preserved invariant-loop decreases-loop
 loop-again c =
     let t = turn c.before in
     let a = (start t).args in
-    let l = t.loop in
-    let w = c.with-bucket.ensures in
-    (rw w (omega (arith, with_size l.r c.before.before.before.before.before.bucket-at.result, l.inv.0)), rw w (runs-more a.s.now a.discarded.now l.r l.i l.inv.1 (omega arith) c.before.before.before.before.before.bucket-at.ensures c.before.before.before.put_ended.ensures))
+    let l = t.loop-i in
+    let w = c.with_bucket-r.ensures in
+    (rw w (omega (arith, with_size l.r c.bucket_at-b.result, l.invariant.0)), rw w (runs-more a.s.now a.discarded.now l.r l.i l.invariant.1 (omega arith) c.bucket_at-b.ensures c.put_ended-p.ensures))
 
-put-run-requires : tie.Need-put-run-requires invariant-loop decreases-loop
+put-run-requires : tie.Need-put_run-requires invariant-loop decreases-loop
 put-run-requires c κs = tt
 
-same_length : tie.Need-same-length invariant-loop decreases-loop
-same_length c = wrote-length c.before.before.put-run.ensures ∙ part_length c.before.before.before.before.before.loop.invariant.1
+same_length : tie.Need-shape_of-out invariant-loop decreases-loop
+same_length c = wrote-length c.put_run.ensures ∙ part_length c.loop-i.invariant.1
 
 returns : tie.Need-returns invariant-loop decreases-loop
 returns c =
     let a = (start c.before.before.before.before.before).args in
-    let l = c.before.before.before.before.before.loop in
-    runs-all a.s.now a.discarded.now l.r l.i l.invariant.1 (omega arith) c.before.before.put-run.ensures
+    let l = c.loop-i in
+    runs-all a.s.now a.discarded.now l.r l.i l.invariant.1 (omega arith) c.put_run.ensures
 
-pub put-runs-spec : {M : Type 1} → statement M
-put-runs-spec =
+pub put_runs_spec : {M : Type 1} → statement M
+put_runs_spec =
     tie.close
     (tie.spec
     invariant-loop

@@ -18,108 +18,108 @@ use borrow.Author.Rules.{rules}
 use Rattle.place_tests.proofs.refusals.choose_buckets.Statement.{statement}
 use Rattle.place_tests.proofs.refusals.choose_buckets.Tie as tie
 
-abbrev start : tie.After-refuse-requests → tie.Start
+abbrev start : tie.After-refuse_requests-number → tie.Start
 start c = c.before.before.before.before.before.before.before.before
 
-abbrev list : tie.After-refuse-requests → CallList
+abbrev list : tie.After-refuse_requests-number → CallList
 list c = read_call (start c).args.s.now
 
-abbrev first : tie.After-lay-out → tie.After-refuse-requests
+abbrev first : tie.After-lay_out-n → tie.After-refuse_requests-number
 first n = n.before.before.before.before.before
 
-abbrev laid : tie.After-enough-free → tie.After-lay-out
+abbrev laid : tie.After-enough_free → tie.After-lay_out-n
 laid e = e.before.before.before
 
 -- refusals 4 to 9 did not come
-passed : (c : tie.Else1) → verdict (take 6 (place_tests (list c.before))) ≡ 0
-passed c = sym c.before.refuse-requests.ensures ∙ c.if1.false
+passed : (c : tie.Else-number-ne0) → verdict (take 6 (place_tests (list c.before))) ≡ 0
+passed c = sym c.refuse_requests-number.ensures ∙ c.if-number-ne0.false
 
 -- nor did 10
-apart : (c : tie.Else2) → overlaps (runs_of (list c.before.before.before).volume.trees.freespace) ≡ false
-apart c = sym c.before.overlaps.ensures ∙ c.if2.false
+apart : (c : tie.Else-overlaps) → overlaps (runs_of (list c.before.before.before).volume.trees.freespace) ≡ false
+apart c = sym c.overlaps.ensures ∙ c.if-overlaps.false
 
-needed : (n : tie.After-lay-out) → n.lay-out.result ≡ buckets_needed (slots_of (list (first n)))
-needed n = n.lay-out.ensures.0 ∙ ap buckets_needed (slots-are (start (first n)).requires.0)
+needed : (n : tie.After-lay_out-n) → n.lay_out-n.result ≡ buckets_needed (slots_of (list (first n)))
+needed n = n.lay_out-n.ensures.0 ∙ ap buckets_needed (slots-are (start (first n)).requires.0)
 
-short : (n : tie.After-lay-out) → n.lay-out.result ≤ 1024
+short : (n : tie.After-lay_out-n) → n.lay_out-n.result ≤ 1024
 short n =
     let a = start (first n) in
-    omega (arith, needed n, needed-short a.pre.0 (asked (list (first n)) a.args.h a.pre.0.head (passed n.before.before.before.before)))
+    omega (arith, needed n, needed-short a.requires.0 (asked (list (first n)) a.args.h a.requires.0.head (passed n.before.before.before.before)))
 
 -- refusal 11's test
-free : (e : tie.After-enough-free) → enough (list (first (laid e))) ≡ e.enough-free.result
+free : (e : tie.After-enough_free) → enough (list (first (laid e))) ≡ e.enough_free.result
 free e =
     let a = start (first (laid e)) in
-    enough-is a.args.s.now (needed (laid e)) a.args.h a.pre.0.head e.enough-free.ensures
+    enough-is a.args.s.now (needed (laid e)) a.args.h a.requires.0.head e.enough_free.ensures
 
-refuse-requests-requires : tie.Need-refuse-requests-requires
+refuse-requests-requires : tie.Need-refuse_requests-number-requires
 refuse-requests-requires c κs = search rules
 
 stopped-requires : tie.Need-stopped-requires
 stopped-requires c κs = search rules
 
-returns : tie.Need-returns
+returns : tie.Need-returns-then-number-ne0
 returns c =
-    let f = c.before.before in
-    chosen-stopped c.stopped.result c.stopped.ensures c.before.if1.true (asked-stops (list f) f.refuse-requests.ensures c.before.if1.true)
+    let f = c in
+    chosen-stopped c.stopped.result c.stopped.ensures c.if-number-ne0.true (asked-stops (list f.before.before) f.refuse_requests-number.ensures c.if-number-ne0.true)
 
 overlaps-requires : tie.Need-overlaps-requires
 overlaps-requires c κs = search rules
 
-stopped-requires-2 : tie.Need-stopped-requires-2
+stopped-requires-2 : tie.Need-stopped-requires-then-overlaps
 stopped-requires-2 c κs = search rules
 
-returns-2 : tie.Need-returns-2
+returns-2 : tie.Need-returns-then-overlaps
 returns-2 c =
-    let o = c.before.before in
-    chosen-stopped c.stopped2.result c.stopped2.ensures (λ z. omega arith)
-    (overlap-stops (list o.before.before) (passed o.before) (sym o.overlaps.ensures ∙ c.before.if2.true))
+    let o = c in
+    chosen-stopped c.stopped-then-overlaps.result c.stopped-then-overlaps.ensures (λ z. omega arith)
+    (overlap-stops (list o.before.before.before.before) (passed o.before.before.before) (sym o.overlaps.ensures ∙ c.if-overlaps.true))
 
-lay-out-requires : tie.Need-lay-out-requires
+lay-out-requires : tie.Need-lay_out-n-requires
 lay-out-requires c κs = search rules
 
-enough-free-requires : tie.Need-enough-free-requires
+enough-free-requires : tie.Need-enough_free-requires
 enough-free-requires c κs =
-    let n = c.before.before in
-    let q = (start (first n)).requires.0 in
-    (q.checked, q.runs, q.reserved, apart n.before.before, short n)
+    let n = c in
+    let q = (start (first n.before.before)).requires.0 in
+    (q.checked, q.runs, q.reserved, apart n.before.before.before.before, short n.before.before)
 
-stopped-requires-3 : tie.Need-stopped-requires-3
+stopped-requires-3 : tie.Need-stopped-requires-then-not-enough_free
 stopped-requires-3 c κs = search rules
 
-same_length : tie.Need-same-length
+same_length : tie.Need-shape_of-slots-then-not-enough_free
 same_length c = search rules
 
-returns-3 : tie.Need-returns-3
+returns-3 : tie.Need-returns-then-not-enough_free
 returns-3 c =
-    let e = c.before.before in
-    let n = laid e in
-    chosen-stopped c.stopped3.result c.stopped3.ensures (λ z. omega arith)
-    (shortage-stops (list (first n)) (passed n.before.before.before.before) (apart n.before.before) (free e ∙ not-true _ c.before.if3.true))
+    let e = c in
+    let n = laid e.before.before in
+    chosen-stopped c.stopped-then-not-enough_free.result c.stopped-then-not-enough_free.ensures (λ z. omega arith)
+    (shortage-stops (list (first n)) (passed n.before.before.before.before) (apart n.before.before) (free e.before.before ∙ not-true _ c.if-not-enough_free.true-raw))
 
-walk-runs-requires : tie.Need-walk-runs-requires
+walk-runs-requires : tie.Need-walk_runs-requires
 walk-runs-requires c κs =
     let n = laid c.before.before in
     let a = start (first n) in
-    (a.pre.0.checked, a.pre.0.alloc, a.pre.0.runs, a.pre.0.reserved, omega (arith, short n, a.pre.1))
+    (a.requires.0.checked, a.requires.0.alloc, a.requires.0.runs, a.requires.0.reserved, omega (arith, short n, a.requires.1))
 
-same-length-2 : tie.Need-same-length-2
+same-length-2 : tie.Need-shape_of-taken
 same-length-2 c = search rules
 
-same-length-3 : tie.Need-same-length-3
+same-length-3 : tie.Need-shape_of-slots
 same-length-3 c = search rules
 
-returns-4 : tie.Need-returns-4
+returns-4 : tie.Need-returns
 returns-4 c =
-    let w = c.before.before in
-    let i = w.before.before in
-    let n = laid i.before in
+    let w = c in
+    let i = w in
+    let n = laid i.before.before.before.before.before in
     chosen-walk (start (first n)).args.s.now (needed n)
-    (walk-decides (list (first n)) (passed n.before.before.before.before) (apart n.before.before) (free i.before ∙ not-false _ i.if3.false))
-    (n.lay-out.ensures.1 ∙ slots-are (start (first n)).requires.0) w.walk-runs.ensures
+    (walk-decides (list (first n)) (passed n.before.before.before.before) (apart n.before.before) (free i.before.before.before.before.before ∙ not-false _ i.if-not-enough_free.false-raw))
+    (n.lay_out-n.ensures.1 ∙ slots-are (start (first n)).requires.0) w.walk_runs.ensures
 
-pub choose-buckets-spec : {M : Type 1} → statement M
-choose-buckets-spec =
+pub choose_buckets_spec : {M : Type 1} → statement M
+choose_buckets_spec =
     tie.close
     (tie.spec
     refuse-requests-requires

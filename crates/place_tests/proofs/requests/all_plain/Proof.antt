@@ -15,57 +15,57 @@ use native.Mathlib.Omega.{arith}
 use Rattle.place_tests.proofs.requests.all_plain.Statement.{statement}
 use Rattle.place_tests.proofs.requests.all_plain.Tie as tie
 
-abbrev invariant-loop : tie.invariant-loop
+abbrev invariant-loop : tie.invariant-loop-i
 invariant-loop s pieces i₀ i = all_of (λ p. eqb p.kind 0) (drop i (read_call s).pieces) ≡ all_of (λ p. eqb p.kind 0) (read_call s).pieces
 
-abbrev decreases-loop : tie.decreases-loop
+abbrev decreases-loop : tie.decreases-loop-i
 decreases-loop s pieces i₀ i = length pieces - i
 
 -- the piece of this turn, and those after it
-turn : (c : tie.After-read-piece invariant-loop decreases-loop) →
-    let l = c.before.before.before in
-    let ps = (read_call l.before.before.before.args.s.now).pieces in
-    drop l.loop.i ps ≡ piece_in c.read-piece.result ∷ drop (l.loop.i + 1) ps
+turn : (c : tie.After-read_piece-p invariant-loop decreases-loop) →
+    let l = c in
+    let ps = (read_call l.args.s.now).pieces in
+    drop l.loop-i.i ps ≡ piece_in c.read_piece-p.result ∷ drop (l.loop-i.i + 1) ps
 turn c =
-    let l = c.before.before.before in
-    pieces-next l.before.before.before.requires l.loop.i c.before.before.loop-test.true
-    ∙ ap (λ (p : Piece). p ∷ drop (l.loop.i + 1) (read_call l.before.before.before.args.s.now).pieces) (sym c.read-piece.ensures)
+    let l = c in
+    pieces-next l.requires l.loop-i.i c.loop-i-test.true
+    ∙ ap (λ (p : Piece). p ∷ drop (l.loop-i.i + 1) (read_call l.args.s.now).pieces) (sym c.read_piece-p.ensures)
 
-loop-holds : tie.Need-loop-init invariant-loop decreases-loop
+loop-holds : tie.Need-loop-i-init invariant-loop decreases-loop
 loop-holds c = refl
 
-mul-read-piece : tie.Need-overflow-mul-read-piece invariant-loop decreases-loop
+mul-read-piece : tie.Need-offset_bounds-pieces-i invariant-loop decreases-loop
 mul-read-piece c = omega arith
 
-shared-slice-read-read-piece : tie.Need-shared-slice-read-read-piece invariant-loop decreases-loop
+shared-slice-read-read-piece : tie.Need-bounds-pieces-i invariant-loop decreases-loop
 shared-slice-read-read-piece c = omega arith
 
-cast-read-piece : tie.Need-overflow-cast-read-piece invariant-loop decreases-loop
-cast-read-piece c = omega (arith, c.shared-slice-known3.given c.before.before.loop.i)
+cast-read-piece : tie.Need-overflow_cast-pieces invariant-loop decreases-loop
+cast-read-piece c = omega (arith, c.shared_slice_known-in-loop-i-1.given c.loop-i.i)
 
-read-piece-requires : tie.Need-read-piece-requires invariant-loop decreases-loop
-read-piece-requires c κs = (c.before.before.before.before.before.requires.at c.before.before.loop.i c.before.loop-test.true).within
+read-piece-requires : tie.Need-read_piece-p-requires invariant-loop decreases-loop
+read-piece-requires c κs = (c.requires.at c.loop-i.i c.loop-i-test.true).within
 
-returns : tie.Need-returns invariant-loop decreases-loop
-returns c = sym (all-of-stop _ (turn c.before.before) (ne_eqb _ _ c.if1.true)) ∙ c.before.before.before.before.before.loop.invariant
+returns : tie.Need-returns-then-p-ne0 invariant-loop decreases-loop
+returns c = sym (all-of-stop _ (turn c.before.before) (ne_eqb _ _ c.if-p-ne0.true)) ∙ c.loop-i.invariant
 
-add-i : tie.Need-overflow-add-i invariant-loop decreases-loop
+add-i : tie.Need-overflow_add-i invariant-loop decreases-loop
 add-i c = omega arith
 
-loop-less : tie.Need-loop-smaller invariant-loop decreases-loop
+loop-less : tie.Need-loop-i-smaller invariant-loop decreases-loop
 loop-less c = omega arith
 
-loop-again : tie.Need-loop-preserved invariant-loop decreases-loop
-loop-again c = all-of-next _ (turn c.before.before) (eq-eqb _ _ c.if1.false) ∙ c.before.before.before.before.before.loop.invariant
+loop-again : tie.Need-loop-i-preserved invariant-loop decreases-loop
+loop-again c = all-of-next _ (turn c.before.before) (eq-eqb _ _ c.if-p-ne0.false) ∙ c.loop-i.invariant
 
-returns-2 : tie.Need-returns-2 invariant-loop decreases-loop
+returns-2 : tie.Need-returns invariant-loop decreases-loop
 returns-2 c =
-    let l = c.before.loop in
-    let s = c.before.before.before.before in
+    let l = c.loop-i in
+    let s = c in
     sym (all-of-past _ _ l.i (omega (arith, s.requires.count))) ∙ l.invariant
 
-pub all-plain-spec : {M : Type 1} → statement M
-all-plain-spec =
+pub all_plain_spec : {M : Type 1} → statement M
+all_plain_spec =
     tie.close
     (tie.spec
     invariant-loop

@@ -16,60 +16,60 @@ use borrow.Author.Rules.{rules}
 use Rattle.place_tests.proofs.requests.kinds_listed.Statement.{statement}
 use Rattle.place_tests.proofs.requests.kinds_listed.Tie as tie
 
-abbrev invariant-loop : tie.invariant-loop
+abbrev invariant-loop : tie.invariant-loop-i
 invariant-loop s pieces i₀ i = all_of kind_listed (drop i (read_call s).pieces) ≡ all_of kind_listed (read_call s).pieces
 
-abbrev decreases-loop : tie.decreases-loop
+abbrev decreases-loop : tie.decreases-loop-i
 decreases-loop s pieces i₀ i = length pieces - i
 
 -- the piece of this turn, and those after it
-turn : (c : tie.After-read-piece invariant-loop decreases-loop) →
-    let l = c.before.before.before in
-    let ps = (read_call l.before.before.before.args.s.now).pieces in
-    drop l.loop.i ps ≡ piece_in c.read-piece.result ∷ drop (l.loop.i + 1) ps
+turn : (c : tie.After-read_piece invariant-loop decreases-loop) →
+    let l = c in
+    let ps = (read_call l.args.s.now).pieces in
+    drop l.loop-i.i ps ≡ piece_in c.read_piece.result ∷ drop (l.loop-i.i + 1) ps
 turn c =
-    let l = c.before.before.before in
-    pieces-next l.before.before.before.requires l.loop.i c.before.before.loop-test.true
-    ∙ ap (λ (p : Piece). p ∷ drop (l.loop.i + 1) (read_call l.before.before.before.args.s.now).pieces) (sym c.read-piece.ensures)
+    let l = c in
+    pieces-next l.requires l.loop-i.i c.loop-i-test.true
+    ∙ ap (λ (p : Piece). p ∷ drop (l.loop-i.i + 1) (read_call l.args.s.now).pieces) (sym c.read_piece.ensures)
 
-loop-holds : tie.Need-loop-init invariant-loop decreases-loop
+loop-holds : tie.Need-loop-i-init invariant-loop decreases-loop
 loop-holds c = refl
 
-mul-read-piece : tie.Need-overflow-mul-read-piece invariant-loop decreases-loop
+mul-read-piece : tie.Need-offset_bounds-pieces-i invariant-loop decreases-loop
 mul-read-piece c = omega arith
 
-shared-slice-read-read-piece : tie.Need-shared-slice-read-read-piece invariant-loop decreases-loop
+shared-slice-read-read-piece : tie.Need-bounds-pieces-i invariant-loop decreases-loop
 shared-slice-read-read-piece c = omega arith
 
-cast-read-piece : tie.Need-overflow-cast-read-piece invariant-loop decreases-loop
-cast-read-piece c = omega (arith, c.shared-slice-known3.given c.before.before.loop.i)
+cast-read-piece : tie.Need-overflow_cast-pieces invariant-loop decreases-loop
+cast-read-piece c = omega (arith, c.shared_slice_known-in-loop-i-1.given c.loop-i.i)
 
-read-piece-requires : tie.Need-read-piece-requires invariant-loop decreases-loop
-read-piece-requires c κs = (c.before.before.before.before.before.requires.at c.before.before.loop.i c.before.loop-test.true).within
+read-piece-requires : tie.Need-read_piece-requires invariant-loop decreases-loop
+read-piece-requires c κs = (c.requires.at c.loop-i.i c.loop-i-test.true).within
 
-kind-listed-requires : tie.Need-kind-listed-requires invariant-loop decreases-loop
+kind-listed-requires : tie.Need-kind_listed-requires invariant-loop decreases-loop
 kind-listed-requires c κs = search rules
 
-returns : tie.Need-returns invariant-loop decreases-loop
-returns c = sym (all-of-stop _ (turn c.before.before) (sym c.before.kind-listed.ensures ∙ not-true _ c.if1.true)) ∙ c.before.before.before.before.before.loop.invariant
+returns : tie.Need-returns-then-not-kind_listed invariant-loop decreases-loop
+returns c = sym (all-of-stop _ (turn c.before.before) (sym c.kind_listed.ensures ∙ not-true _ c.if-not-kind_listed.true-raw)) ∙ c.loop-i.invariant
 
-add-i : tie.Need-overflow-add-i invariant-loop decreases-loop
+add-i : tie.Need-overflow_add-i invariant-loop decreases-loop
 add-i c = omega arith
 
-loop-less : tie.Need-loop-smaller invariant-loop decreases-loop
+loop-less : tie.Need-loop-i-smaller invariant-loop decreases-loop
 loop-less c = omega arith
 
-loop-again : tie.Need-loop-preserved invariant-loop decreases-loop
-loop-again c = all-of-next _ (turn c.before.before) (sym c.before.kind-listed.ensures ∙ not-false _ c.if1.false) ∙ c.before.before.before.before.before.loop.invariant
+loop-again : tie.Need-loop-i-preserved invariant-loop decreases-loop
+loop-again c = all-of-next _ (turn c.before.before) (sym c.kind_listed.ensures ∙ not-false _ c.if-not-kind_listed.false-raw) ∙ c.loop-i.invariant
 
-returns-2 : tie.Need-returns-2 invariant-loop decreases-loop
+returns-2 : tie.Need-returns invariant-loop decreases-loop
 returns-2 c =
-    let l = c.before.loop in
-    let s = c.before.before.before.before in
+    let l = c.loop-i in
+    let s = c in
     sym (all-of-past _ _ l.i (omega (arith, s.requires.count))) ∙ l.invariant
 
-pub kinds-listed-spec : {M : Type 1} → statement M
-kinds-listed-spec =
+pub kinds_listed_spec : {M : Type 1} → statement M
+kinds_listed_spec =
     tie.close
     (tie.spec
     invariant-loop

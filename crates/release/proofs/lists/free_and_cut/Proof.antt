@@ -27,40 +27,40 @@ use Rattle.release.proofs.lists.free_and_cut.Statement.{statement}
 use Rattle.release.proofs.lists.free_and_cut.Tie as tie
 
 -- what stands before each call of the sequence
-abbrev sized : tie.After-struct-known → tie.Start
+abbrev sized : tie.After-struct_known-1 → tie.Start
 sized c = c.before.before.before.before.before.before.before.before.before.before
 
-abbrev counted : tie.After-unused-in → tie.After-struct-known
+abbrev counted : tie.After-unused_in-u → tie.After-struct_known-1
 counted c = c.before.before
 
-abbrev allocs : tie.After-put-lrus → tie.After-put-allocs
+abbrev allocs : tie.After-put_lrus-p → tie.After-put_allocs-p
 allocs c = c.before.before.before.before
 
-abbrev lrus : tie.After-put-need-discards → tie.After-put-lrus
+abbrev lrus : tie.After-put_need_discards-p → tie.After-put_lrus-p
 lrus c = c.before.before.before.before
 
-abbrev needed : tie.After-put-backpointers → tie.After-put-need-discards
+abbrev needed : tie.After-put_backpointers-p → tie.After-put_need_discards-p
 needed c = c.before.before.before.before
 
-abbrev backs : tie.After-put-gens → tie.After-put-backpointers
+abbrev backs : tie.After-put_gens-p → tie.After-put_backpointers-p
 backs c = c.before.before.before.before
 
-abbrev gens : tie.After-put-roots → tie.After-put-gens
+abbrev gens : tie.After-put_roots-p → tie.After-put_gens-p
 gens c = c.before.before.before.before
 
-abbrev roots : tie.After-put-end → tie.After-put-roots
+abbrev roots : tie.After-put_end → tie.After-put_roots-p
 roots c = c.before.before.before.before.before.before.before.before
 
 -- and the sums and the call's start, before all keys
-abbrev summed : tie.After-put-allocs → tie.After-unused-in
+abbrev summed : tie.After-put_allocs-p → tie.After-unused_in-u
 summed c = c.before.before
 
-abbrev start : tie.After-put-need-discards → tie.Start
+abbrev start : tie.After-put_need_discards-p → tie.Start
 start c = sized (counted (summed (allocs (lrus c))))
 
 -- a bucket's sectors stand in two bytes
-small : (c : tie.After-struct-known) → (sized c).args.h.bucket_sectors < 65536
-small c = omega (arith, c.struct_known.given)
+small : (c : tie.After-struct_known-1) → (sized c).args.h.bucket_sectors < 65536
+small c = omega (arith, c.struct_known-1.given)
 
 whole : tie.Need-returns
 whole c d =
@@ -78,74 +78,74 @@ whole c d =
     let size = sectors-are d in
     let journal = ap (λ (h : Head). h.journal) d.tables.head in
     let many = sym (table-length a.args.emptied.now) in
-    let u = (summed o).unused-in.ensures.2 v rs t size in
+    let u = (summed o).unused_in-u.ensures.2 v rs t size in
     let n = t.named in
-    let ones = emitted (ap (λ (k : ℕ). keys_bytes 10 (flat_map (released_lru v rs) (freed_buckets k rs))) (sym size)) (l.put-lrus.ensures v rs t size) in
-    let waits = emitted (ap (λ (j : ℕ). keys_bytes 12 (map (need_discard_key j) emptied)) (sym journal)) w.put-need-discards.ensures in
-    let records = g.put-gens.ensures v.trees.gens _ d.tables.recorded d.generations-are in
+    let ones = emitted (ap (λ (k : ℕ). keys_bytes 10 (flat_map (released_lru v rs) (freed_buckets k rs))) (sym size)) (l.put_lrus-p.ensures v rs t size) in
+    let waits = emitted (ap (λ (j : ℕ). keys_bytes 12 (map (need_discard_key j) emptied)) (sym journal)) w.put_need_discards-p.ensures in
+    let records = g.put_gens-p.ensures v.trees.gens _ d.tables.recorded d.generations-are in
     let rooted =
     emitted
     (ap (λ (k : ℕ). roots_bytes (roots_if (not (eqb k 0) && root_missing a.args.h.roots 1) 12 ++ roots_if (not (eqb k 0) && root_missing a.args.h.roots 2) 14)) many
     ∙ ap (λ (h : Head). roots_bytes (roots_if (not (eqb (length emptied) 0) && root_missing h.roots 1) 12 ++ roots_if (not (eqb (length emptied) 0) && root_missing h.roots 2) 14)) (sym d.tables.head))
-    r.put-roots.ensures
+    r.put_roots-p.ensures
     in
     let rows =
     emitted
     (ap (λ r. encode (map row_field r))
-    (rows_are v rs emptied _ _ _ _ many (summed o).before.total-freed.ensures.1 (u.kept ∙ ap (total (kept_of v rs)) n) (u.lost ∙ ap (total (lost_of v rs)) n)))
-    c.before.before.before.before.before.before.put-rows.ensures
+    (rows_are v rs emptied _ _ _ _ many (summed o).total_freed-total.ensures.1 (u.kept ∙ ap (total (kept_of v rs)) n) (u.lost ∙ ap (total (lost_of v rs)) n)))
+    c.put_rows-p.ensures
     in
     emitted (sym (batch-bytes v rs emptied (emptied-are d)))
-    (and_then (and_then (and_then (and_then (and_then (and_then (and_then (o.put-allocs.ensures v rs t journal) ones) waits) b.put-backpointers.ensures) records) rooted) rows)
-    c.before.before.put-end.ensures)
+    (and_then (and_then (and_then (and_then (and_then (and_then (and_then (o.put_allocs-p.ensures v rs t journal) ones) waits) b.put_backpointers-p.ensures) records) rooted) rows)
+    c.put_end.ensures)
 
-cast-sectors : tie.Need-overflow-cast-sectors
+cast-sectors : tie.Need-overflow_cast-sectors
 cast-sectors c = search rules
 
-total-freed-requires : tie.Need-total-freed-requires
-total-freed-requires c κs = let a = sized c in (a.pre.tables.summed.requested, tables-bounded a.pre (small c), a.pre.tables.summed.few)
+total-freed-requires : tie.Need-total_freed-total-requires
+total-freed-requires c κs = let a = sized c in (a.requires.tables.summed.requested, tables-bounded a.requires (small c), a.requires.tables.summed.few)
 
-unused-in-requires : tie.Need-unused-in-requires
-unused-in-requires c κs = let a = sized c.before in (tables-in a.pre, tables-few a.pre, small c.before)
+unused-in-requires : tie.Need-unused_in-u-requires
+unused-in-requires c κs = let a = sized c.before in (tables-in a.requires, tables-few a.requires, small c.before)
 
-put-allocs-requires : tie.Need-put-allocs-requires
+put-allocs-requires : tie.Need-put_allocs-p-requires
 put-allocs-requires c κs = tables-at (sized (counted c.before)).requires
 
-put-lrus-requires : tie.Need-put-lrus-requires
+put-lrus-requires : tie.Need-put_lrus-p-requires
 put-lrus-requires c κs = let d = (sized (counted (summed c.before.before.before))).requires in (d.tables.summed.some-sectors, tables-in d)
 
-put-need-discards-requires : tie.Need-put-need-discards-requires
+put-need-discards-requires : tie.Need-put_need_discards-p-requires
 put-need-discards-requires c κs = search rules
 
-put-backpointers-requires : tie.Need-put-backpointers-requires
+put-backpointers-requires : tie.Need-put_backpointers-p-requires
 put-backpointers-requires c κs =
-    let w = c.before.before.before in
-    let d = (start w).requires in
-    (d.tables.summed.requested, tables-bounded d (small (counted (summed (allocs (lrus w))))))
+    let w = c in
+    let d = (start w.before.before.before).requires in
+    (d.tables.summed.requested, tables-bounded d (small (counted (summed (allocs (lrus w.before.before.before))))))
 
-put-gens-requires : tie.Need-put-gens-requires
+put-gens-requires : tie.Need-put_gens-p-requires
 put-gens-requires c κs = let d = (start (needed c.before.before.before)).requires in (record { gens = _; are = d.tables.recorded }, record { generation_of = _; are = d.generations-are }, emptied-low d, emptied-up d)
 
-put-roots-requires : tie.Need-put-roots-requires
+put-roots-requires : tie.Need-put_roots-p-requires
 put-roots-requires c κs = search rules
 
-put-rows-requires : tie.Need-put-rows-requires
+put-rows-requires : tie.Need-put_rows-p-requires
 put-rows-requires c κs =
     let w = needed (backs (gens c.before.before.before)) in
     let u = summed (allocs (lrus w)) in
-    (omega (arith, emptied-few (start w).pre), u.before.total-freed.ensures.0, u.unused-in.ensures.0, u.unused-in.ensures.1)
+    (omega (arith, emptied-few (start w).requires), u.total_freed-total.ensures.0, u.unused_in-u.ensures.0, u.unused_in-u.ensures.1)
 
-put-end-requires : tie.Need-put-end-requires
+put-end-requires : tie.Need-put_end-requires
 put-end-requires c κs = search rules
 
-same_length : tie.Need-same-length
+same_length : tie.Need-shape_of-out
 same_length c = wrote-length (whole c (start (needed (backs (gens (roots c.before.before))))).requires)
 
 returns : tie.Need-returns
 returns c = whole c
 
-pub free-and-cut-spec : {M : Type 1} → statement M
-free-and-cut-spec =
+pub free_and_cut_spec : {M : Type 1} → statement M
+free_and_cut_spec =
     tie.close
     (tie.spec
     cast-sectors

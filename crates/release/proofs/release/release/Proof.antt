@@ -9,32 +9,32 @@ use borrow.Author.Rules.{rules}
 use Rattle.release.proofs.release.release.Statement.{statement}
 use Rattle.release.proofs.release.release.Tie as tie
 
-returns : tie.Need-returns
+returns : tie.Need-returns-then-scratch-lt65536
 returns c =
-    let l = c.before.before.before.before.args.scratch.now in
-    (short-outcome _ (length l) _ (omega (arith, c.if1.true)), scratch-short l (omega (arith, c.if1.true)))
+    let l = c.args.scratch.now in
+    (short-outcome _ (length l) _ (omega (arith, c.if-scratch-lt65536.true)), scratch-short l (omega (arith, c.if-scratch-lt65536.true)))
 
 clear-requires : tie.Need-clear-requires
 clear-requires c κs = search rules
 
-release-cleared-requires : tie.Need-release-cleared-requires
+release-cleared-requires : tie.Need-release_cleared-requires
 release-cleared-requires c κs =
-    let k = c.before.before.before.before.before in
-    (cleared k.before.before.before.before.before.before.args.scratch.now _ (omega (arith, k.before.before.if1.false)) k.clear.ensures, refl)
+    let k = c in
+    (cleared k.args.scratch.now _ (omega (arith, k.if-scratch-lt65536.false)) k.clear.ensures, refl)
 
-same_length : tie.Need-same-length
+same_length : tie.Need-shape_of-scratch
 same_length c = search rules
 
-same-length-2 : tie.Need-same-length-2
+same-length-2 : tie.Need-shape_of-out
 same-length-2 c = search rules
 
-returns-2 : tie.Need-returns-2
+returns-2 : tie.Need-returns
 returns-2 c =
-    let r = c.before.before.before.before in
-    let k = r.before.before.before.before.before.before in
-    let a = k.before.before.before.before.before.before.args in
-    let e = r.release-cleared.ensures in
-    let l : 65536 ≤ length a.scratch.now = omega (arith, k.before.before.if1.false) in (
+    let r = c in
+    let k = r in
+    let a = k.args in
+    let e = r.release_cleared.ensures in
+    let l : 65536 ≤ length a.scratch.now = omega (arith, k.if-scratch-lt65536.false) in (
       e.0 ∙ ap (λ (n : ℕ). outcome (release a.list.now n (length a.out.now)) a.out.now) (cleared-length a.scratch.now _ l k.clear.ensures),
       e.1 ∙ cleared-after a.scratch.now _ l k.clear.ensures,
     )

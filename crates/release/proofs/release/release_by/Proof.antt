@@ -6,49 +6,49 @@ use borrow.Author.Rules.{rules}
 use Rattle.release.proofs.release.release_by.Statement.{statement}
 use Rattle.release.proofs.release.release_by.Tie as tie
 
-abbrev start : tie.After-read-call → tie.Start
+abbrev start : tie.After-read_call-reading → tie.Start
 start c = c.before.before.before.before.before.before
 
-read-call-requires : tie.Need-read-call-requires
+read-call-requires : tie.Need-read_call-reading-requires
 read-call-requires c κs = search rules
 
-enum-known-reading : tie.Need-enum-known-reading
+enum-known-reading : tie.Need-enum_known-reading
 enum-known-reading c = search rules
 
-enum-known-reading-2 : tie.Need-enum-known-reading-2
+enum-known-reading-2 : tie.Need-enum_known-reading-in-Read-1
 enum-known-reading-2 c = search rules
 
-release-parts-requires : tie.Need-release-parts-requires
+release-parts-requires : tie.Need-release_parts-requires
 release-parts-requires c κs =
-    let r = c.before.before.before.before.before.before.before.before.before in
-    let a = start r in
-    let e = rw c.before.before.before.before.before.reading2.given.1 at r.read-call.ensures in
-    (e.1, e.0, a.pre.1, a.pre.2)
+    let r = c in
+    let a = start r.before.before.before.before.before.before in
+    let e = rw c.in-Read.is at r.read_call-reading.ensures in
+    (e.1, e.0, a.requires.1, a.requires.2)
 
-same_length : tie.Need-same-length
+same_length : tie.Need-shape_of-index-in-Refused
 same_length c = search rules
 
-returns : tie.Need-returns
+returns : tie.Need-returns-in-Refused
 returns c =
-    let r = c.before.before.before.before.before in
-    let a = start r in
-    let e = rw c.before.reading.given.1 at r.read-call.ensures in
-    (read-outcome _ _ _ a.pre.1.long _ e.0 e.1 a.pre.2, cleared-is _ a.pre.1 ∙ sym (scratch-long _ a.pre.1.long))
+    let r = c in
+    let a = start r.before.before.before in
+    let e = rw c.in-Refused.is at r.read_call-reading.ensures in
+    (read-outcome _ _ _ a.requires.1.long _ e.0 e.1 a.requires.2, cleared-is _ a.requires.1 ∙ sym (scratch-long _ a.requires.1.long))
 
-same-length-2 : tie.Need-same-length-2
+same-length-2 : tie.Need-shape_of-index-in-Read
 same-length-2 c = search rules
 
-same-length-3 : tie.Need-same-length-3
+same-length-3 : tie.Need-shape_of-scratch
 same-length-3 c = search rules
 
-same-length-4 : tie.Need-same-length-4
+same-length-4 : tie.Need-shape_of-out
 same-length-4 c = search rules
 
-returns-2 : tie.Need-returns-2
+returns-2 : tie.Need-returns-in-Read
 returns-2 c = search rules
 
-pub release-by-spec : {M : Type 1} → statement M
-release-by-spec =
+pub release_by_spec : {M : Type 1} → statement M
+release_by_spec =
     tie.close
     (tie.spec
     read-call-requires
