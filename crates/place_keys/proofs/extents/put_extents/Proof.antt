@@ -12,53 +12,53 @@ use Rattle.place_keys.proofs.WalkLaws.{Placing, placing-first, placing-next, pla
 use Rattle.place_keys.proofs.extents.put_extents.Statement.{statement}
 use Rattle.place_keys.proofs.extents.put_extents.Tie as tie
 
-abbrev invariant-loop : tie.invariant-loop
+abbrev invariant-loop : tie.invariant-loop-i
 invariant-loop out₀ at s pieces slots taken gens h p₀ end₀ i₀ out p end i = (plan : Plan s pieces slots (buckets_in taken) gens h) → Placing plan (key_field 0) (extent_key (head_in h)) out₀ at out p end i
 
-abbrev decreases-loop : tie.decreases-loop
+abbrev decreases-loop : tie.decreases-loop-i
 decreases-loop out₀ at s pieces slots taken gens h p₀ end₀ i₀ out p end i = length pieces - i
 
-abbrev start : tie.At-loop invariant-loop decreases-loop → tie.Start invariant-loop decreases-loop
+abbrev start : tie.At-loop-i invariant-loop decreases-loop → tie.Start invariant-loop decreases-loop
 start l = l.before.before.before.before.before.before.before.before
 
-loop-holds : tie.Need-loop-init invariant-loop decreases-loop
+loop-holds : tie.Need-loop-i-init invariant-loop decreases-loop
 loop-holds c = λ plan. placing-first plan _ _ _ _ (omega arith)
 
-place-piece-requires : tie.Need-place-piece-requires invariant-loop decreases-loop
+place-piece-requires : tie.Need-place_piece-here-requires invariant-loop decreases-loop
 place-piece-requires c κs =
-    let l = c.before in
-    let a = start l in
-    (a.pre, (omega arith, (l.loop.invariant a.pre).reached))
+    let l = c in
+    let a = start l.before in
+    (a.requires, (omega arith, (l.loop-i.invariant a.requires).reached))
 
-put-extent-requires : tie.Need-put-extent-requires invariant-loop decreases-loop
-put-extent-requires c κs = let e = c.before in ((start e.before.before).pre.option, e.place-piece.ensures.bounded)
+put-extent-requires : tie.Need-put_extent-p-requires invariant-loop decreases-loop
+put-extent-requires c κs = let e = c in ((start e.before.before.before).requires.option, e.place_piece-here.ensures.bounded)
 
-add-i : tie.Need-overflow-add-i invariant-loop decreases-loop
+add-i : tie.Need-overflow_add-i invariant-loop decreases-loop
 add-i c = omega arith
 
-loop-less : tie.Need-loop-smaller invariant-loop decreases-loop
+loop-less : tie.Need-loop-i-smaller invariant-loop decreases-loop
 loop-less c = omega arith
 
-loop-again : tie.Need-loop-preserved invariant-loop decreases-loop
+loop-again : tie.Need-loop-i-preserved invariant-loop decreases-loop
 loop-again c =
-    let k = c.before.before.before in
-    let e = k.before.before in
-    λ plan. placing-next plan _ _ (e.before.before.loop.invariant plan) e.place-piece.ensures k.put-extent.ensures
+    let k = c in
+    let e = k in
+    λ plan. placing-next plan _ _ (e.loop-i.invariant plan) e.place_piece-here.ensures k.put_extent-p.ensures
 
-same_length : tie.Need-same-length invariant-loop decreases-loop
+same_length : tie.Need-shape_of-out invariant-loop decreases-loop
 same_length c =
-    let l = c.before in
-    let a = start l in
-    part_length (l.loop.invariant a.pre).part
+    let l = c in
+    let a = start l.before in
+    part_length (l.loop-i.invariant a.requires).part
 
 returns : tie.Need-returns invariant-loop decreases-loop
 returns c =
-    let l = c.before in
-    let a = start l in
-    placing-end a.pre _ _ (l.loop.invariant a.pre) (omega arith)
+    let l = c in
+    let a = start l.before in
+    placing-end a.requires _ _ (l.loop-i.invariant a.requires) (omega arith)
 
-pub put-extents-spec : {M : Type 1} → statement M
-put-extents-spec =
+pub put_extents_spec : {M : Type 1} → statement M
+put_extents_spec =
     tie.close
     (tie.spec
     invariant-loop

@@ -6,25 +6,25 @@ use borrow.Author.Rules.{rules}
 use Rattle.place_keys.proofs.lru.put_lru.Statement.{statement}
 use Rattle.place_keys.proofs.lru.put_lru.Tie as tie
 
-returns : tie.Need-returns
+returns : tie.Need-returns-then-sectors-dirty
 returns c =
-    let a = c.before.before.args in (
-      nothing (omega arith) (full-keys a.sectors a.b a.dirty c.if1.true),
-      full-wanted a.sectors a.dirty a.before.root_wanted c.if1.true,
+    let a = c.args in (
+      nothing (omega arith) (full-keys a.sectors a.b a.dirty c.if-sectors-dirty.true),
+      full-wanted a.sectors a.dirty a.before.root_wanted c.if-sectors-dirty.true,
     )
 
-put-lru-key-requires : tie.Need-put-lru-key-requires
+put-lru-key-requires : tie.Need-put_lru_key-requires
 put-lru-key-requires c κs = search rules
 
-same_length : tie.Need-same-length
+same_length : tie.Need-shape_of-out
 same_length c = search rules
 
-returns-2 : tie.Need-returns-2
+returns-2 : tie.Need-returns
 returns-2 c =
-    let k = c.before.before in
-    let i = k.before.before in
-    let a = i.before.before.args in
-    (k.put-lru-key.ensures, part-wanted a.sectors a.dirty a.before.root_wanted (omega (arith, i.if1.false)))
+    let k = c in
+    let i = k in
+    let a = i.args in
+    (k.put_lru_key.ensures, part-wanted a.sectors a.dirty a.before.root_wanted (omega (arith, i.if-sectors-dirty.false)))
 
-pub put-lru-spec : {M : Type 1} → statement M
-put-lru-spec = tie.close (tie.spec returns put-lru-key-requires same_length returns-2)
+pub put_lru_spec : {M : Type 1} → statement M
+put_lru_spec = tie.close (tie.spec returns put-lru-key-requires same_length returns-2)

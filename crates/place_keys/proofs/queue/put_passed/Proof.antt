@@ -12,30 +12,30 @@ use borrow.Author.Tests.{not-true, not-false}
 use Rattle.place_keys.proofs.queue.put_passed.Statement.{statement}
 use Rattle.place_keys.proofs.queue.put_passed.Tie as tie
 
-is-run-requires : tie.Need-is-run-requires
+is-run-requires : tie.Need-is_run-requires
 is-run-requires c κs = search rules
 
-returns : tie.Need-returns
+returns : tie.Need-returns-then-not-is_run
 returns c =
-    let r = c.before in
-    let a = r.before.before.before in
-    nothing (omega arith) (fields-none (key_field 11) (passed-other (key_here a.args.s.now a.args.from) a.args.left (sym r.is-run.ensures ∙ not-true _ c.if1.true)))
+    let r = c in
+    let a = r in
+    nothing (omega arith) (fields-none (key_field 11) (passed-other (key_here a.args.s.now a.args.from) a.args.left (sym r.is_run.ensures ∙ not-true _ c.if-not-is_run.true-raw)))
 
-put-shortened-requires : tie.Need-put-shortened-requires
+put-shortened-requires : tie.Need-put_shortened-requires
 put-shortened-requires c κs = search rules
 
-same_length : tie.Need-same-length
+same_length : tie.Need-shape_of-out
 same_length c = search rules
 
-returns-2 : tie.Need-returns-2
+returns-2 : tie.Need-returns
 returns-2 c =
-    let k = c.before.before in
-    let i = k.before.before in
-    let r = i.before in
-    let a = r.before.before.before in
-    let e = passed-run (key_here a.args.s.now a.args.from) a.args.left (sym r.is-run.ensures ∙ not-false _ i.if1.false) in
-    emitted (sym (ap queue_bytes e ∙ encode_one _)) k.put-shortened.ensures
+    let k = c in
+    let i = k in
+    let r = i in
+    let a = r in
+    let e = passed-run (key_here a.args.s.now a.args.from) a.args.left (sym r.is_run.ensures ∙ not-false _ i.if-not-is_run.false-raw) in
+    emitted (sym (ap queue_bytes e ∙ encode_one _)) k.put_shortened.ensures
 
-pub put-passed-spec : {M : Type 1} → statement M
-put-passed-spec =
+pub put_passed_spec : {M : Type 1} → statement M
+put_passed_spec =
     tie.close (tie.spec is-run-requires returns put-shortened-requires same_length returns-2)

@@ -15,90 +15,90 @@ use Rattle.place_keys.proofs.QueueLaws.{queue_bytes, queue-next, queue-end, pass
 use Rattle.place_keys.proofs.queue.put_queue.Statement.{statement}
 use Rattle.place_keys.proofs.queue.put_queue.Tie as tie
 
-abbrev invariant-loop : tie.invariant-loop
+abbrev invariant-loop : tie.invariant-loop-i
 invariant-loop out₀ at s runs passed left last p₀ i₀ out p i =
     (i ≤ last)
     × Part out₀ at (queue_bytes (queue_of passed left (read_volume s).trees.freespace)) out p
     (queue_bytes (queue_of (passed - i) left (drop i (read_volume s).trees.freespace)))
 
-abbrev decreases-loop : tie.decreases-loop
+abbrev decreases-loop : tie.decreases-loop-i
 decreases-loop out₀ at s runs passed left last p₀ i₀ out p i = last - i
 
-returns : tie.Need-returns invariant-loop decreases-loop
+returns : tie.Need-returns-then-passed-eq0 invariant-loop decreases-loop
 returns c =
-    let a = c.before.before.before.before in
-    nothing (omega arith) (fields-none (key_field 11) (passed_none a.requires c.if1.true))
+    let a = c in
+    nothing (omega arith) (fields-none (key_field 11) (passed_none a.requires c.if-passed-eq0.true))
 
-sub-last : tie.Need-overflow-sub-last invariant-loop decreases-loop
+sub-last : tie.Need-overflow_sub-last invariant-loop decreases-loop
 sub-last c = omega arith
 
-loop-holds : tie.Need-loop-init invariant-loop decreases-loop
-loop-holds c = let e : c.before.before.before.before.args.passed - 0 ≡ c.before.before.before.before.args.passed = omega arith in (omega arith, rw e (begin _ _ _ (omega arith)))
+loop-holds : tie.Need-loop-i-init invariant-loop decreases-loop
+loop-holds c = let e : c.args.passed - 0 ≡ c.args.passed = omega arith in (omega arith, rw e (begin _ _ _ (omega arith)))
 
-mul-put-passed : tie.Need-overflow-mul-put-passed invariant-loop decreases-loop
+mul-put-passed : tie.Need-offset_bounds-runs-i invariant-loop decreases-loop
 mul-put-passed c = omega arith
 
-shared-slice-read-put-passed : tie.Need-shared-slice-read-put-passed invariant-loop decreases-loop
-shared-slice-read-put-passed c = let l = c.before.before.before in omega (arith, l.before.before.before.before.before.requires.few)
+shared-slice-read-put-passed : tie.Need-bounds-runs-i invariant-loop decreases-loop
+shared-slice-read-put-passed c = let l = c in omega (arith, l.requires.few)
 
-cast-put-passed : tie.Need-overflow-cast-put-passed invariant-loop decreases-loop
-cast-put-passed c = omega (arith, c.shared-slice-known3.given c.before.before.before.loop.i)
+cast-put-passed : tie.Need-overflow_cast-runs invariant-loop decreases-loop
+cast-put-passed c = omega (arith, c.shared_slice_known-in-loop-i-1.given c.loop-i.i)
 
-put-passed-requires : tie.Need-put-passed-requires invariant-loop decreases-loop
+put-passed-requires : tie.Need-put_passed-p-requires invariant-loop decreases-loop
 put-passed-requires c κs =
-    let l = c.before.before.before in
-    let a = l.before.before.before.before.before in
-    whole-at a.requires.runs l.loop.i (omega (arith, a.requires.few))
+    let l = c in
+    let a = l in
+    whole-at a.requires.runs l.loop-i.i (omega (arith, a.requires.few))
 
-add-i : tie.Need-overflow-add-i invariant-loop decreases-loop
+add-i : tie.Need-overflow_add-i invariant-loop decreases-loop
 add-i c = omega arith
 
-loop-less : tie.Need-loop-smaller invariant-loop decreases-loop
+loop-less : tie.Need-loop-i-smaller invariant-loop decreases-loop
 loop-less c = omega arith
 
-loop-again : tie.Need-loop-preserved invariant-loop decreases-loop
+loop-again : tie.Need-loop-i-preserved invariant-loop decreases-loop
 loop-again c =
-    let k = c.before.before in
-    let l = k.before.before.before.before in
-    let a = l.before.before.before.before.before in
-    let i = l.loop.i in (
+    let k = c in
+    let l = k in
+    let a = l in
+    let i = l.loop-i.i in (
       omega arith,
-      turn _ l.loop.invariant.1
+      turn _ l.loop-i.invariant.1
           (queue-next a.args.passed i a.args.left (keys-next a.requires.runs i (omega (arith, a.requires.few))) (omega arith))
-          k.put-passed.ensures,
+          k.put_passed-p.ensures,
     )
 
-mul-put-passed-2 : tie.Need-overflow-mul-put-passed-2 invariant-loop decreases-loop
-mul-put-passed-2 c = let l = c.before.before in omega (arith, l.before.before.before.before.before.requires.few)
+mul-put-passed-2 : tie.Need-offset_bounds-runs-last invariant-loop decreases-loop
+mul-put-passed-2 c = let l = c in omega (arith, l.requires.few)
 
-shared-slice-read-put-passed-2 : tie.Need-shared-slice-read-put-passed-2 invariant-loop decreases-loop
-shared-slice-read-put-passed-2 c = let l = c.before.before.before in omega (arith, l.before.before.before.before.before.requires.few, l.before.if1.false)
+shared-slice-read-put-passed-2 : tie.Need-bounds-runs-last invariant-loop decreases-loop
+shared-slice-read-put-passed-2 c = let l = c in omega (arith, l.requires.few, l.if-passed-eq0.false)
 
-cast-put-passed-2 : tie.Need-overflow-cast-put-passed-2 invariant-loop decreases-loop
-cast-put-passed-2 c = omega (arith, c.shared-slice-known4.given (c.before.before.before.before.before.before.before.before.args.passed - 1))
+cast-put-passed-2 : tie.Need-overflow_cast-runs-2 invariant-loop decreases-loop
+cast-put-passed-2 c = omega (arith, c.shared_slice_known-3-1.given (c.args.passed - 1))
 
-put-passed-requires-2 : tie.Need-put-passed-requires-2 invariant-loop decreases-loop
+put-passed-requires-2 : tie.Need-put_passed-requires invariant-loop decreases-loop
 put-passed-requires-2 c κs =
-    let l = c.before.before.before in
-    let a = l.before.before.before.before.before in
-    whole-at a.requires.runs (a.args.passed - 1) (omega (arith, a.requires.few, l.before.if1.false))
+    let l = c in
+    let a = l in
+    whole-at a.requires.runs (a.args.passed - 1) (omega (arith, a.requires.few, l.if-passed-eq0.false))
 
-same_length : tie.Need-same-length invariant-loop decreases-loop
-same_length c = let k = c.before.before in wrote-length k.put-passed2.ensures ∙ part_length k.before.before.before.before.loop.invariant.1
+same_length : tie.Need-shape_of-out invariant-loop decreases-loop
+same_length c = let k = c in wrote-length k.put_passed.ensures ∙ part_length k.loop-i.invariant.1
 
-returns-2 : tie.Need-returns-2 invariant-loop decreases-loop
+returns-2 : tie.Need-returns invariant-loop decreases-loop
 returns-2 c =
-    let k = c.before.before in
-    let l = k.before.before.before.before in
-    let a = l.before.before.before.before.before in
+    let k = c in
+    let l = k in
+    let a = l in
     let n = a.args.passed in
-    let z : l.loop.i ≡ n - 1 = omega arith in
-    let e = queue-end n (n - 1) a.args.left (keys-next a.requires.runs (n - 1) (omega (arith, a.requires.few, l.before.if1.false))) (omega (arith, l.before.if1.false)) in
-    let q = turn [] (rw z at l.loop.invariant.1) (e ∙ sym (append-nil _)) k.put-passed2.ensures in
+    let z : l.loop-i.i ≡ n - 1 = omega arith in
+    let e = queue-end n (n - 1) a.args.left (keys-next a.requires.runs (n - 1) (omega (arith, a.requires.few, l.if-passed-eq0.false))) (omega (arith, l.if-passed-eq0.false)) in
+    let q = turn [] (rw z at l.loop-i.invariant.1) (e ∙ sym (append-nil _)) k.put_passed.ensures in
     emitted (ap queue_bytes (sym a.requires.queue)) (done q refl)
 
-pub put-queue-spec : {M : Type 1} → statement M
-put-queue-spec =
+pub put_queue_spec : {M : Type 1} → statement M
+put_queue_spec =
     tie.close
     (tie.spec
     invariant-loop

@@ -12,43 +12,43 @@ use borrow.Author.Rules.{rules}
 use Rattle.place_keys.proofs.queue.put_shortened.Statement.{statement}
 use Rattle.place_keys.proofs.queue.put_shortened.Tie as tie
 
-pos-at-requires : tie.Need-pos-at-requires
+pos-at-requires : tie.Need-pos_at-requires
 pos-at-requires c κs = search rules
 
-put-deletion-requires : tie.Need-put-deletion-requires
+put-deletion-requires : tie.Need-put_deletion-requires
 put-deletion-requires c κs = search rules
 
-same_length : tie.Need-same-length
+same_length : tie.Need-shape_of-out-then-left-eq0
 same_length c = search rules
 
-returns : tie.Need-returns
+returns : tie.Need-returns-then-left-eq0
 returns c =
-    let k = c.before.before in
-    let p = k.before in
-    let i = p.before.before in
-    let a = i.before.before.before.args in
-    emitted (rw (p.pos-at.ensures, deleted (key_here a.s.now a.from) i.if1.true)) k.put-deletion.ensures
+    let k = c in
+    let p = k in
+    let i = p in
+    let a = i.args in
+    emitted (rw (p.pos_at.ensures, deleted (key_here a.s.now a.from) i.if-left-eq0.true)) k.put_deletion.ensures
 
-key-at-requires : tie.Need-key-at-requires
+key-at-requires : tie.Need-key_at-k-requires
 key-at-requires c κs = search rules
 
-put-key-requires : tie.Need-put-key-requires
+put-key-requires : tie.Need-put_key-requires
 put-key-requires c κs =
-    let w = c.before.before.before.before.before.requires in
-    omega (arith, ap (λ (h : Bkey). h.value.len) c.before.key-at.ensures, value-length-here _ _ w, w.short)
+    let w = c.requires in
+    omega (arith, ap (λ (h : Bkey). h.value.len) c.key_at-k.ensures, value-length-here _ _ w, w.short)
 
-same-length-2 : tie.Need-same-length-2
+same-length-2 : tie.Need-shape_of-out
 same-length-2 c = search rules
 
-returns-2 : tie.Need-returns-2
+returns-2 : tie.Need-returns
 returns-2 c =
-    let k = c.before.before in
-    let g = k.before.before in
-    let a = g.before.before.before.before.args in
-    let e = kept (key_here a.s.now a.from) g.key-at.ensures g.before.if1.false in
-    emitted (ap (λ (x : Key). encode_field (key_field 11 x)) e) k.put-key.ensures
+    let k = c in
+    let g = k in
+    let a = g.args in
+    let e = kept (key_here a.s.now a.from) g.key_at-k.ensures g.if-left-eq0.false in
+    emitted (ap (λ (x : Key). encode_field (key_field 11 x)) e) k.put_key.ensures
 
-pub put-shortened-spec : {M : Type 1} → statement M
-put-shortened-spec =
+pub put_shortened_spec : {M : Type 1} → statement M
+put_shortened_spec =
     tie.close
     (tie.spec pos-at-requires put-deletion-requires same_length returns key-at-requires put-key-requires same-length-2 returns-2)
