@@ -12,7 +12,8 @@ import re
 
 CAMEL = re.compile(r"(?<![A-Za-z0-9_'])[a-z][a-z0-9_]*[A-Z][A-Za-z0-9_']*")
 KEEP = {"x500FFFE"}
-OTHER = {"getD": "get_or"}
+# a parameter of src/ is called root_wanted
+OTHER = {"getD": "get_or", "rootWanted": "root_is_wanted"}
 DECLARED = re.compile(r"(?m)^\s*(?:(?:pub|abbrev|unfoldable) )*([a-z][A-Za-z0-9_'-]*)(?: \{[^{}\n]*\})* :(?!:)")
 STRING = re.compile(r'"(?:[^"\\\n]|\\.)*"')
 SPAN = re.compile(r"(`+)(?:[^\n`]|\n(?!\s*\n))*?\1")

@@ -22,7 +22,7 @@ use Rattle.reader.specs.declared.head.Head.{Head}
 use Rattle.change_fields.specs.FieldBytes.{roots_bytes}
 use Rattle.wire.specs.declared.kinds.Bucket.{Bucket}
 use Rattle.place_keys.specs.Plan.{Plan}
-use Rattle.place.specs.Change.{placement, root_wanted, key_fields, other_fields}
+use Rattle.place.specs.Change.{placement, root_is_wanted, key_fields, other_fields}
 use Rattle.accounting.specs.Tally.{tallies_of}
 use Rattle.accounting.specs.declared.tally.Tally.{Tally}
 use Rattle.accounting.specs.declared.tally.Tallies.{Tallies}
@@ -67,21 +67,21 @@ module _ {s offsets numbers : List ℕ} {buckets : List Bucket} {generations : L
       (map (key_field 11) (walk_of (read_call s)).queue) (map (key_field 13) (map (backpointer_key (read_volume s).head) (placed_of (read_call s)))))
 
   -- the root is wanted where an LRU key is queued
-  pub root-of : lru_wanted h.bucket_sectors (map (dirty_in (placed_of (read_call s))) buckets) ≡ root_wanted s
-  unfolding root_wanted place_batch
+  pub root-of : lru_wanted h.bucket_sectors (map (dirty_in (placed_of (read_call s))) buckets) ≡ root_is_wanted s
+  unfolding root_is_wanted place_batch
   root-of =
       rw (plan.taken, ← bucket-sectors plan)
       (wanted-queued (read_volume s).head.bucket_sectors (dirty_in (placed_of (read_call s))) (walk_of (read_call s)).taken)
 
   -- what follows them, by the tallies and by whether the root is wanted
-  pub others-of : (t : Tallies) → t ≡ tallies_of (read_call s).pieces → (wanted : Bool) → wanted ≡ root_wanted s
+  pub others-of : (t : Tallies) → t ≡ tallies_of (read_call s).pieces → (wanted : Bool) → wanted ≡ root_is_wanted s
       → encode (other_fields (placement s))
       ≡ encode (map root_field (roots_if (wanted && root_missing h.roots 0) 10))
       ++ (encode (map taken_field buckets)
       ++ (encode (map spot_field (map spot_at (placed_of (read_call s))))
       ++ (encode (map row_field (place_rows (head_in h) buckets (placed_of (read_call s)) (map (extent_key (head_in h)) (placed_of (read_call s)))))
       ++ (encode_field (sectors_field t.all.file) ++ encode_field end_field))))
-  unfolding other_fields place_batch root_wanted
+  unfolding other_fields place_batch root_is_wanted
   others-of t e wanted w =
       let ps = placed_of (read_call s) in
       let a = all-tally ps ∙ ap (λ l. (tallies_of l).all) (placed-pieces (read_call s)) ∙ ap (λ (x : Tallies). x.all) (sym e) in

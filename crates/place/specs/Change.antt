@@ -14,8 +14,8 @@ abbrev pub placement : List ℕ → Batch
 placement s = place_batch (read_volume s) (placed_of (read_call s)) (walk_of (read_call s))
 
 -- whether it queues an LRU key: that is where it wants the LRU root
-unfoldable pub root_wanted : List ℕ → Bool
-root_wanted s = not (is_empty (placement s).trees.lru)
+unfoldable pub root_is_wanted : List ℕ → Bool
+root_is_wanted s = not (is_empty (placement s).trees.lru)
 
 unfoldable pub key_fields : Batch → List Field
 key_fields b = map (key_field 0) b.extents ++ tree_fields b.trees

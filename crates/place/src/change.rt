@@ -9,7 +9,7 @@ ghost use Rattle.change_fields.specs.FieldBytes.{roots_bytes};
 ghost use Rattle.wire.specs.Kinds.{buckets_in};
 ghost use Rattle.place_keys.specs.Plan.{Plan};
 ghost use Rattle.wire.specs.Output.{Emitted};
-ghost use Rattle.place.specs.Change.{placement, root_wanted, key_fields, other_fields};
+ghost use Rattle.place.specs.Change.{placement, root_is_wanted, key_fields, other_fields};
 ghost use Rattle.place.specs.Prepared.{Prepared};
 
 use crate::inputs::Inputs;
@@ -34,7 +34,7 @@ pub fn put_keys(
     v: Inputs,
 ) -> KeysPut
     requires { Prepared s.now pieces.now slots.now taken.now gens.now dirty.now runs.now v }
-    ensures { Emitted out.old at (encode (key_fields (placement s.now))) out.new result.at × (result.root_wanted ≡ root_wanted s.now) }
+    ensures { Emitted out.old at (encode (key_fields (placement s.now))) out.new result.at × (result.root_wanted ≡ root_is_wanted s.now) }
 {
     let h = v.head;
     let w = v.walked;
@@ -91,7 +91,7 @@ pub fn put_others(
     root_wanted: bool,
     v: Inputs,
 ) -> usize
-    requires { Plan s.now pieces.now slots.now (buckets_in taken.now) gens.now v.head × Tallied (read_call s.now).pieces v.tallies × (root_wanted ≡ root_wanted s.now) }
+    requires { Plan s.now pieces.now slots.now (buckets_in taken.now) gens.now v.head × Tallied (read_call s.now).pieces v.tallies × (root_wanted ≡ root_is_wanted s.now) }
     ensures { Emitted out.old at (encode (other_fields (placement s.now))) out.new result }
 {
     let h = v.head;

@@ -6,20 +6,20 @@ use borrow.Author.Rules.{rules}
 use Rattle.place.proofs.change.put_change.Statement.{statement}
 use Rattle.place.proofs.change.put_change.Tie as tie
 
-put-keys-requires : tie.Need-put-keys-requires
+put-keys-requires : tie.Need-put_keys-k-requires
 put-keys-requires c κs = search rules
 
-put-others-requires : tie.Need-put-others-requires
+put-others-requires : tie.Need-put_others-requires
 put-others-requires c κs = search rules
 
-same_length : tie.Need-same-length
+same_length : tie.Need-shape_of-out
 same_length c = search rules
 
 returns : tie.Need-returns
 returns c =
-    let o = c.before.before in
-    let k = o.before.before.before.before in
-    emitted (sym (change-split _)) (and_then k.put-keys.ensures.0 o.put-others.ensures)
+    let o = c in
+    let k = o in
+    emitted (sym (change-split _)) (and_then k.put_keys-k.ensures.0 o.put_others.ensures)
 
-pub put-change-spec : {M : Type 1} → statement M
-put-change-spec = tie.close (tie.spec put-keys-requires put-others-requires same_length returns)
+pub put_change_spec : {M : Type 1} → statement M
+put_change_spec = tie.close (tie.spec put-keys-requires put-others-requires same_length returns)

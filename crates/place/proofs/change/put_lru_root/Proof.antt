@@ -9,21 +9,21 @@ use borrow.Author.Rules.{rules}
 use Rattle.place.proofs.change.put_lru_root.Statement.{statement}
 use Rattle.place.proofs.change.put_lru_root.Tie as tie
 
-returns : tie.Need-returns
-returns c = let a = c.before.before.args in nothing (omega arith) (fields-none root_field (root-unwanted a.wanted a.roots (not-true _ c.if1.true)))
+returns : tie.Need-returns-then-not-wanted
+returns c = let a = c.args in nothing (omega arith) (fields-none root_field (root-unwanted a.wanted a.roots (not-true _ c.if-not-wanted.true-raw)))
 
-put-root-requires : tie.Need-put-root-requires
+put-root-requires : tie.Need-put_root-requires
 put-root-requires c κs = search rules
 
-same_length : tie.Need-same-length
+same_length : tie.Need-shape_of-out
 same_length c = search rules
 
-returns-2 : tie.Need-returns-2
+returns-2 : tie.Need-returns
 returns-2 c =
-    let k = c.before.before in
-    let i = k.before.before in
-    let a = i.before.before.args in
-    emitted (root-wanted a.wanted a.roots (not-false _ i.if1.false)) k.put-root.ensures
+    let k = c in
+    let i = k in
+    let a = i.args in
+    emitted (root-wanted a.wanted a.roots (not-false _ i.if-not-wanted.false-raw)) k.put_root.ensures
 
-pub put-lru-root-spec : {M : Type 1} → statement M
-put-lru-root-spec = tie.close (tie.spec returns put-root-requires same_length returns-2)
+pub put_lru_root_spec : {M : Type 1} → statement M
+put_lru_root_spec = tie.close (tie.spec returns put-root-requires same_length returns-2)
