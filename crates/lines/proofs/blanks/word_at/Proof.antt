@@ -10,14 +10,14 @@ use Rattle.lines.proofs.blanks.word_at.Tie as tie
 le64-requires : tie.Need-le64-requires
 le64-requires c κs = search rules
 
-returns : tie.Need-returns
-returns c = c.le64.ensures ∙ sym (le-take 8 _ _ c.before.if1.true)
+returns : tie.Need-returns-then-left-ge8
+returns c = c.le64.ensures ∙ sym (le-take 8 _ _ c.if-left-ge8.true)
 
-le-part-requires : tie.Need-le-part-requires
+le-part-requires : tie.Need-le_part-requires
 le-part-requires c κs = search rules
 
-returns-2 : tie.Need-returns-2
-returns-2 c = c.le-part.ensures ∙ sym (word-short _ 8 _ (omega arith))
+returns-2 : tie.Need-returns
+returns-2 c = c.le_part.ensures ∙ sym (word-short _ 8 _ (omega arith))
 
-pub word-at-spec : {M : Type 1} → statement M
-word-at-spec = tie.close (tie.spec le64-requires returns le-part-requires returns-2)
+pub word_at_spec : {M : Type 1} → statement M
+word_at_spec = tie.close (tie.spec le64-requires returns le-part-requires returns-2)

@@ -4,15 +4,15 @@ use Rattle.lines.specs.Digits.{hexadecimal}
 use Rattle.lines.proofs.digits.put_hexadecimal.Statement.{statement}
 use Rattle.lines.proofs.digits.put_hexadecimal.Tie as tie
 
-put-digits-requires : tie.Need-put-digits-requires
+put-digits-requires : tie.Need-put_digits-requires
 put-digits-requires c κs = search rules
 
-same_length : tie.Need-same-length
+same_length : tie.Need-shape_of-out
 same_length c = search rules
 
 returns : tie.Need-returns
 unfolding hexadecimal
-returns c = c.before.before.put-digits.ensures
+returns c = c.put_digits.ensures
 
-pub put-hexadecimal-spec : {M : Type 1} → statement M
-put-hexadecimal-spec = tie.close (tie.spec put-digits-requires same_length returns)
+pub put_hexadecimal_spec : {M : Type 1} → statement M
+put_hexadecimal_spec = tie.close (tie.spec put-digits-requires same_length returns)

@@ -11,29 +11,29 @@ use Rattle.lines.proofs.program.bucket_lines.Statement.{statement}
 use Rattle.lines.proofs.program.bucket_lines.Tie as tie
 
 -- the text's length
-size-1 : (c : tie.After-put-refused-arg) → length c.before.before.before.args.text.now ≡ 262144
+size-1 : (c : tie.After-put_refused-arg-1) → length c.args.text.now ≡ 262144
 size-1 c = search rules
 
-put-refused-requires : tie.Need-put-refused-requires
+put-refused-requires : tie.Need-put_refused-requires
 put-refused-requires c κs = search rules
 
-returns : tie.Need-returns
+returns : tie.Need-returns-then-list-gt32768
 returns c =
-    let k = c.before.before.before in
-    let s = k.before.args.list.now in
-    shows (emitted (prints-refused s (omega (arith, c.before.before.if1.true))) c.Put-refused.ensures) (size-1 c.before)
-    (printed-most s (bytes-from s (λ i. let h = k.shared-slice-known.given i in omega arith)))
+    let k = c in
+    let s = k.args.list.now in
+    shows (emitted (prints-refused s (omega (arith, c.if-list-gt32768.true))) c.put_refused.ensures) (size-1 c.before)
+    (printed-most s (bytes-from s (λ i. let h = k.shared_slice_known-1.given i in omega arith)))
 
-answer-to-requires : tie.Need-answer-to-requires
+answer-to-requires : tie.Need-answer_to-number-requires
 answer-to-requires c κs = search rules
 
-put-answer-requires : tie.Need-put-answer-requires
-put-answer-requires c κs = c.before.before.answer-to.ensures
+put-answer-requires : tie.Need-put_answer-requires
+put-answer-requires c κs = c.answer_to-number.ensures
 
-returns-2 : tie.Need-returns-2
+returns-2 : tie.Need-returns
 returns-2 c =
-    let a = c.before.before.before.before.before.before.before.before in
-    shown (prints-answer a.args.list.now (omega (arith, c.before.before.before.before.before.before.if1.false))) c.put-answer.ensures
+    let a = c in
+    shown (prints-answer a.args.list.now (omega (arith, c.if-list-gt32768.false))) c.put_answer.ensures
 
-pub bucket-lines-spec : {M : Type 1} → statement M
-bucket-lines-spec = tie.close (tie.spec put-refused-requires returns answer-to-requires put-answer-requires returns-2)
+pub bucket_lines_spec : {M : Type 1} → statement M
+bucket_lines_spec = tie.close (tie.spec put-refused-requires returns answer-to-requires put-answer-requires returns-2)

@@ -14,39 +14,39 @@ use Rattle.lines.proofs.program.put_answer.Statement.{statement}
 use Rattle.lines.proofs.program.put_answer.Tie as tie
 
 -- the text's length
-size-1 : (c : tie.After-put-refused-arg) → length c.before.before.before.args.text.now ≡ 262144
+size-1 : (c : tie.After-put_refused-arg-1) → length c.args.text.now ≡ 262144
 size-1 c = search rules
 
-size-2 : (c : tie.After-put-lines-arg2) → length c.before.before.before.before.before.args.text.now ≡ 262144
+size-2 : (c : tie.After-put_lines-arg-1) → length c.args.text.now ≡ 262144
 size-2 c = search rules
 
-put-refused-requires : tie.Need-put-refused-requires
+put-refused-requires : tie.Need-put_refused-requires
 put-refused-requires c κs = search rules
 
-returns : tie.Need-returns
+returns : tie.Need-returns-then-number-ne0
 returns c =
-    let a = c.before.before.before.before in
+    let a = c in
     let s = a.args.list.now in
-    shows (emitted (lines-refused (answer_by_byte s) a.requires.numbered (λ z. absurd (omega (arith, z, c.before.before.if1.true)))) c.Put-refused.ensures)
-    (size-1 c.before) (answer-most s (bytes-from s (λ i. let h = c.before.before.before.shared-slice-known.given i in omega arith)))
+    shows (emitted (lines-refused (answer_by_byte s) a.requires.numbered (λ z. absurd (omega (arith, z, c.if-number-ne0.true)))) c.put_refused.ensures)
+    (size-1 c.before) (answer-most s (bytes-from s (λ i. let h = c.shared_slice_known-1.given i in omega arith)))
 
-slice-aggregate-put-lines : tie.Need-slice-aggregate-put-lines
-slice-aggregate-put-lines c = sym (length-take-le _ _ c.before.before.before.before.before.requires.within)
+slice-aggregate-put-lines : tie.Need-slice_bounds-put_lines-end-2
+slice-aggregate-put-lines c = sym (length-take-le _ _ c.requires.within)
 
-put-lines-requires : tie.Need-put-lines-requires
+put-lines-requires : tie.Need-put_lines-requires
 put-lines-requires c κs =
-    let b = c.before.before.before.before in
-    let a = b.before in
+    let b = c in
+    let a = b in
     let s = a.args.list.now in
     ap change_laid_out a.requires.bytes
-    ∙ (answer-written s (bytes-from s (λ i. let h = b.shared-slice-known.given i in omega arith)) (sym a.requires.numbered ∙ omega (arith, c.before.before.before.if1.false))).1.laid_out
+    ∙ (answer-written s (bytes-from s (λ i. let h = b.shared_slice_known-1.given i in omega arith)) (sym a.requires.numbered ∙ omega (arith, c.if-number-ne0.false))).1.laid_out
 
-returns-2 : tie.Need-returns-2
+returns-2 : tie.Need-returns
 returns-2 c =
-    let a = c.before.before.before.before.before.before in
+    let a = c in
     let s = a.args.list.now in
-    shows (emitted (lines-accepted (answer_by_byte s) (sym a.requires.numbered ∙ omega (arith, c.before.before.before.before.if1.false)) a.requires.bytes) c.put-lines.ensures)
-    (size-2 c.before) (answer-most s (bytes-from s (λ i. let h = c.before.before.before.before.before.shared-slice-known.given i in omega arith)))
+    shows (emitted (lines-accepted (answer_by_byte s) (sym a.requires.numbered ∙ omega (arith, c.if-number-ne0.false)) a.requires.bytes) c.put_lines.ensures)
+    (size-2 c.before) (answer-most s (bytes-from s (λ i. let h = c.shared_slice_known-1.given i in omega arith)))
 
-pub put-answer-spec : {M : Type 1} → statement M
-put-answer-spec = tie.close (tie.spec put-refused-requires returns slice-aggregate-put-lines put-lines-requires returns-2)
+pub put_answer_spec : {M : Type 1} → statement M
+put_answer_spec = tie.close (tie.spec put-refused-requires returns slice-aggregate-put-lines put-lines-requires returns-2)
