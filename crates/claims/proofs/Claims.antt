@@ -133,12 +133,12 @@ module _ (κs : Lfts 4) (a : Dens κs release_k.ps) (r : ℕ) (e : AtExit (ended
   pub release-says :
       let list : List ℕ = a.0.now in
       let scratch : List ℕ = a.1.0.now in
-      let scratch_after : List ℕ = e.1.0.now in
+      let scratch-left : List ℕ = e.1.0.now in
       let out : List ℕ = a.1.1.0.now in
       let out-after : List ℕ = e.1.1.0.now in
       let written_after : ℕ = e.1.1.1.0.now in
       release_r.Learnt κs a r e
-      ≡ ((made r written_after out-after ≡ outcome (release list (length scratch) (length out)) out) × (scratch_after ≡ scratch_after scratch))
+      ≡ ((made r written_after out-after ≡ outcome (release list (length scratch) (length out)) out) × (scratch-left ≡ scratch_after scratch))
   release-says = refl
 
 pub zerglaz-discard : {M : Type 1} → discard_s.statement M
