@@ -1,4 +1,4 @@
-// The C boundary: the six calls, each with its one outcome over any input.
+// The six calls, each with its one outcome over any input: what the C boundary exports (crate zerglaz_c).
 #![tactic(auto)]
 
 ghost use Rattle.std.specs.Prelude.{◌≡◌, length};
@@ -13,58 +13,42 @@ use release::release as release_call;
 use sort::sort as sort_call;
 
 // Chooses buckets for the pieces asked and writes the change list that places them.
-#[unsafe(no_mangle)]
-pub extern "C" fn zerglaz_place(list: &[u8], out: &mut [u8], written: &mut usize) -> u32
+pub fn zerglaz_place(list: &[u8], out: &mut [u8], written: &mut usize) -> u32
     ensures { made result written.new out.new ≡ outcome (place list.now (length out.old)) out.old }
 {
     place_call::place(list, out, written)
 }
 
 // Writes the change list that gives the named pieces' sectors back.
-#[unsafe(no_mangle)]
-pub extern "C" fn zerglaz_release(
-    list: &[u8],
-    scratch: &mut [u32],
-    out: &mut [u8],
-    written: &mut usize,
-) -> u32
+pub fn zerglaz_release(list: &[u8], scratch: &mut [u32], out: &mut [u8], written: &mut usize) -> u32
     ensures { (made result written.new out.new ≡ outcome (release list.now (length scratch.old) (length out.old)) out.old) × (scratch.new ≡ scratch_after scratch.old) }
 {
     release_call::release(list, scratch, out, written)
 }
 
 // Writes the change list that frees the waiting buckets.
-#[unsafe(no_mangle)]
-pub extern "C" fn zerglaz_discard(list: &[u8], out: &mut [u8], written: &mut usize) -> u32
+pub fn zerglaz_discard(list: &[u8], out: &mut [u8], written: &mut usize) -> u32
     ensures { made result written.new out.new ≡ outcome (discard list.now (length out.old)) out.old }
 {
     discard_call::discard(list, out, written)
 }
 
 // Writes the volume that a change list makes of a volume.
-#[unsafe(no_mangle)]
-pub extern "C" fn zerglaz_apply(
-    volume: &[u8],
-    change: &[u8],
-    out: &mut [u8],
-    written: &mut usize,
-) -> u32
+pub fn zerglaz_apply(volume: &[u8], change: &[u8], out: &mut [u8], written: &mut usize) -> u32
     ensures { made result written.new out.new ≡ outcome (apply volume.now change.now (length out.old)) out.old }
 {
     apply_call::apply(volume, change, out, written)
 }
 
 // Writes the sorted form of a call list.
-#[unsafe(no_mangle)]
-pub extern "C" fn zerglaz_sort(list: &[u8], out: &mut [u8], written: &mut usize) -> u32
+pub fn zerglaz_sort(list: &[u8], out: &mut [u8], written: &mut usize) -> u32
     ensures { made result written.new out.new ≡ outcome (sort list.now (length out.old)) out.old }
 {
     sort_call::sort(list, out, written)
 }
 
 // Writes the generations of up to 1,024 ascending buckets, in one walk of a volume's tree 14, and counts the keys that it visits.
-#[unsafe(no_mangle)]
-pub extern "C" fn zerglaz_generations(
+pub fn zerglaz_generations(
     volume: &[u8],
     buckets: &[u32],
     out: &mut [u8],
