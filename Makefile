@@ -10,7 +10,7 @@ run:                 ## Proves and builds the program bucketlines, and shows it 
 	@bash examples/run
 
 prove:               ## Proves every crate.
-	@rt check
+	@rt all check
 
 test:                ## Everything that the gate runs: every proof, every edit, every test; the last line counts them all.
 	@bash tests/run
@@ -33,7 +33,7 @@ oracle:              ## RUST=dir: builds the Rust's own functions out of dir, an
 	@test -f "$(RUST)/src/write_alloc.rs" || { echo "usage: make oracle RUST=dir, where dir has the Rust text under its own paths" >&2; exit 2; }
 	cd oracle/rust && RUST="$(abspath $(RUST))" cargo test --release --offline
 	cd oracle/rust && RUST="$(abspath $(RUST))" cargo run --release --offline --bin compare -- $(LISTS)
-	rt staticlib zerglaz
+	bash tools/build zerglaz
 	cd oracle/rust && RUST="$(abspath $(RUST))" cargo run --release --offline --features archive --bin archive -- $(CALLS)
 
 # The six calls, also on lists that are only read, beside a copy of the same bytes. With RUST=dir also the calls beside the Rust's own functions, which are
@@ -41,7 +41,7 @@ oracle:              ## RUST=dir: builds the Rust's own functions out of dir, an
 .PHONY: bench
 CHART ?= target/benchmarks.svg
 bench:               ## Times the calls; with RUST=dir also beside the Rust's own functions.
-	rt staticlib zerglaz
+	bash tools/build zerglaz
 	cd rust && cargo bench --offline --bench calls
 ifneq ($(RUST),)
 	@test -f "$(RUST)/src/write_alloc.rs" || { echo "usage: make bench RUST=dir, where dir has the Rust text under its own paths" >&2; exit 2; }
@@ -62,6 +62,6 @@ install: target/staticlib/libzerglaz.a ## PREFIX=dir: installs the header, the a
 	sed -e 's|@PREFIX@|$(abspath $(PREFIX))|' -e 's|@VERSION@|$(version)|' include/zerglaz.pc.in > "$(installed)/lib/pkgconfig/zerglaz.pc"
 
 target/staticlib/libzerglaz.a:
-	rt staticlib zerglaz
+	bash tools/build zerglaz
 
 -include tests/headers/headers.mk

@@ -1,5 +1,5 @@
 //! Finds the archive and links it: in the folder that `ZERGLAZ_LIB_DIR` names, or else where
-//! `rt staticlib zerglaz` writes it in the repository.
+//! `tools/build zerglaz` writes it in the repository.
 
 use std::env;
 use std::path::{Path, PathBuf};
@@ -43,7 +43,7 @@ fn folder() -> Result<PathBuf, String> {
     Err(match named {
         Some(_) => format!("there is no {ARCHIVE} in {place}, the folder that {FOLDER} names"),
         None => format!(
-            "there is no {ARCHIVE} in {place}: run `rt staticlib zerglaz` in the repository's \
+            "there is no {ARCHIVE} in {place}: run `tools/build zerglaz` in the repository's \
              root, or set {FOLDER} to the archive's folder"
         ),
     })

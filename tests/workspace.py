@@ -1,12 +1,12 @@
-"""A copy of the repository in which one crate can be changed and proved again in seconds.
+"""A copy of some crates in which they can be changed and proved again in seconds.
 
-The crate is copied, the others are linked, and what was proved of them is taken as it stands. The incremental folder of `rt dev` starts with the modules
-that were proved of the crate itself; a toolchain that keeps them in another way finds nothing there and proves the crate from nothing.
+The copy stands outside the repository, since `rt ci` refuses a crate's files anywhere else in it. A check there begins with what the checks of the repository kept.
 """
-import os
+import contextlib
 import re
 import shutil
 import subprocess
+import tempfile
 from pathlib import Path
 
 ROOT = Path(__file__).resolve().parents[1]
@@ -16,53 +16,53 @@ class NotProved(Exception):
     """The crates that a suite starts from are not proved."""
 
 
-def prove(names):
-    """Proves the named crates and what they depend on, as far as that was not done before."""
-    run = subprocess.run(["rt", "check", *names], cwd=ROOT, stdout=subprocess.PIPE, stderr=subprocess.STDOUT, text=True)
-    if run.returncode != 0:
-        raise NotProved(run.stdout[-3000:])
+def listed():
+    """The lines of crates.txt: each crate with the crates that it uses."""
+    lines = [line.split("#")[0] for line in (ROOT / "crates.txt").read_text().splitlines()]
+    return {line.split(":")[0].split()[0]: line for line in lines if line.strip()}
 
 
-def make(name, folder):
-    """A new copy below target/FOLDER for the crate NAME."""
-    copy = ROOT / "target" / folder / name
-    shutil.rmtree(copy, ignore_errors=True)
-    (copy / "crates").mkdir(parents=True)
-    (copy / "target").mkdir()
-    shutil.copy(ROOT / "crates.txt", copy)
-    for crate in (ROOT / "crates").iterdir():
-        if crate.name != name:
-            (copy / "crates" / crate.name).symlink_to(crate)
-    shutil.copytree(ROOT / "crates" / name, copy / "crates" / name)
-    (copy / "target" / "rlib").symlink_to(ROOT / "target" / "rlib")
-    shutil.copytree(ROOT / "target" / "stamp", copy / "target" / "stamp")
-    start_incremental(copy, name)
-    return copy
+def with_those_below(names):
+    """The named crates and those that they use, in the order of crates.txt."""
+    lines = listed()
+    wanted = set()
+    rest = list(names)
+    while rest:
+        name = rest.pop()
+        if name in lines and name not in wanted:
+            wanted.add(name)
+            rest += lines[name].split(":", 1)[1].split()
+    return [name for name in lines if name in wanted]
 
 
-def start_incremental(copy, name):
-    """Fills a library's incremental folder with the modules that were proved."""
-    library = ROOT / "target" / "rlib" / f"{name}.rlib"
-    checked = library / "toolchain" / "checked"
-    if not checked.is_dir():
-        return
-    build = re.search(r"^rattle-build (\S+)$", (library / "format").read_text(), re.M)
-    if build:
-        shutil.copytree(checked, copy / "target" / "inc" / name / build.group(1).replace("/", "_"))
+@contextlib.contextmanager
+def copied(names):
+    """A folder with the named crates, those below them and a crates.txt that lists these; it is removed behind the caller."""
+    folder = Path(tempfile.mkdtemp(prefix="zerglaz-", dir="/var/tmp"))
+    try:
+        crates = with_those_below(names)
+        (folder / "crates").mkdir()
+        lines = listed()
+        (folder / "crates.txt").write_text("".join(f"{lines[name]}\n" for name in crates))
+        for name in crates:
+            shutil.copytree(ROOT / "crates" / name, folder / "crates" / name, ignore=shutil.ignore_patterns("out"))
+        yield folder
+    finally:
+        shutil.rmtree(folder, ignore_errors=True)
 
 
-def dev(copy, name):
-    """`rt dev NAME` in a copy: its status and what it prints."""
-    env = dict(os.environ, RT_CUT="0")
-    run = subprocess.run(["rt", "dev", name], cwd=copy, env=env, stdout=subprocess.PIPE, stderr=subprocess.STDOUT, text=True)
+def rt(folder, *words):
+    """Runs a command of the toolchain in a folder: its status and what it prints."""
+    run = subprocess.run(["rt", *words], cwd=folder, stdout=subprocess.PIPE, stderr=subprocess.STDOUT, text=True)
     return run.returncode, run.stdout
 
 
+def check(folder, name):
+    """Checks a crate of a copy: its status and what it prints."""
+    return rt(folder / "crates" / name, "check")
+
+
 def is_proved(status, printed):
-    """Whether `rt dev` found the crate proved."""
-    return status == 0 and last_line(printed).startswith("logic=proved")
-
-
-def last_line(printed):
-    lines = printed.strip().splitlines()
-    return lines[-1] if lines else ""
+    """Whether a check found its crate proved."""
+    last = re.findall(r"^logic=\S+", printed, re.M)
+    return status == 0 and last[-1:] == ["logic=proved"]

@@ -142,7 +142,7 @@
 //! The calls are in an archive, libzerglaz.a, of x86-64 code; the crate is built for no other
 //! target, and only x86-64 Linux was tried. The build looks for the archive in the folder that
 //! `ZERGLAZ_LIB_DIR` names, or else in target/staticlib of the repository, where
-//! `rt staticlib zerglaz` writes it.
+//! `tools/build zerglaz` writes it.
 #![deny(unsafe_code, unsafe_op_in_unsafe_fn)]
 #![warn(missing_docs)]
 

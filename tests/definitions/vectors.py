@@ -2,7 +2,7 @@
 """vectors.py N: holds the definitions to N of the stored vectors by computing.
 
 Each vector becomes a line of antt, that the answer of `calls/specs/Answers.antt` on its list is the vector's number and bytes, by `refl`. The lines are
-checked in a copy below target/definitions, whose crate calls has them as its only proofs. The last line is `N passed, M failed`.
+checked in a copy whose crate calls has them as its only proofs. The last line is `N passed, M failed`.
 """
 import re
 import shutil
@@ -26,7 +26,7 @@ def buckets_in(text):
     """The buckets of a field, as an antt list."""
     data = b"" if text == "-" else bytes.fromhex(text)
     numbers = [int.from_bytes(data[i:i + 4], "little") for i in range(0, len(data), 4)]
-    return "".join(f"bucketIs {n} ∷ " for n in numbers) + "[]", len(numbers)
+    return "".join(f"bucket_is {n} ∷ " for n in numbers) + "[]", len(numbers)
 
 
 def read(call):
@@ -71,8 +71,8 @@ def write(copy, chosen):
     shutil.rmtree(proofs)
     proofs.mkdir()
     (proofs / "Lib.antt").write_text("pub mod Vectors\n")
-    lines = ["use mathlib.Core.Path.{_≡_, refl}", "use mathlib.Core.List.{List, [], _∷_}", "use Rattle·wire.specs.Kinds.{bucketIs}",
-             "use Rattle·calls·specs.specs.Answers.{Answer, GenerationsAnswer, place, release, discard, apply, sort, generations}", ""]
+    lines = ["use mathlib.Core.Path.{◌≡◌, refl}", "use mathlib.Core.List.{List, [], ◌∷◌}", "use Rattle.wire.specs.Kinds.{bucket_is}",
+             "use Rattle.calls.specs.Answers.{Answer, GenerationsAnswer, place, release, discard, apply, sort, generations}", ""]
     for i, (name, number, term, answer) in enumerate(chosen):
         call = term.split()[0]
         lines += [f"-- {name}", f"v{i} : {term} ≡ record {{ number = {number}; {answer} }}", f"unfolding {call}", f"v{i} = refl", ""]
@@ -85,10 +85,9 @@ def main():
     calls = ("place", "release", "discard", "apply", "sort", "generations")
     share = -(-int(sys.argv[1]) // len(calls))
     chosen = [v for call in calls for v in spread(read(call), share)]
-    workspace.prove(["calls"])
-    copy = workspace.make("calls", "definitions")
-    write(copy, chosen)
-    status, printed = workspace.dev(copy, "calls")
+    with workspace.copied(["calls"]) as copy:
+        write(copy, chosen)
+        status, printed = workspace.check(copy, "calls")
     bad = {m.group(1) for m in re.finditer(r"Vectors\.antt:\d+:\d+: error: `(v\d+)`", printed)}
     for label in sorted(bad, key=lambda b: int(b[1:])):
         print("disagrees:", chosen[int(label[1:])][0])

@@ -5,7 +5,7 @@ HEADERS_CFLAGS = -std=gnu11 -O1 -Wall -Wextra -iquote "$(LINUX)" -I $(HEADERS_DI
 .PHONY: headers
 headers:             ## LINUX=dir: holds the bit layouts to the headers of dir, fs/bcachefs of a Linux 6.12 source tree.
 	@test -f "$(LINUX)/bcachefs_format.h" || { echo "usage: make headers LINUX=dir, where dir is fs/bcachefs of a Linux 6.12 source tree" >&2; exit 2; }
-	rt staticlib format_c
+	bash tools/build format_c
 	mkdir -p target/headers
 	$(CC) $(HEADERS_CFLAGS) -o target/headers/check $(HEADERS_DIR)/check.c target/staticlib/libformat_c.a
 	target/headers/check
