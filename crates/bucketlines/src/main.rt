@@ -2,16 +2,20 @@
 // standard error.
 #![tactic(auto)]
 
-ghost use Rattle.std.specs.Prelude.{IfOk};
+ghost use Rattle.std.specs.Prelude.{IfOk, ◌<◌, length, take};
 ghost use Rattle.std.specs.Counts.{IsPrefixLen};
+ghost use Rattle.std.specs.Io.KnownBytes.{Consumes, IsAtEnd};
 
 use lines::program;
 use std::io;
 use std::io::Read;
 
-// Reads until the list is full or the input ends, and gives how many bytes stand at its start. A read that fails ends it with that error.
+// Reads until the list is full or the input ends, and gives how many bytes stand at its start: those that the input had next. A read that fails ends
+// it with that error.
 fn read_list<R: Read>(input: &mut R, list: &mut [u8]) -> io::Result<usize>
-    ensures { IfOk result (λ n. IsPrefixLen n list.new) }
+    ensures within { IfOk result (λ n. IsPrefixLen n list.new) }
+    ensures bytes { IfOk result (λ n. Consumes (R.remaining input.old) (R.remaining input.new) (take n list.new)) }
+    ensures whole { IfOk result (λ n. n < length list.new → IsAtEnd (R.remaining input.new)) }
 {
     let mut done: usize = 0;
     while done < list.len() {
