@@ -231,11 +231,11 @@ pub sort-again : (s : List ℕ) (room : ℕ) → Bytes s → (sort s room).numbe
 sort-again = sorted.sort-again
 
 -- two lists in which every field stands as often, with equal requests, have one sorted form
-pub one_form : (a b : List ℕ) → Bytes a → list_laid_out a ≡ true → none_twice (read_volume a) ≡ true → AsOften (fields a) (fields b)
+pub one-form : (a b : List ℕ) → Bytes a → list_laid_out a ≡ true → none_twice (read_volume a) ≡ true → AsOften (fields a) (fields b)
     → (read_call a).pieces ≡ (read_call b).pieces
     → (read_call a).releases ≡ (read_call b).releases
     → sorted_form a ≡ sorted_form b
-one_form = sorted.one_form
+one-form = sorted.one_form
 
 -- ---- the generations of many buckets
 -- each that is written is the one that the single lookup gives, and no more keys are visited than tree 14 has
@@ -247,9 +247,9 @@ pub generations-visited : (s : List ℕ) (buckets : List Bucket) (room : ℕ) �
 generations-visited = lookups.generations-visited
 
 -- the walk ends with the first key past the last bucket's record: none but the last key visited is past it, and that one is where keys are left
-pub walk_before : (gens : List Key) (b : Bucket) (bs : List Bucket) (d : Key) (i : ℕ) → i + 1 < (joint_lookup gens (b ∷ bs)).visited
+pub walk-before : (gens : List Key) (b : Bucket) (bs : List Bucket) (d : Key) (i : ℕ) → i + 1 < (joint_lookup gens (b ∷ bs)).visited
     → pos_less (gens_at (last_or b bs)) (get_or gens i d).pos ≡ false
-walk_before = joint.joint-before
+walk-before = joint.joint-before
 
 pub walk-last : (gens : List Key) (b : Bucket) (bs : List Bucket) (d : Key) (i : ℕ) → (joint_lookup gens (b ∷ bs)).visited < length gens
     → i + 1 ≡ (joint_lookup gens (b ∷ bs)).visited
@@ -473,8 +473,8 @@ twice-before-limit = worked-answers.twice-before-limit
 pub limit-before-room : generations (volume_bytes two_records) (bucket 65536 ∷ []) 0 ≡ record { number = 3; written = []; visited = 0 }
 limit-before-room = worked-answers.limit-before-room
 
-pub no_room : generations (volume_bytes two_records) (bucket 65535 ∷ []) 0 ≡ record { number = 21; written = []; visited = 0 }
-no_room = worked-answers.no_room
+pub no-room : generations (volume_bytes two_records) (bucket 65535 ∷ []) 0 ≡ record { number = 21; written = []; visited = 0 }
+no-room = worked-answers.no_room
 
 -- ---- what is written is read back
 -- what an accepted call writes is laid out right, and is read back as the batches, or the volume, of its definition
@@ -519,9 +519,9 @@ total-queued = roots.total-queued
 -- ==== Demand 2: what the Linux headers decide
 
 -- ---- the formulas of FORMAT.md, "Pieces and extents"
-pub pointer_is : (d : DeviceSector) (generation : ℕ) → sector_number d < 2 ^ 44 → generation < 256
+pub pointer-is : (d : DeviceSector) (generation : ℕ) → sector_number d < 2 ^ 44 → generation < 256
     → 1 + 16 * sector_number d + 2 ^ 56 * generation ≡ pointer d generation
-pointer_is = entries.pointer_is
+pointer-is = entries.pointer_is
 
 pub crc32-is : (stored file ctype kind checksum : ℕ) → stored ≤ 128 → file ≤ 128 → ctype < 16 → kind < 16
     → 2 + (stored - 1) * 2 ^ 2 + (file - 1) * 2 ^ 9 + ctype * 2 ^ 24 + kind * 2 ^ 28 + checksum % 2 ^ 32 * 2 ^ 32 ≡ crc32 stored file ctype kind checksum
@@ -545,9 +545,9 @@ pub words-1 : (kind stored file checksum word : ℕ)
     → extent_words 1 kind stored file checksum word ≡ crc32 stored file (csum_type_of 1) kind checksum ∷ word ∷ []
 words-1 = entries.words-1
 
-pub words_more : (kind stored file checksum word option : ℕ) → 1 < option
+pub words-more : (kind stored file checksum word option : ℕ) → 1 < option
     → extent_words option kind stored file checksum word ≡ crc64 stored file (csum_type_of option) kind ∷ checksum ∷ word ∷ []
-words_more = entries.words_more
+words-more = entries.words_more
 
 -- ---- each packed word and struct has the fields that the header names
 -- struct bch_extent_ptr: type, cached, unused, unwritten, offset, dev, gen
