@@ -1,7 +1,6 @@
 -- A bucket's generation, by the entry of its record.
 use mathlib.Core.Path.{◌≡◌, ap, ◌∙◌}
 use mathlib.Core.List.{List}
-use mathlib.Core.Option.{Option}
 use Prim.Native.Nat.{ℕ, ◌/◌, ◌≤◌, ◌<◌}
 use native.Mathlib.Omega.{arith}
 use lib.ListN.{length, get_or}
@@ -12,7 +11,7 @@ use Rattle.wire.specs.Keys.{Key}
 use Rattle.wire.specs.Positions.{gens_byte}
 use Rattle.wire.specs.declared.kinds.Bucket.{Bucket}
 use Rattle.format.specs.Gens.{gen_in}
-use Rattle.calls.specs.Generations.{found, no_record, too_short, found_in, gen_lookup, or_zero, is_short, gen_of, gen_short}
+use Rattle.calls.specs.Generations.{found, no_record, too_short, found_in, gen_lookup, or_zero, is_short, gen_of, gen_short, GenFound}
 use Rattle.reader.specs.KeyHere.{key_here}
 use Rattle.gens.specs.Records.{record_at, record_entry, RecordIs, RecordsFound}
 
@@ -39,12 +38,17 @@ module _ (s : List ℕ) (b : Bucket) (at : ℕ) where
     unfolding gen_in
     look-there h = rw (ne_eqb at 0 n, lt-ltb (gens_byte b) (length (key_here s at).value) h)
 
--- the two readings
-module _ {s : List ℕ} {gens : List Key} {b : Bucket} {at : ℕ} (r : RecordIs s gens b at) where
-  pub gen-read : or_zero (found_in b (record_at s at)) ≡ gen_of gens b
-  unfolding gen_of gen_lookup
-  gen-read = ap (λ (k : Option Key). or_zero (found_in b k)) r.is
+-- a tree tells of a bucket what the bucket's record there does
+pub look-read : {s : List ℕ} {gens : List Key} {b : Bucket} {at : ℕ} → RecordIs s gens b at → found_in b (record_at s at) ≡ gen_lookup gens b
+unfolding gen_lookup
+look-read {b = b} r = ap (found_in b) r.is
 
-  pub short-read : is_short (found_in b (record_at s at)) ≡ gen_short gens b
-  unfolding gen_short gen_lookup
-  short-read = ap (λ (k : Option Key). is_short (found_in b k)) r.is
+-- the two readings
+module _ (gens : List Key) (b : Bucket) {l : GenFound} (e : l ≡ gen_lookup gens b) where
+  pub gen-read : or_zero l ≡ gen_of gens b
+  unfolding gen_of
+  gen-read = ap or_zero e
+
+  pub short-read : is_short l ≡ gen_short gens b
+  unfolding gen_short
+  short-read = ap is_short e

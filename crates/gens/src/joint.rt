@@ -59,7 +59,7 @@ pub fn bucket_gens(out: &mut [u8], s: &[u8], gens: &[u32], buckets: &[u64]) -> u
     while i < buckets.len() {
         let b = Bucket(buckets[i]);
         k = keys_up_to(s, gens, k, b);
-        out[i] = lookup::bucket_gen(s, record_up_to(s, gens, k, b), b);
+        out[i] = lookup::record_gen(s, record_up_to(s, gens, k, b), b);
         i += 1;
     }
     if i == 0 {

@@ -1,9 +1,8 @@
 // The call: a list is read, then answered.
-ghost use Rattle.std.specs.Prelude.{◌≡◌, true, [], ◌∷◌, length};
+ghost use Rattle.std.specs.Prelude.{◌≡◌, [], ◌∷◌, length};
 ghost use Rattle.wire.specs.Kinds.{buckets_in};
 ghost use Rattle.calls.specs.Answers as answers;
 ghost use Rattle.calls.specs.Answers.{answer, made, outcome, read_call, read_volume};
-ghost use Rattle.calls.specs.CallList.{keys_ascend};
 ghost use Rattle.calls.specs.ChangeList.{change_bytes};
 ghost use Rattle.calls.specs.Place.{place_tests};
 ghost use Rattle.reader.specs.Located.{KeysAt};
@@ -18,8 +17,8 @@ ghost use Rattle.place_keys.specs.Queue.{Walk};
 use crate::inputs::Inputs;
 use crate::{change, inputs};
 use freespace::take::Walked;
-use gens::joint;
-use place_keys::dirty;
+use gens::records;
+use place_keys::{dirty, generations};
 use place_tests::refusals;
 use reader::call;
 use reader::call::Reading;
@@ -66,14 +65,15 @@ fn place_buckets(
     written: &mut usize,
 ) -> u32
     requires plan_for { PlanFor s.now h pieces.now slots.now (buckets_in taken.now) }
-    requires walk { Walk s.now runs.now w.passed w.left × KeysAt s.now alloc.now (read_volume s.now).trees.alloc × (written.old ≡ 0) }
-    requires keys_at { KeysAt s.now gens.now (read_volume s.now).trees.gens × (keys_ascend (read_volume s.now).trees.gens ≡ true) }
+    requires walk { Walk s.now runs.now w.passed w.left × KeysAt s.now alloc.now (read_volume s.now).trees.alloc × KeysAt s.now gens.now (read_volume s.now).trees.gens × (written.old ≡ 0) }
     ensures { made result written.new out.new ≡ outcome (answer [] (change_bytes (placement s.now ∷ [])) (length out.old)) out.old }
 {
     let n = taken.len();
+    let mut records = [0u32; 256];
     let mut generations = [0u8; 1024];
     let mut dirty = [0u32; 1024];
-    joint::bucket_gens(&mut generations, s, gens, taken);
+    records::find_records(s, gens, &mut records);
+    generations::fill_gens(&mut generations, s, &records, taken);
     dirty::fill_dirty(&mut dirty, s, pieces, slots);
     let v = inputs::read_inputs(s, h, w, alloc, pieces);
     write_change(

@@ -6,14 +6,14 @@ use Prim.Native.Nat.{ℕ, ◌+◌, ◌*◌, ◌≤◌, ◌<◌}
 use native.Mathlib.Omega.{arith}
 use lib.ListN.{length, take, drop, get_or, set, length-set}
 use lib.Seq.{get_or-set_same, get_or-set_other}
-use lib.Dec.{ltb, eqb}
-use borrow.Author.Tests.{eq-eqb, eqb-true, ltb-true, ltb-false}
-use Rattle.wire.specs.Kinds.{no_bucket, same_bucket, bucket_below, extent_end}
+use lib.Dec.{eqb}
+use borrow.Author.Tests.{eq-eqb, eqb-true}
+use Rattle.wire.specs.Kinds.{no_bucket, same_bucket, extent_end}
 use Rattle.wire.specs.Positions.{alloc_at}
 use Rattle.wire.specs.declared.kinds.Bucket.{Bucket}
 use Rattle.wire.specs.declared.kinds.FileSector.{FileSector}
 use Rattle.format.specs.AllocV4.{new_alloc}
-use Rattle.calls.specs.Lists.{in_order, total}
+use Rattle.calls.specs.Lists.{total}
 use Rattle.calls.specs.CallList as lists
 use Rattle.calls.specs.CallList.{Volume, piece_of}
 use Rattle.calls.specs.Trees.{new_key}
@@ -22,14 +22,13 @@ use Rattle.calls.specs.Extents.{bucket_at, placed_at}
 use Rattle.calls.specs.Pieces as layouts
 use Rattle.calls.specs.Place.{dirty_in, new_alloc_key, placed_of}
 use Rattle.calls.specs.Answers.{read_call, read_volume}
-use Rattle.calls.proofs.freespace.UpLaws.{order-up, up-before}
 use Rattle.reader.specs.Pieces.{piece_in}
 use Rattle.reader.specs.declared.head.Head.{Head}
 use Rattle.reader.specs.declared.piece.Piece.{Piece}
 use Rattle.next_fit.specs.Fit.{slot_in, slot_of}
 use Rattle.next_fit.specs.declared.slot.Slot.{Slot}
 use Rattle.place_keys.specs.Plan.{Plan, Dirty, AllocsOf, placed_from}
-use Rattle.place_keys.proofs.StepLaws.{at-index, map_at, placed-here, pieces-here, slots-here, stored-most, index-low}
+use Rattle.place_keys.proofs.StepLaws.{map_at, placed-here, pieces-here, slots-here, stored-most, index-low}
 use Rattle.place_keys.proofs.WalkLaws.{no_more}
 
 -- the alloc key of the bucket at an index
@@ -38,23 +37,6 @@ pub alloc-key : {v : Volume} {ps : List calls.Placed} {bs : List Bucket} {gs ds 
     → new_key 27 0 (alloc_at b) (new_alloc journal (get_or gs i 0) (get_or ds i 0) clock) ≡ new_alloc_key v ps b
 unfolding new_alloc_key
 alloc-key {bs = bs} i a d h e = rw (e, a.number, a.time, d.at i h, a.gens, map_at _ bs i h)
-
--- of buckets that ascend each stands at one index alone
-distinct : (bs : List Bucket) → in_order bucket_below bs ≡ true → (i j : ℕ) → i < length bs → j < length bs
-    → same_bucket (bucket_at no_bucket bs i) (bucket_at no_bucket bs j) ≡ true
-    → i ≡ j
-distinct bs o i j h k e = go (ltb i j) refl (ltb j i) refl
-  where
-    same : (get_or bs i no_bucket).0 ≡ (get_or bs j no_bucket).0
-    same = sym (number i) ∙ eqb-true (bucket_at no_bucket bs i).0 (bucket_at no_bucket bs j).0 e ∙ number j
-      where
-        number : (k : ℕ) → (bucket_at no_bucket bs k).0 ≡ (get_or bs k no_bucket).0
-        number k = ap (λ (b : Bucket). b.0) (at-index bs k)
-
-    go : (t : Bool) → ltb i j ≡ t → (u : Bool) → ltb j i ≡ u → i ≡ j
-    go true f u g = absurd (omega (arith, same, up-before 0 bs i j (order-up bs o) (ltb-true i j f) k))
-    go false f true g = absurd (omega (arith, same, up-before 0 bs j i (order-up bs o) (ltb-true j i g) h))
-    go false f false g = omega (arith, ltb-false i j f, ltb-false j i g)
 
 -- the loop that counts the dirty sectors
 
@@ -138,7 +120,7 @@ module _ {s offsets numbers : List ℕ} {buckets : List Bucket} {generations : L
             → get_or (set counts t.index v) j 0 + dirty_in (from s (i + 1)) (bucket_at no_bucket buckets j)
             ≡ dirty_in (placed_of (read_call s)) (bucket_at no_bucket buckets j)
         go j m true b w =
-            let z : t.index ≡ j = distinct buckets plan.ascend t.index j low m b in
+            let z : t.index ≡ j = plan.distinct t.index j low m b in
             let y : get_or counts j 0 ≡ get_or counts t.index 0 = ap (λ (x : ℕ). get_or counts x 0) (sym z) in
             omega (arith, same j (sym z), w)
         go j m false b w =

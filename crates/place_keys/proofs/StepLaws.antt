@@ -20,7 +20,6 @@ use Rattle.calls.specs.Pieces.{kind_listed, block_of, piece_sized}
 use Rattle.calls.specs.Extents.{bucket_at, placed_at}
 use Rattle.calls.specs.Place.{slots_of, walk_of}
 use Rattle.calls.specs.Answers.{read_call, read_volume}
-use Rattle.calls.proofs.lists.MapLaws.{map-got}
 use Rattle.calls.proofs.lists.BoolLaws.{parts as and-true}
 use Rattle.calls.proofs.lists.AllOfLaws.{all-of-drop, all-of-first}
 use Rattle.reader.specs.declared.head.Head.{Head}
@@ -41,14 +40,11 @@ bucket-at [] i = refl
 bucket-at (n ∷ ns) zero = refl
 bucket-at (n ∷ ns) (suc i) = bucket-at ns i
 
-pub at-index : (bs : List Bucket) (i : ℕ) → bucket_at no_bucket bs i ≡ get_or bs i no_bucket
-unfolding bucket_at
-at-index [] i = refl
-at-index (b ∷ bs) zero = refl
-at-index (b ∷ bs) (suc i) = at-index bs i
-
 pub map_at : (f : Bucket → ℕ) (bs : List Bucket) (i : ℕ) → i < length bs → get_or (map f bs) i 0 ≡ f (bucket_at no_bucket bs i)
-map_at f bs i h = map-got f bs i no_bucket h ∙ sym (ap f (at-index bs i))
+unfolding bucket_at
+map_at f [] i h = absurd (omega arith)
+map_at f (b ∷ bs) zero h = refl
+map_at f (b ∷ bs) (suc i) h = map_at f bs i (omega arith)
 
 pub low-at : (bs : List Bucket) → all_of bucket_in_range bs ≡ true → (i : ℕ) → bucket_in_range (bucket_at no_bucket bs i) ≡ true
 unfolding bucket_at all_of

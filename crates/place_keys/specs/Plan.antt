@@ -1,9 +1,9 @@
 -- What planning hands over to the emission, with the bounds that refusals and limits have shown by then; and the pieces one after the other.
 use Rattle.std.specs.Prelude.{ℕ, ◌+◌, ◌*◌, ◌≤◌, ◌<◌, ◌^◌, ◌≡◌, true, List, ◌∷◌, map, length, get_or, drop}
-use Rattle.wire.specs.Kinds.{no_bucket, bucket_below, bucket_in_range, base_in_range, file_sector_number, sector_number}
+use Rattle.wire.specs.Kinds.{no_bucket, same_bucket, bucket_in_range, base_in_range, file_sector_number, sector_number}
 use Rattle.wire.specs.declared.kinds.Bucket.{Bucket}
 use Rattle.wire.specs.declared.kinds.FileSector.{FileSector}
-use Rattle.calls.specs.Lists.{all_of, in_order}
+use Rattle.calls.specs.Lists.{all_of}
 use Rattle.calls.specs.CallList.{CallList, Volume}
 use Rattle.calls.specs.Clock.{clock_of}
 use Rattle.calls.specs.Generations.{gen_of}
@@ -38,9 +38,11 @@ pub record Plan (s offsets numbers : List ℕ) (buckets : List Bucket) (generati
   -- refusal 11: the walk takes as many buckets as needed, at most one for each piece
   pub enough : buckets_needed (slots_of (read_call s)) ≤ length buckets
   pub short : length buckets ≤ 1024
-  -- refusal 3: runs end at most at 65,536; refusals 22 and 10: they are in order, and no bucket is in two of them
+  -- refusal 3: runs end at most at 65,536; refusal 10: no bucket is in two of them
   pub low : all_of bucket_in_range buckets ≡ true
-  pub ascend : in_order bucket_below buckets ≡ true
+  pub distinct :
+      (i j : ℕ) → i < length buckets → j < length buckets → same_bucket (bucket_at no_bucket buckets i) (bucket_at no_bucket buckets j) ≡ true
+      → i ≡ j
 
 -- a plan for the buckets that the walk takes, whatever the head and the generations that the code holds
 pub record PlanKnown (s offsets numbers : List ℕ) : Type 0 where

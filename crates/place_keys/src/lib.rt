@@ -6,6 +6,7 @@ pub mod backpointers;
 pub mod clock;
 pub mod dirty;
 pub mod extents;
+pub mod generations;
 pub mod lru;
 pub mod placed;
 pub mod queue;

@@ -3,7 +3,7 @@ use mathlib.Core.Path.{◌≡◌, ◌∙◌}
 use Prim.Native.Nat.{◌-◌}
 use lib.ListN.{length, length-map}
 use Rattle.reader.specs.KeyHere.{key_here, keys_here}
-use Rattle.gens.proofs.LookupLaws.{gen-read}
+use Rattle.gens.proofs.LookupLaws.{look-read, gen-read}
 use Rattle.gens.proofs.LookingLaws.{Looking, looking-start, looking-known, looking-next, looked-none, looked-past, looked-all}
 use native.Mathlib.Omega.{arith}
 use Rattle.gens.proofs.joint.bucket_gens.Statement.{statement}
@@ -39,8 +39,8 @@ keys-up-to-requires c κs =
 record-up-to-requires : tie.Need-record_up_to-requires invariant-loop decreases-loop
 record-up-to-requires c κs = let a = start (looped c) in (a.requires.0.0, a.requires.0.1, c.keys_up_to-k.ensures)
 
-bucket-gen-requires : tie.Need-bucket_gen-requires invariant-loop decreases-loop
-bucket-gen-requires c κs = c.record_up_to.ensures.stands
+record-gen-requires : tie.Need-record_gen-requires invariant-loop decreases-loop
+record-gen-requires c κs = c.record_up_to.ensures.stands
 
 slice-write-out : tie.Need-bounds-out-i invariant-loop decreases-loop
 slice-write-out c =
@@ -59,8 +59,8 @@ loop-again c =
     let k = c in
     let l = looped k.before.before in
     let a = start l in
-    looking-next _ _ l.loop-i.invariant k.keys_up_to-k.result c.bucket_gen.result k.loop-i-test.true a.requires.1.1 k.keys_up_to-k.ensures
-    (c.bucket_gen.ensures ∙ gen-read c.record_up_to.ensures)
+    looking-next _ _ l.loop-i.invariant k.keys_up_to-k.result c.record_gen.result k.loop-i-test.true a.requires.1.1 k.keys_up_to-k.ensures
+    (c.record_gen.ensures ∙ gen-read _ _ (look-read c.record_up_to.ensures))
 
 same_length : tie.Need-shape_of-out-then-i-eq0 invariant-loop decreases-loop
 same_length c = c.loop-i.invariant.long
@@ -107,7 +107,7 @@ bucket_gens_spec =
     shared-slice-read-t11
     keys-up-to-requires
     record-up-to-requires
-    bucket-gen-requires
+    record-gen-requires
     slice-write-out
     add-i
     loop-less

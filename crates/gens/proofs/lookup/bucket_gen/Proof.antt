@@ -1,6 +1,5 @@
 -- `bucket_gen` meets its contract.
-use mathlib.Core.Path.{ap}
-use Rattle.calls.specs.Generations.{or_zero}
+use Rattle.gens.proofs.LookupLaws.{gen-read}
 use borrow.Author.Rules.{rules}
 use Rattle.gens.proofs.lookup.bucket_gen.Statement.{statement}
 use Rattle.gens.proofs.lookup.bucket_gen.Tie as tie
@@ -18,13 +17,13 @@ enum-told-2 : tie.Need-enum_told-in-TooShort
 enum-told-2 c = search rules
 
 returns : tie.Need-returns-in-Found
-returns c = ap or_zero (rw c.in-Found.is at c.find_gen.ensures)
+returns c = λ gens r. gen-read gens _ (rw c.in-Found.is at (c.find_gen.ensures gens r))
 
 returns-2 : tie.Need-returns-in-NoRecord
-returns-2 c = ap or_zero (rw c.in-NoRecord.is at c.find_gen.ensures)
+returns-2 c = λ gens r. gen-read gens _ (rw c.in-NoRecord.is at (c.find_gen.ensures gens r))
 
 returns-3 : tie.Need-returns-in-TooShort
-returns-3 c = ap or_zero (rw c.in-TooShort.is at c.find_gen.ensures)
+returns-3 c = λ gens r. gen-read gens _ (rw c.in-TooShort.is at (c.find_gen.ensures gens r))
 
 pub bucket_gen_spec : {M : Type 1} → statement M
 bucket_gen_spec =

@@ -8,7 +8,6 @@ use lib.Seq.{length-take-le}
 use Rattle.calls.specs.Answers.{Answer, outcome, read_call}
 use Rattle.calls.specs.Place.{place_tests}
 use Rattle.calls.proofs.answers.OutcomeLaws.{refused}
-use Rattle.calls.proofs.trees.SixTrees.{trees-ascend}
 use Rattle.place.proofs.CallLaws.{answer-past, answer-refused}
 use Rattle.place.proofs.ChosenLaws.{Choice, chosen}
 use borrow.Author.Rules.{rules}
@@ -71,7 +70,7 @@ place-buckets-requires : tie.Need-place_buckets-requires
 place-buckets-requires c κs =
     let e = c in
     let a = start (call e.before.before.before.before) in
-    ((choice e.before.before.before.before).plan, (((choice e.before.before.before.before).walk, a.requires.0.alloc, a.requires.2), (a.requires.1, (trees-ascend a.requires.0.checked.trees).gens)))
+    ((choice e.before.before.before.before).plan, ((choice e.before.before.before.before).walk, a.requires.0.alloc, a.requires.1, a.requires.2))
 
 same_length : tie.Need-shape_of-out
 same_length c = search rules
