@@ -1,5 +1,5 @@
 -- Place: refusals 2 to 13, and the batch that it writes.
-use Rattle.std.specs.Prelude.{ℕ, ◌+◌, ◌*◌, ◌/◌, ◌%◌, ◌^◌, Bool, not, ◌&&◌, ◌||◌, cond, ℤ, pos, neg_ℤ, ◌+ℤ◌, length, leb, eqb}
+use Rattle.std.specs.Prelude.{ℕ, ◌*◌, ◌/◌, ◌%◌, ◌^◌, Bool, not, ◌&&◌, ◌||◌, cond, pos, neg_ℤ, ◌+ℤ◌, length, leb, eqb}
 use mathlib.Core.List.{List, [], ◌∷◌, map, flat_map}
 use Rattle.wire.specs.Keys.{Key}
 use Rattle.wire.specs.Rows.{Counters}

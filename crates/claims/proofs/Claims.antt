@@ -216,6 +216,10 @@ pub answers-sorted : (s : List ℕ) → Bytes s → list_laid_out s ≡ true →
     → (c : ListCall) (room : ℕ) → answer_of c (sorted_form s) room ≡ answer_of c s room
 answers-sorted s r l o = sorted.answers-sorted r l o
 
+pub generations-sorted : (s : List ℕ) → Bytes s → list_laid_out s ≡ true → none_twice (read_volume s) ≡ true
+    → (buckets : List Bucket) (room : ℕ) → generations (sorted_form s) buckets room ≡ generations s buckets room
+generations-sorted s r l o = sorted.generations-sorted r l o
+
 -- the sorted form is read as the list is, has the list's fields, each as often, and its length
 pub form-reads : (s : List ℕ) → Bytes s → list_laid_out s ≡ true → none_twice (read_volume s) ≡ true → read_call (sorted_form s) ≡ read_call s
 form-reads s r l o = sorted.form-reads r l o

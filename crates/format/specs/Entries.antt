@@ -1,5 +1,5 @@
 -- The entries of an extent (extents_format.h): struct bch_extent_ptr, bch_extent_crc32 and bch_extent_crc64; and FORMAT.md, "Pieces and extents".
-use Rattle.std.specs.Prelude.{ℕ, zero, suc, ◌+◌, ◌-◌, List, [], ◌∷◌, ◌++◌, slice_index}
+use Rattle.std.specs.Prelude.{ℕ, zero, suc, ◌-◌, List, [], ◌∷◌, ◌++◌, slice_index}
 use Rattle.wire.specs.Kinds.{sector_number}
 use Rattle.wire.specs.declared.kinds.DeviceSector.{DeviceSector}
 use Rattle.format.specs.Packing.{pack}

@@ -29,7 +29,7 @@ pub record RecordIs (s : List ℕ) (gens : List Key) (b : Bucket) (at : ℕ) : T
 -- each entry of a table stands for a key, or for none
 pub record RecordsStand (s table : List ℕ) : Type 0 where
   pub count : length table ≡ 256
-  pub whole : (o : ℕ) → o < 256 → RecordStands s (get_or table o 0)
+  pub whole : (o : ℕ) → o < 256 → (get_or table o 0 ≡ 0 → ⊥) → Whole s (get_or table o 0)
 
 -- the entry of a bucket's record
 abbrev pub record_entry : List ℕ → Bucket → ℕ

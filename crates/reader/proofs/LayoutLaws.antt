@@ -1,18 +1,18 @@
 -- The layout of a call list, found field by field.
-use Prim.Native.Nat.{ℕ, ◌+◌, ◌≤◌, ◌<◌}
+use Prim.Native.Nat.{ℕ, ◌<◌}
 use mathlib.Core.Path.{◌≡◌, refl, sym, ◌∙◌, ap}
-use mathlib.Core.Logic.{◌⊎◌, inl, inr, ⊎_elim}
+use mathlib.Core.Logic.{inl, inr, ⊎_elim}
 use mathlib.Core.List.{List, [], ◌∷◌, ◌++◌, map}
-use mathlib.Core.Bool.{Bool, true, false, ◌&&◌, ◌||◌, cond, and-false, or-true, and_assoc}
+use mathlib.Core.Bool.{Bool, true, false, ◌&&◌, ◌||◌, and-false, or-true, and_assoc}
 use lib.ListN.{length}
-use lib.Dec.{leb, eqb}
-use borrow.Author.Tests.{eq-eqb, ne_eqb, eqb-true, eqb-false, le-leb, lt-leb}
+use lib.Dec.{eqb}
+use borrow.Author.Tests.{eq-eqb, ne_eqb, eqb-true, le-leb, lt-leb}
 use native.Mathlib.Omega.{arith}
 use Rattle.wire.specs.Fields.{Field, fields, whole}
 use Rattle.wire.specs.Keys.{Key, key_of}
 use Rattle.wire.specs.Bytes.{All, none, more}
-use Rattle.calls.specs.Lists.{all_of, those}
-use Rattle.calls.specs.CallList.{bodies, first_body, head_of, head_ok, key_below, keys_of, sorted_trees, call_list_of, Shape, shaped, exactly, volume_shapes, request_shapes, all_trees, snapshots_ok, laid_out}
+use Rattle.calls.specs.Lists.{all_of}
+use Rattle.calls.specs.CallList.{bodies, first_body, head_of, head_ok, key_below, keys_of, sorted_trees, call_list_of, shaped, exactly, volume_shapes, request_shapes, all_trees, snapshots_ok, laid_out}
 use Rattle.calls.specs.Sorting.{sorted_by}
 use Rattle.calls.specs.ChangeList.{field_ok}
 use Rattle.reader.specs.CallFields.{rest_shapes, call_field_ok, head_field_ok, any_field_ok}
@@ -20,10 +20,10 @@ use Rattle.reader.specs.Readings.{laid_as}
 use Rattle.calls.proofs.lists.AllLaws.{test-all, all-test, all-imp, all-zip}
 use Rattle.calls.proofs.lists.BoolLaws.{both}
 use Rattle.calls.proofs.lists.AllOfLaws.{all_of_map, all-of-sorted}
-use Rattle.reader.proofs.BoolLaws.{apart, and_left, and_right, same}
+use Rattle.reader.proofs.BoolLaws.{and_left, and_right, same}
 use Rattle.reader.proofs.ShapeLaws.{KeyTag, same_or}
 use Rattle.reader.proofs.ListLaws.{bodies-here, bodies-other, bodies-all, all-bodies}
-use Rattle.reader.proofs.ListedLaws.{Fits, shaped-cases, FieldListed, key, reserved, piece, freed, listed, key-tag-bounds, listed_above}
+use Rattle.reader.proofs.ListedLaws.{shaped-cases, FieldListed, key, reserved, piece, freed, listed, key-tag-bounds, listed_above}
 
 -- the snapshots of a tree
 

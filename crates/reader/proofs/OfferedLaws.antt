@@ -2,8 +2,8 @@
 use Prim.Native.Nat.{ℕ, ◌+◌, ◌-◌, ◌≤◌, ◌<◌}
 use mathlib.Core.Path.{◌≡◌, refl, sym, ◌∙◌, ap, subst}
 use mathlib.Core.Logic.{⊎_elim}
-use mathlib.Core.List.{List, [], ◌∷◌}
-use mathlib.Core.Bool.{Bool, true, false, ◌&&◌, cond}
+use mathlib.Core.List.{List, []}
+use mathlib.Core.Bool.{Bool, true, false, cond}
 use lib.ListN.{length, drop, get_or}
 use native.Mathlib.Omega.{arith}
 use Rattle.wire.specs.Numbers.{le}
@@ -19,7 +19,7 @@ use Rattle.calls.proofs.lists.AllLaws.{all-nth}
 use Rattle.reader.specs.CallFields.{any_field_ok, others}
 use Rattle.reader.specs.Table.{body_below, sorted_bodies, FieldHere}
 use Rattle.reader.specs.Readings.{laid_as, call_refusal, list_refusal}
-use Rattle.reader.proofs.BoolLaws.{and_left, and_right, apart}
+use Rattle.reader.proofs.BoolLaws.{and_left, and_right}
 use Rattle.reader.proofs.ShapeLaws.{same_or}
 use Rattle.reader.proofs.ListLaws.{bodies-here, bodies-other}
 use Rattle.reader.proofs.ListedLaws.{FieldListed, key, reserved, piece, freed, key-tag-bounds}

@@ -1,8 +1,8 @@
 -- What the pass over a call list found at its end: the layout, the limits, the table and its ends.
 use Prim.Native.Nat.{ℕ, zero, suc, ◌+◌, ◌≤◌, ◌<◌}
 use mathlib.Core.Path.{◌≡◌, refl, sym, ◌∙◌, ap}
-use mathlib.Core.Logic.{◌⊎◌, inl, inr, ⊎_elim}
-use mathlib.Core.List.{List, [], ◌∷◌, ◌++◌, map, append-nil}
+use mathlib.Core.Logic.{◌⊎◌, inl, inr}
+use mathlib.Core.List.{List, [], ◌∷◌, map, append-nil}
 use mathlib.Core.Bool.{Bool, true, false, cond}
 use lib.ListN.{length, take, drop, get_or, length-map, drop_of_length-le}
 use lib.Dec.{eqb}
@@ -14,10 +14,9 @@ use Rattle.calls.specs.Lists.{all_of, those, in_order}
 use Rattle.calls.specs.CallList.{head_of, bodies, first_body, call_list_of, none_twice}
 use Rattle.calls.specs.Limits.{list_within}
 use Rattle.calls.specs.Answers.{read_call, read_volume}
-use Rattle.calls.specs.Sorting.{twice}
 use Rattle.calls.proofs.encoding.Blocks.{field}
 use Rattle.reader.specs.CallFields.{any_field_ok, others, follows, ascends, head_within, field_within}
-use Rattle.reader.specs.Table.{most_of, rank_end, Fits, body_below, sorted_bodies, Indexed, Ended, ends_in, request_bodies, request_tag, Tabled}
+use Rattle.reader.specs.Table.{most_of, rank_end, Fits, sorted_bodies, Indexed, Ended, ends_in, request_bodies, request_tag, Tabled}
 use Rattle.reader.specs.Readings.{laid_as}
 use Rattle.reader.specs.Surveyed.{Counted, LaidFound, Surveyed, OrderSurveyed}
 use Rattle.reader.specs.declared.survey.Pass.TheVariants.{Broken, Laid}

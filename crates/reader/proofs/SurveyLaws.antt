@@ -13,14 +13,14 @@ use Rattle.wire.specs.declared.fields.NextField.TheVariants.{Found, Stop}
 use Rattle.wire.proofs.NumberLaws.{body-length}
 use Rattle.wire.proofs.FieldLaws.{FieldAt, field-at, FieldsWalked, walked_none, walked_more, whole-left}
 use Rattle.calls.specs.Lists.{all_of, in_order}
-use Rattle.calls.specs.CallList.{bodies, call_list_of, shaped}
+use Rattle.calls.specs.CallList.{bodies, shaped}
 use Rattle.calls.specs.Limits.{list_within}
 use Rattle.calls.specs.Answers.{read_call}
 use Rattle.calls.proofs.encoding.Blocks.{field}
 use Rattle.reader.specs.CallFields.{rest_shapes, call_field_ok, head_field_ok, any_field_ok, others, field_from, least_of, follows, field_within}
 use Rattle.reader.specs.Table.{rank_of, most_of, Fits, Free, room, FieldNoted}
 use Rattle.reader.specs.Readings.{laid_as}
-use Rattle.reader.proofs.BoolLaws.{apart, and_left, and_right, fails}
+use Rattle.reader.proofs.BoolLaws.{apart, and_left, fails}
 use Rattle.reader.proofs.ShapeLaws.{same_or}
 use Rattle.reader.proofs.ListLaws.{bodies-here, bodies-other}
 use Rattle.reader.proofs.ListedLaws.{FieldListed, listed, listed_above, listed_below}

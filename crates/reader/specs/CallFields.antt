@@ -1,5 +1,5 @@
 -- What each field of a call list or a volume must be: by itself, and, where the list is in order, after the field before it.
-use Rattle.std.specs.Prelude.{ℕ, List, [], ◌∷◌, ◌++◌, Bool, true, false, not, ◌&&◌, ◌||◌, cond, length, drop, leb, ltb, eqb}
+use Rattle.std.specs.Prelude.{ℕ, List, ◌++◌, Bool, true, not, ◌&&◌, ◌||◌, cond, length, drop, leb, ltb, eqb}
 use Rattle.wire.specs.Fields.{Field}
 use Rattle.wire.specs.Keys.{Key, key_of}
 use Rattle.wire.specs.Order.{pos_less}

@@ -1,6 +1,6 @@
 -- Laws of `put` and of what an emitter promises, each with no bound on the place.
 use mathlib.Core.Path.{◌≡◌, refl, sym, ap, ◌∙◌}
-use Prim.Native.Nat.{ℕ, zero, suc, ◌+◌, ◌-◌, ◌*◌, ◌≤◌, ◌<◌, zero-le, suc-le-suc, min}
+use Prim.Native.Nat.{ℕ, zero, suc, ◌+◌, ◌*◌, ◌≤◌, ◌<◌, zero-le, suc-le-suc, min}
 use native.Mathlib.Nat.{add-zero, zero-mul, suc-mul, add_comm, mul_comm}
 use native.Mathlib.Omega.{arith}
 use native.Mathlib.Numerals.{add-one}

@@ -21,8 +21,9 @@ use Rattle.calls.specs.Place.{place_tests, place_batch, placed_of, walk_of}
 use Rattle.calls.specs.Release.{release_tests, release_batch}
 use Rattle.calls.specs.Discard.{discard_batches}
 use Rattle.calls.specs.Apply.{apply_batches}
-use Rattle.calls.specs.Answers.{answer, read_call, read_volume, sorted_form, sort, with_visited}
-use Rattle.calls.specs.ListCalls.{ListCall, placing, releasing, discarding, applying, sorting, looking_up, answer_of}
+use Rattle.wire.specs.declared.kinds.Bucket.{Bucket}
+use Rattle.calls.specs.Answers.{answer, generations, read_call, read_volume, sorted_form, sort, with_visited}
+use Rattle.calls.specs.ListCalls.{ListCall, placing, releasing, discarding, applying, sorting, answer_of}
 use Rattle.calls.proofs.lists.TotalLaws.{all-count}
 use Rattle.calls.proofs.encoding.CallTrip.{call_back, call-whole, call-bytes, laid-call}
 use Rattle.calls.proofs.encoding.FieldTotals.{size-total, bodies-count}
@@ -146,7 +147,10 @@ module _ {s : List ℕ} (r : Bytes s) (l : list_laid_out s ≡ true) (o : none_t
       let c : CallList = form-reads i in
       answer (test 2 (form-list i) ∷ test 22 (none_twice c.volume) ∷ test 3 (list_within c) ∷ []) (call_bytes c) room)
       ∙ sym (sort-is s room)
-  answers-sorted (looking_up buckets) room =
+
+  -- so does the lookup of generations
+  pub generations-sorted : (buckets : List Bucket) (room : ℕ) → generations (sorted_form s) buckets room ≡ generations s buckets room
+  generations-sorted buckets room =
       generations-is (sorted_form s) buckets room
       ∙ (λ i.
       let c : CallList = form-reads i in

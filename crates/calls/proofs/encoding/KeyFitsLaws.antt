@@ -27,7 +27,7 @@ use Rattle.wire.proofs.SignedLaws.{minus-fits}
 use Rattle.format.specs.Packing.{Member, struct_bytes, store}
 use Rattle.format.specs.Lru.{fragmentation}
 use Rattle.format.proofs.StructLaws as Struct
-use Rattle.calls.specs.Lists.{all_of, total}
+use Rattle.calls.specs.Lists.{all_of}
 use Rattle.calls.specs.CallList.{Trees, Volume, bodies, keys_ok, CallList}
 use Rattle.calls.specs.Limits.{is_set, at_inode0, few_keys, counts_ok, buckets_ok, volume_within, list_within}
 use Rattle.calls.specs.Trees.{new_key, deletion, with_value}

@@ -1,5 +1,5 @@
 -- `rows::difference` meets its contract.
-use lib.IntN.{ℤ, pos, neg_ℤ, ◌+ℤ◌}
+use lib.IntN.{pos, neg_ℤ, ◌+ℤ◌}
 use Rattle.wire.proofs.SignedLaws.{back}
 use Rattle.calls.proofs.encoding.KeyFitsLaws.{differ-fits}
 use borrow.Author.Rules.{rules}

@@ -4,7 +4,7 @@ use mathlib.Core.Path.{◌≡◌, refl, sym, ap, ◌∙◌}
 use mathlib.Core.Bool.{not}
 use Prim.Native.Nat.{◌-◌, ◌≤◌}
 use lib.IntN.{pos}
-use lib.ListN.{length, length-map, take, drop, get_or}
+use lib.ListN.{length, take, drop, get_or}
 use Rattle.wire.proofs.OutputLaws.{left-next, left-none}
 use Rattle.calls.specs.Lists.{any_of}
 use Rattle.calls.proofs.lists.AllOfLaws.{any-of-next, any-of-stop, any-of-none}

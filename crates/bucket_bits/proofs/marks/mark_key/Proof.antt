@@ -1,6 +1,5 @@
 -- `mark_key` meets its contract.
 use mathlib.Core.Path.{◌≡◌, sym, ap, ◌∙◌}
-use Prim.Native.Nat.{◌-◌}
 use lib.ListN.{get_or}
 use lib.Seq.{drop-drop}
 use Rattle.format.specs.Packing.{get}

@@ -1,5 +1,4 @@
 use Rattle.std.proofs.Common.{◌≡◌, length, sym, ap, ◌∙◌, arith, rules}
-use lib.ListN.{length-map}
 use Rattle.wire.specs.Held.{value_in}
 use Rattle.format.specs.Packing.{store, get}
 use Rattle.format.specs.AllocV4.{flags, discarded, discarded_flags}

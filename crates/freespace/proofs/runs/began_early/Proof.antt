@@ -1,6 +1,6 @@
 -- `began_early` meets its contract.
 use mathlib.Core.Path.{sym, ap, ◌∙◌}
-use Prim.Native.Nat.{ℕ, ◌-◌}
+use Prim.Native.Nat.{ℕ}
 use Rattle.wire.specs.declared.kinds.Bucket.{Bucket}
 use borrow.Author.Tests.{not-true, not-false}
 use Rattle.wire.specs.Kinds.{began_before}

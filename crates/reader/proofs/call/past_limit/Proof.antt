@@ -1,7 +1,6 @@
 -- `past_limit` meets its contract.
-use mathlib.Core.Path.{◌≡◌, ap}
+use mathlib.Core.Path.{◌≡◌}
 use mathlib.Core.Bool.{Bool, true, false, not, ◌||◌}
-use borrow.Author.Tests.{not-true}
 use Rattle.reader.specs.CallFields.{head_within}
 use Rattle.reader.specs.Heads.{head_in}
 use Rattle.reader.proofs.call.past_limit.Statement.{statement}

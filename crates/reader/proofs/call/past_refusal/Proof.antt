@@ -1,6 +1,6 @@
 -- `past_refusal` meets its contract.
 use Prim.Native.Nat.{ℕ}
-use mathlib.Core.Path.{◌≡◌, refl, sym, ◌∙◌}
+use mathlib.Core.Path.{◌≡◌, refl}
 use mathlib.Core.Bool.{Bool, true, false, not, cond}
 use Rattle.calls.specs.CallList.{none_twice}
 use Rattle.calls.specs.Answers.{read_volume}

@@ -1,5 +1,5 @@
 -- `read_list` meets its contract: what the pass found decides.
-use mathlib.Core.Path.{◌≡◌, refl, sym, ◌∙◌}
+use mathlib.Core.Path.{refl, sym, ◌∙◌}
 use borrow.Author.Rules.{rules}
 use Rattle.reader.proofs.ListRefusalLaws.{broken}
 use Rattle.reader.proofs.ReadLaws.{past-asked, read_past, table_fits, table-sortable, read-ordered, read_twice, read-sorted}

@@ -10,7 +10,6 @@ use borrow.Author.Tests.{eq-eqb, ne_eqb, not-true, not-false}
 use Rattle.wire.proofs.NumberLaws.{body-length}
 use Rattle.calls.specs.CallList.{Head, head_of, head_ok}
 use Rattle.reader.specs.CallFields.{head_field_ok}
-use Rattle.reader.specs.Heads.{head_in}
 use Rattle.reader.proofs.survey.head_field_ok.Statement.{statement}
 use Rattle.reader.proofs.survey.head_field_ok.Tie as tie
 

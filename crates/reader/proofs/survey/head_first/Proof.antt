@@ -1,5 +1,5 @@
 -- `head_first` meets its contract.
-use mathlib.Core.Path.{◌≡◌, sym, ◌∙◌}
+use mathlib.Core.Path.{sym, ◌∙◌}
 use borrow.Author.Rules.{rules}
 use borrow.Author.Tests.{not-false}
 use Rattle.wire.proofs.FieldLaws.{FieldAt, field-at}

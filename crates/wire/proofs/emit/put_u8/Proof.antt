@@ -1,7 +1,6 @@
 -- `emit::put_u8` meets its contract.
 use native.Mathlib.Omega.{arith}
 use mathlib.Core.Path.{◌≡◌, refl, sym, ap, ◌∙◌}
-use mathlib.Core.Logic.{⊎_elim}
 use mathlib.Core.List.{[], ◌∷◌}
 use lib.ListN.{length}
 use lib.Seq.{set_out}

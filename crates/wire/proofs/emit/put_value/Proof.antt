@@ -1,7 +1,7 @@
 -- `emit::put_value` meets its contract.
 use native.Mathlib.Omega.{arith}
-use mathlib.Core.Path.{◌≡◌, sym, ◌∙◌}
-use lib.ListN.{length, length-map}
+use mathlib.Core.Path.{◌≡◌}
+use lib.ListN.{length}
 use borrow.Author.Rules.{rules}
 use Rattle.wire.proofs.emit.put_value.Statement.{statement}
 use Rattle.wire.proofs.emit.put_value.Tie as tie

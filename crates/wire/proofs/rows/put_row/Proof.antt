@@ -1,9 +1,9 @@
 -- `rows::put_row` meets its contract. The invariant: what is left are the numbers from index i on.
 use native.Mathlib.Omega.{arith}
-use mathlib.Core.Path.{◌≡◌, sym, ◌∙◌}
+use mathlib.Core.Path.{◌≡◌}
 use Prim.Native.Nat.{◌-◌}
 use lib.IntN.{pos}
-use lib.ListN.{length, length-map, take, drop, get_or}
+use lib.ListN.{length, take, drop, get_or}
 use Rattle.wire.specs.Numbers.{each}
 use Rattle.wire.specs.Rows.{signed_bytes, row_body}
 use Rattle.wire.proofs.OutputLaws.{Part, begin, turn, end, then, field, resize, left-next, left-none, each_next, each_none, first-length, wrote-length}
