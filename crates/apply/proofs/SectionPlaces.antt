@@ -12,7 +12,7 @@ use Rattle.wire.specs.Fields.{fields}
 use Rattle.wire.proofs.OutputLaws.{drop-next}
 use Rattle.calls.specs.CallList.{bodies}
 use Rattle.calls.specs.Lists.{all_of}
-use Rattle.calls.proofs.lists.AllLaws.{first, all-nth}
+use Rattle.calls.proofs.lists.AllLaws.{all-nth}
 use Rattle.calls.proofs.lists.BoolLaws.{parts}
 use Rattle.calls.proofs.encoding.Blocks.{field}
 use Rattle.reader.specs.Collected.{start_at}

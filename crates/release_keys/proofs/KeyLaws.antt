@@ -20,7 +20,6 @@ use Rattle.calls.specs.CallList.{Volume, Freed}
 use Rattle.calls.specs.Lru.{lru_keys, lru_deletions, need_discard_key}
 use Rattle.calls.specs.Release.{is_emptied, released_key, released_lru, emptied_gen}
 use Rattle.calls.specs.Trees.{lookup, new_key, with_value}
-use Rattle.calls.proofs.history.View.{bucket}
 use Rattle.reader.specs.KeyHere.{value_at, key_here}
 use Rattle.release_sums.proofs.FreedLaws.{FreedWithin}
 use Rattle.change_fields.specs.FieldBytes.{keys_bytes}

@@ -1,7 +1,7 @@
 -- `widen` meets its contract. The loop's invariant: the first i are in the table.
 use mathlib.Core.Path.{◌≡◌, refl, ap, sym, ◌∙◌}
 use mathlib.Core.List.{List, [], ◌∷◌, ◌++◌}
-use Prim.Native.Nat.{ℕ, ◌+◌, ◌-◌, ◌≤◌}
+use Prim.Native.Nat.{ℕ, ◌-◌, ◌≤◌}
 use native.Mathlib.Numerals.{add-one}
 use lib.ListN.{length, take, get_or, length-set}
 use lib.Seq.{take-suc, take-suc-set, take_all}
