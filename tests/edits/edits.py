@@ -2,7 +2,8 @@
 """edits.py [NAME ..]: tries the edits of tests/edits/NAME, each alone; the prover must refuse each at a fact that no longer holds.
 
 The crates that have edits are copied with those below them, the edits stand there as the toolchain's must-fail edits, and `rt must-fail` tries them. An edit has
-`file:`, `old:` and `new:` lines, where each old text stands once in its file. The last line is `N passed, M failed`: one for each edit.
+`file:`, `old:` and `new:` lines, where each old text stands once in its file; where the toolchain names a step of a proof by what the edit changes, the edit
+has the step's new name too, so that it is judged by the fact. The last line is `N passed, M failed`: one for each edit.
 """
 import re
 import shutil
@@ -17,13 +18,13 @@ EDITS = workspace.ROOT / "tests" / "edits"
 # What the toolchain says of an edit that it tried: its crate, its name and the outcome.
 TRIED = re.compile(r"^rt: must-fail (\S+)/(\S+)\.edit: (.*)$", re.M)
 
-# A refusal that is none at a fact: a proof file no longer fits, or the prover gave no verdict.
-NO_FACT = ("refused, as it must be (only because", "refused, as it must be (only by a limit")
+# A refusal that is none at a fact: a proof file no longer fits, so that what cites it was not checked, or the prover gave no verdict.
+NO_FACT = re.compile(r"refused, as it must be(: \S+: error: \d+ declarations? that depends? on| \(only because| \(only by a limit)")
 
 
 def at_a_fact(outcome):
     """Whether the prover refused an edit since a fact no longer holds."""
-    return outcome.startswith("refused, as it must be") and not outcome.startswith(NO_FACT)
+    return outcome.startswith("refused, as it must be") and not NO_FACT.match(outcome)
 
 
 def crates_with_edits():
