@@ -12,10 +12,6 @@ from pathlib import Path
 ROOT = Path(__file__).resolve().parents[1]
 
 
-class NotProved(Exception):
-    """The crates that a suite starts from are not proved."""
-
-
 def listed():
     """The lines of crates.txt: each crate with the crates that it uses."""
     lines = [line.split("#")[0] for line in (ROOT / "crates.txt").read_text().splitlines()]
@@ -59,7 +55,7 @@ def rt(folder, *words):
 
 def check(folder, name):
     """Checks a crate of a copy: its status and what it prints."""
-    return rt(folder / "crates" / name, "check")
+    return rt(folder / "crates" / name, "check", "--jobs", "2")
 
 
 def is_proved(status, printed):
