@@ -39,8 +39,8 @@ FACT_FAILS = re.compile(
 # The same of a function that has no walk: the facts that are left of it are not found.
 NOT_FOUND = re.compile(r"^fn (\S+): no proof: .*; (`search` did not prove `.*)$", re.M)
 
-# The name of a step, of a place or of a goal of a walk.
-STEP = re.compile(r"(Need|Then|Else|Joined|After|In|At)?-?[\w-]+")
+# The name of a place, of a goal, of a step or of a test's outcome in a walk.
+STEP = re.compile(r"(Need|Then|Else|Joined|After)-[\w-]+|if-[\w-]+|(true|false)(-raw)?")
 
 said = threading.Lock()
 
@@ -69,7 +69,7 @@ def renames(old, new):
     """Whether two texts of a walk differ in names of steps alone."""
     a, b = (re.split(r"([\w-]+)", text) for text in (old, new))
     changed = [(x, y) for x, y in zip(a, b) if x != y]
-    return len(a) == len(b) and all(re.match(r"(Need|Then|Else|Joined|After)-|if-", x) and STEP.fullmatch(y) for x, y in changed)
+    return len(a) == len(b) and all(STEP.fullmatch(x) and STEP.fullmatch(y) for x, y in changed)
 
 
 def edited(edit, crate):
