@@ -105,8 +105,8 @@ use Rattle.lines.proofs.program.bucket_lines.Statement as lines_s
 -- ==== Demand 1: every list is answered, or refused by the number that the order names
 
 -- ---- the six calls
--- Of each call: the compiled function meets its contract, in every model of memory (`statement`, which the toolchain makes of the contract in
--- crates/zerglaz/src/lib.rt); its contract asks nothing of the arguments (`Asked`, what a caller must show); and what it says after the call (`Learnt`, what a caller
+-- Of each call: the function meets its contract, in every model of memory (`statement`, which the toolchain makes of the contract in
+-- crates/zerglaz/src/lib.rt; the function that C calls, in crates/zerglaz_c/src/lib.rt, has the same contract and is the call of this one); its contract asks nothing of the arguments (`Asked`, what a caller must show); and what it says after the call (`Learnt`, what a caller
 -- learns). There `a` are the arguments at entry, `e` the same at exit, `now` is what a reference refers to, and `r` is the number that the call answers.
 pub zerglaz-place : {M : Type 1} → place_s.statement M
 zerglaz-place = place_m.met
