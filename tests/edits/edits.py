@@ -104,13 +104,11 @@ def fault_of(status, printed):
         return "BAD EDIT: it did not reach the prover", printed.strip().splitlines()[-1][:200]
     first = re.search(r"^(?:\./)?(proofs/\S+?:\d+:\d+): error: ((?:.|\n  )*)", printed, re.M)
     left = NOT_FOUND.search(printed)
-    if left:
-        return None, left.group(1)
     if first and not FACT_FAILS.search(first.group(2)):
         return f"NOT AT A FACT: {first.group(2)[:300]}", first.group(1)
-    if not first:
+    if not first and not left:
         return "NOT AT A FACT: no error in a proof", ""
-    return None, first.group(1)
+    return None, first.group(1) if first else left.group(1)
 
 
 def try_edit(copy, name, edit):
