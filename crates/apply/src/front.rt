@@ -8,7 +8,7 @@ ghost use Rattle.apply.specs.Roots.{with_root_bit, with_root, is_root, roots_aft
 use reader::head;
 use reader::head::Head;
 use wire::fields;
-use wire::fields::NextField;
+use wire::fields::FieldPlace;
 
 // A bit set, unless it is. `set_root` shows the bounds.
 fn with_bit(roots: u8, bit: u8) -> u8
@@ -54,7 +54,7 @@ pub fn roots_after(list: &[u8], roots: u8) -> u8
     let mut at: usize = 0;
     let mut r = roots;
     loop {
-        let NextField::Found { tag, start, len } = fields::next_field(list, at) else {
+        let Some(FieldPlace { tag, start, len }) = fields::next_field(list, at) else {
             return r;
         };
         r = after_field(list, r, tag, start);

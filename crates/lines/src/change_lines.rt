@@ -7,7 +7,7 @@ ghost use Rattle.reader.specs.Bodies.{change_field_ok};
 ghost use Rattle.lines.specs.Lines.{line, field_words, change_lines};
 
 use crate::{key_lines, other_lines};
-use wire::fields::NextField;
+use wire::fields::FieldPlace;
 use wire::{emit, fields, le};
 
 // The line of a field, by its tag. The layout of a change list shows the shape.
@@ -35,7 +35,7 @@ pub fn put_lines(out: &mut [u8], at: usize, change: &[u8]) -> usize
     let mut p = at;
     let mut next: usize = 0;
     loop {
-        let NextField::Found { tag, start, len } = fields::next_field(change, next) else {
+        let Some(FieldPlace { tag, start, len }) = fields::next_field(change, next) else {
             return p;
         };
         p = put_line(out, p, change, tag, start, len);

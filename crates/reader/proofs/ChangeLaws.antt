@@ -1,14 +1,14 @@
 -- The layout of a change list, found field by field.
 use Prim.Native.Nat.{ℕ, ◌+◌, ◌≤◌, ◌<◌}
 use mathlib.Core.Path.{◌≡◌, refl, sym, ◌∙◌, ap}
+use Rattle.std.proofs.Common.{None}
 use mathlib.Core.List.{List, [], ◌∷◌}
 use mathlib.Core.Bool.{Bool, true, false, ◌&&◌, ◌||◌, cond, and-false, and-true, and_assoc}
 use lib.ListN.{length, drop, drop_of_length-le}
 use lib.Dec.{leb, eqb}
 use borrow.Author.Tests.{eqb-true, le-leb}
 use native.Mathlib.Omega.{arith}
-use Rattle.wire.specs.Fields.{Field, fields_after, fields, field_at, step_of, whole}
-use Rattle.wire.specs.declared.fields.NextField.TheVariants.{Stop}
+use Rattle.wire.specs.Fields.{Field, fields_after, fields, field_at, step_of, whole, found}
 use Rattle.wire.proofs.FieldLaws.{FieldAt, FieldsWalked, walked_none, walked_more, whole-end, whole-left}
 use Rattle.calls.specs.Lists.{all_of, in_order}
 use Rattle.calls.specs.CallList.{shaped}
@@ -99,7 +99,7 @@ pub start : (s : List ℕ) → Changing s 0 76
 start s = record { walked = walked_none s; left = refl }
 
 module _ (s : List ℕ) (at last : ℕ) (w : Changing s at last) where
-  pub breaks : step_of at (drop at s) ≡ Stop → at < length s → change_laid_out s ≡ false
+  pub breaks : step_of at (drop at s) ≡ None → at < length s → change_laid_out s ≡ false
   breaks e h = laid-is s ∙ simp (whole-left s at w.walked e h)
 
   pub ends : length s ≤ at → change_laid_out s ≡ eqb last 76

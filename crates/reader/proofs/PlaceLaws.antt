@@ -2,6 +2,7 @@
 use Prim.Native.Nat.{ℕ, ◌+◌, ◌-◌, ◌≤◌}
 use mathlib.Core.Path.{◌≡◌, refl, sym, ◌∙◌, ap, subst}
 use mathlib.Core.Logic.{⊎_elim}
+use Rattle.std.proofs.Common.{None}
 use mathlib.Core.List.{List, [], ◌∷◌}
 use mathlib.Core.Bool.{Bool, true, false, not, ◌&&◌, ◌||◌, cond}
 use lib.ListN.{length, take, drop, get_or}
@@ -10,12 +11,11 @@ use lib.Dec.{leb, ltb, eqb}
 use borrow.Author.Tests.{eq-eqb, ne_eqb, eqb-true, leb-true}
 use native.Mathlib.Omega.{arith}
 use Rattle.wire.specs.Numbers.{le}
-use Rattle.wire.specs.Fields.{field_at, step_of}
+use Rattle.wire.specs.Fields.{field_at, step_of, found}
 use Rattle.wire.specs.Keys.{pos_of, key_of}
 use Rattle.wire.specs.Order.{pos_less}
 use Rattle.wire.specs.Kinds.{bucket_read, bucket_below, bucket_in_range, run_end_in_range}
 use Rattle.wire.specs.Positions.{bucket_in}
-use Rattle.wire.specs.declared.fields.NextField.TheVariants.{Found, Stop}
 use Rattle.wire.proofs.NumberLaws.{le-take}
 use Rattle.wire.proofs.KeyLaws.{pos-at}
 use Rattle.wire.proofs.FieldLaws.{FieldAt}
@@ -116,31 +116,31 @@ listed-most (piece c e l) = omega arith
 listed-most (freed c e l) = omega arith
 
 -- a step says where a field's tag and its length stand
-front-tag : (xs : List ℕ) (at t b n : ℕ) → step_of at xs ≡ Found t b n → t ≡ get_or xs 0 0
+front-tag : (xs : List ℕ) (at t b n : ℕ) → step_of at xs ≡ found t b n → t ≡ get_or xs 0 0
 unfolding step_of
 front-tag [] at t b n e = absurd (let z : ◌≡◌ {A = ℕ} 0 1 = cc in omega arith)
 front-tag (u ∷ []) at t b n e = absurd (let z : ◌≡◌ {A = ℕ} 0 1 = cc in omega arith)
 front-tag (u ∷ lo ∷ []) at t b n e = absurd (let z : ◌≡◌ {A = ℕ} 0 1 = cc in omega arith)
 front-tag (u ∷ lo ∷ hi ∷ xs) at t b n e = go (leb (le 2 (lo ∷ hi ∷ xs)) (length xs)) e
   where
-    go : (q : Bool) → cond q (Found u (at + 3) (le 2 (lo ∷ hi ∷ xs))) Stop ≡ Found t b n → t ≡ u
+    go : (q : Bool) → cond q (found u (at + 3) (le 2 (lo ∷ hi ∷ xs))) None ≡ found t b n → t ≡ u
     go false e = absurd (let z : ◌≡◌ {A = ℕ} 0 1 = cc in omega arith)
     go true e = cc
 
-front_length : (xs : List ℕ) (at t b n : ℕ) → step_of at xs ≡ Found t b n → n ≡ le 2 (drop 1 xs)
+front_length : (xs : List ℕ) (at t b n : ℕ) → step_of at xs ≡ found t b n → n ≡ le 2 (drop 1 xs)
 unfolding step_of
 front_length [] at t b n e = absurd (let z : ◌≡◌ {A = ℕ} 0 1 = cc in omega arith)
 front_length (u ∷ []) at t b n e = absurd (let z : ◌≡◌ {A = ℕ} 0 1 = cc in omega arith)
 front_length (u ∷ lo ∷ []) at t b n e = absurd (let z : ◌≡◌ {A = ℕ} 0 1 = cc in omega arith)
 front_length (u ∷ lo ∷ hi ∷ xs) at t b n e = go (leb (le 2 (lo ∷ hi ∷ xs)) (length xs)) e
   where
-    go : (q : Bool) → cond q (Found u (at + 3) (le 2 (lo ∷ hi ∷ xs))) Stop ≡ Found t b n → n ≡ le 2 (lo ∷ hi ∷ xs)
+    go : (q : Bool) → cond q (found u (at + 3) (le 2 (lo ∷ hi ∷ xs))) None ≡ found t b n → n ≡ le 2 (lo ∷ hi ∷ xs)
     go false e = absurd (let z : ◌≡◌ {A = ℕ} 0 1 = cc in omega arith)
     go true e = cc
 
 -- the field of a step, as the table has it
 pub here-at :
-    (s : List ℕ) (at t b n : ℕ) → step_of at (drop at s) ≡ Found t b n → FieldAt s at t b n → FieldHere s b t (take n (drop b s))
+    (s : List ℕ) (at t b n : ℕ) → step_of at (drop at s) ≡ found t b n → FieldAt s at t b n → FieldHere s b t (take n (drop b s))
 here-at s at t b n e f =
     let i : b - 2 ≡ at + 1 = omega (arith, f.on) in
     let l : n ≡ le 2 (drop (b - 2) s) = rw i (front_length (drop at s) at t b n e ∙ ap (le 2) (drop-drop 1 at s)) in

@@ -2,14 +2,14 @@
 use Prim.Native.Nat.{ℕ, ◌+◌, ◌*◌, ◌≤◌, ◌<◌}
 use mathlib.Core.Path.{◌≡◌, refl, sym, ◌∙◌, ap}
 use mathlib.Core.Logic.{◌⊎◌, inl, inr, ⊎_elim}
+use Rattle.std.proofs.Common.{None}
 use mathlib.Core.List.{List, [], ◌∷◌, ◌++◌}
 use mathlib.Core.Bool.{Bool, true, false, not, ◌&&◌, ◌||◌, cond, and-false}
 use lib.ListN.{length, take, drop, get_or, set, length-set, length-map}
 use lib.Dec.{eqb}
 use borrow.Author.Tests.{eq-eqb, ne_eqb, eqb-true, lt-ltb, le-ltb}
 use native.Mathlib.Omega.{arith}
-use Rattle.wire.specs.Fields.{Field, fields, field_at, step_of, whole}
-use Rattle.wire.specs.declared.fields.NextField.TheVariants.{Found, Stop}
+use Rattle.wire.specs.Fields.{Field, fields, field_at, step_of, whole, found}
 use Rattle.wire.proofs.NumberLaws.{body-length}
 use Rattle.wire.proofs.FieldLaws.{FieldAt, field-at, FieldsWalked, walked_none, walked_more, whole-left}
 use Rattle.calls.specs.Lists.{all_of, in_order}
@@ -111,7 +111,7 @@ module _ (s : List ℕ) (call : ℕ) (any : Bool) where
 module _
     (s : List ℕ) (call : ℕ) (any : Bool) (at m head last before : ℕ) (over : Bool) (counts index : List ℕ)
     (g : Going s call any at m head last before over counts index) where
-  pub breaks : step_of at (drop at s) ≡ Stop → at < length s → laid_as call any s ≡ false
+  pub breaks : step_of at (drop at s) ≡ None → at < length s → laid_as call any s ≡ false
   breaks e h = cut s call any (whole-left s at g.walked e h)
 
   module _ (t b n : ℕ) (f : FieldAt s at t b n) where
@@ -267,7 +267,7 @@ passed_length {b = b} {m = m} {index = index} {r = r} p = ap length p.placed ∙
 
 module _
     (s : List ℕ) (call : ℕ) (any : Bool) (at m head last before : ℕ) (over : Bool) (counts index : List ℕ)
-    (g : Going s call any at m head last before over counts index) (t b n : ℕ) (e : step_of at (drop at s) ≡ Found t b n)
+    (g : Going s call any at m head last before over counts index) (t b n : ℕ) (e : step_of at (drop at s) ≡ found t b n)
     (ok : call_field_ok call (field_at s t b n) ≡ true) where
   f : FieldAt s at t b n
   f = field-at s at t b n e

@@ -5,7 +5,7 @@ ghost use Rattle.calls.specs.ChangeList.{change_laid_out};
 ghost use Rattle.reader.specs.Bodies.{root_ok, change_field_ok, tag_after};
 
 use crate::keys;
-use wire::fields::NextField;
+use wire::fields::FieldPlace;
 use wire::{fields, keys as wire_keys, le};
 
 // Whether a body of len bytes names a root: 10, 12 or 14. A field's length shows the bound.
@@ -71,7 +71,7 @@ pub fn check_change(s: &[u8]) -> bool
     let mut at: usize = 0;
     let mut last: u8 = 76;
     while at < s.len() {
-        let NextField::Found { tag, start, len } = fields::next_field(s, at) else {
+        let Some(FieldPlace { tag, start, len }) = fields::next_field(s, at) else {
             return false;
         };
         if !field_ok(s, tag, start, len) {

@@ -6,7 +6,7 @@ ghost use Rattle.calls.specs.CallList.{head_of, head_body, head_ok};
 ghost use Rattle.reader.specs.CallFields.{head_within};
 ghost use Rattle.reader.specs.Heads.{call_byte, head_in, head_sizes};
 
-use wire::fields::NextField;
+use wire::fields::FieldPlace;
 use wire::kinds::FileSector;
 use wire::{emit, fields, kinds, le};
 
@@ -30,7 +30,7 @@ pub fn call_byte(s: &[u8]) -> u8
 {
     let mut at: usize = 0;
     loop {
-        let NextField::Found { tag, start, len } = fields::next_field(s, at) else {
+        let Some(FieldPlace { tag, start, len }) = fields::next_field(s, at) else {
             return 0;
         };
         at = start + len;

@@ -6,7 +6,7 @@ ghost use Rattle.reader.specs.Surveyed.{HeadFirst, Surveyed, OrderSurveyed};
 
 use crate::{head, limits, order, table};
 use wire::fields;
-use wire::fields::NextField;
+use wire::fields::FieldPlace;
 
 // What the pass finds.
 #[derive(Clone, Copy, Drop)]
@@ -52,7 +52,7 @@ fn head_field_ok(s: &[u8], call: u8, any: bool, start: usize, len: usize) -> boo
 fn head_first(s: &[u8], call: u8, any: bool) -> usize
     ensures { HeadFirst call any s.now result }
 {
-    let NextField::Found { tag, start, len } = fields::next_field(s, 0) else {
+    let Some(FieldPlace { tag, start, len }) = fields::next_field(s, 0) else {
         return 0;
     };
     if tag != 1 {
@@ -98,7 +98,7 @@ fn survey_any(s: &[u8], call: u8, any: bool, counts: &mut [usize; 8], index: &mu
     let mut at: usize = 0;
     let mut n: usize = 0;
     while at < s.len() {
-        let NextField::Found { tag, start, len } = fields::next_field(s, at) else {
+        let Some(FieldPlace { tag, start, len }) = fields::next_field(s, at) else {
             return Pass::Broken;
         };
         at = start + len;
@@ -149,7 +149,7 @@ fn survey_ordered(
     let mut at: usize = head + 39;
     let mut n: usize = 0;
     while at < s.len() {
-        let NextField::Found { tag, start, len } = fields::next_field(s, at) else {
+        let Some(FieldPlace { tag, start, len }) = fields::next_field(s, at) else {
             return OrderedPass::OutOfOrder;
         };
         if !order::field_ok(s, call, tag, start, len) {

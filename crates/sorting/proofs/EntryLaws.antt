@@ -12,12 +12,11 @@ use lib.Seq.{take-add, take_all, drop-drop}
 use borrow.Author.Tests.{eqb-true, leb-true, eq-eqb, ne_eqb}
 use Rattle.wire.specs.Bytes.{Bytes}
 use Rattle.wire.specs.Numbers.{le, le_bytes}
-use Rattle.wire.specs.Fields.{Field, fields, field_at, step_of}
+use Rattle.wire.specs.Fields.{Field, fields, field_at, step_of, found}
 use Rattle.wire.specs.Keys.{Key, pos_of}
 use Rattle.wire.specs.Encode.{head_bytes, encode_field}
 use Rattle.wire.specs.Kinds.{bucket_read}
 use Rattle.wire.specs.Positions.{alloc_at}
-use Rattle.wire.specs.declared.fields.NextField.TheVariants.{Found}
 use Rattle.wire.proofs.FieldLaws.{FieldAt, field-at, step_cut, step-long, step-found}
 use Rattle.wire.proofs.KeyLaws.{pos-at}
 use Rattle.wire.proofs.NumberLaws.{all_take, all_drop, le_bytes-le, le-byte, body-le, body-length}
@@ -34,7 +33,7 @@ pub record StepAt (s : List ℕ) (at t b n : ℕ) : Type 0 where
   pub tag : t ≡ tag_at s b
   pub size : n ≡ size_at s b
 
-pub step-at : (s : List ℕ) (at t b n : ℕ) → step_of at (drop at s) ≡ Found t b n → StepAt s at t b n
+pub step-at : (s : List ℕ) (at t b n : ℕ) → step_of at (drop at s) ≡ found t b n → StepAt s at t b n
 unfolding tag_at size_at
 step-at s at t b n e =
     ⊎_elim

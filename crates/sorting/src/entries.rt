@@ -4,7 +4,7 @@ ghost use Rattle.sorting.specs.Entries.{sections, is_bucket, is_entry};
 ghost use Rattle.sorting.specs.EntryPlaces.{EntryAt, entry_from, EntryStepped};
 
 use wire::bpos::Bpos;
-use wire::fields::NextField;
+use wire::fields::FieldPlace;
 use wire::{fields, keys, kinds, positions};
 
 // What stands next of a section.
@@ -96,7 +96,7 @@ pub fn next_entry(s: &[u8], from: usize, section: u8) -> NextEntry
 {
     let mut at = from;
     loop {
-        let NextField::Found { tag, start, len } = fields::next_field(s, at) else {
+        let Some(FieldPlace { tag, start, len }) = fields::next_field(s, at) else {
             return NextEntry::Stop;
         };
         if is_entry(section, tag, len) {
