@@ -61,7 +61,7 @@ pub fn check_change(s: &[u8]) -> bool
         let Some(FieldPlace { tag, start, len }) = fields::next_field(s, at) else {
             return false;
         };
-        if !(field_ok(s, tag, start, len) && tag_after(last, tag)) {
+        if !field_ok(s, tag, start, len) || !tag_after(last, tag) {
             return false;
         }
         last = tag;
