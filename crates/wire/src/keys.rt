@@ -2,7 +2,7 @@
 ghost use Rattle.std.specs.Prelude.{◌≡◌, ◌+◌, ◌≤◌, ◌&&◌, leb, length, take, drop};
 ghost use Rattle.wire.specs.Numbers.{le};
 ghost use Rattle.wire.specs.Keys.{key_of, pos_of};
-ghost use Rattle.wire.specs.Held.{padded, held};
+ghost use Rattle.wire.specs.Held.{padded, held, head_in};
 
 use crate::bpos::Bpos;
 use crate::{bpos, le};
@@ -31,6 +31,21 @@ pub struct KeyHead {
     pub version_hi: u32,
     pub version_lo: u64,
     pub pos: Bpos,
+}
+
+impl Bkey {
+    // What stands before the value.
+    pub fn head(&self) -> KeyHead
+        ensures { result ≡ head_in self.now }
+    {
+        KeyHead {
+            key_type: self.key_type,
+            size: self.size,
+            version_hi: self.version_hi,
+            version_lo: self.version_lo,
+            pos: self.pos,
+        }
+    }
 }
 
 // The value of len bytes at a place of a list. The length of a key's field shows the bounds.
