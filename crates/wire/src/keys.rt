@@ -54,11 +54,7 @@ pub fn read_value(s: &[u8], from: usize, len: usize) -> Value
     ensures { result ≡ padded (take len (drop from s.now)) }
 {
     let mut bytes = [0u8; 256];
-    let mut i: usize = 0;
-    while i < len {
-        bytes[i] = s[from + i];
-        i += 1;
-    }
+    bytes[..len].copy_from_slice(&s[from..from + len]);
     Value { bytes, len }
 }
 
@@ -81,10 +77,7 @@ pub fn read_key(s: &[u8], start: usize, len: usize) -> Bkey
 pub fn key_sized(len: usize) -> bool
     ensures { result ≡ (leb 37 len && leb len 293) }
 {
-    if len < 37 {
-        return false;
-    }
-    len <= 293
+    (37..=293).contains(&len)
 }
 
 // The type of the key whose body starts at a place. The length of a key's field shows the bounds, here and below.
