@@ -1,4 +1,4 @@
-use Rattle.std.proofs.Common.{arith, ap, ◌∙◌}
+use Rattle.std.proofs.Common.{ap, ◌∙◌}
 use Rattle.wire.specs.Positions.{alloc_at}
 use Rattle.sorting.proofs.EntryLaws.{bucket-size, key-size, bucket-pos, key-pos}
 use Rattle.sorting.proofs.entries.pos_at.Goals as goal
