@@ -2,15 +2,19 @@
 use Prim.Native.Nat.{ℕ, ◌+◌, ◌≤◌}
 use mathlib.Core.Path.{◌≡◌, refl, sym, ◌∙◌, ap}
 use mathlib.Core.List.{List, []}
-use lib.ListN.{take, drop}
+use lib.ListN.{length, take, drop}
+use lib.Dec.{eqb}
+use borrow.Author.Tests.{eq-eqb, ne_eqb}
+use mathlib.Core.Bool.{Bool, false, ◌&&◌, ◌||◌}
 use native.Mathlib.Nat.{add-zero}
 use native.Mathlib.Omega.{arith}
 use Rattle.wire.specs.Numbers.{le}
 use Rattle.wire.specs.Fields.{fields, field_at}
-use Rattle.wire.proofs.NumberLaws.{body-le, le-take}
+use Rattle.wire.proofs.NumberLaws.{body-le, body-length, le-take}
 use Rattle.wire.proofs.FieldLaws.{FieldAt}
 use Rattle.calls.specs.Lists.{those}
-use Rattle.calls.specs.CallList.{Head, head_of, bodies, first_body, call_list_of}
+use Rattle.calls.specs.CallList.{Head, head_of, head_ok, bodies, first_body, call_list_of}
+use Rattle.reader.specs.CallFields.{head_field_ok}
 use Rattle.reader.specs.Heads.{call_byte}
 use Rattle.reader.proofs.ListLaws.{bodies-here, bodies-other}
 
@@ -82,3 +86,18 @@ module _ (s : List ℕ) where
         where
           some : (n ≡ 0 → ⊥) → 1 ≤ n
           some z = omega arith
+
+-- field 1, by its length and its head
+module _ (s : List ℕ) (call : ℕ) (any : Bool) (start len : ℕ) (fits : start + len ≤ length s) where
+  pub head-missized : (len ≡ 39 → ⊥) → head_field_ok call any (take len (drop start s)) ≡ false
+  unfolding head_field_ok
+  head-missized n = simp (body-length s start len fits, ne_eqb len 39 n)
+
+  pub head-told : (h : Head) → len ≡ 39 → h ≡ head_of (take 39 (drop start s))
+      → head_field_ok call any (take len (drop start s)) ≡ (head_ok h && (any || eqb h.call call))
+  unfolding head_field_ok
+  head-told h e k =
+      let g : head_of (take len (drop start s)) ≡ h = ap (λ (m : ℕ). head_of (take m (drop start s))) e ∙ sym k in
+      simp (body-length s start len fits, eq-eqb len 39 e, g)
+
+pub ruleset head_cases = (head-missized, head-told)

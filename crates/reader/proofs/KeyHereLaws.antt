@@ -46,6 +46,9 @@ module _ (s : List ℕ) (at : ℕ) (w : Whole s at) where
       ∙ sym (get_or-take (body_len s at - 37) (drop (at + 37) s) i 0 (omega (arith, value-length-here)))
       ∙ sym (ap (λ (k : Key). get_or k.value i 0) here-at)
 
+-- a key's parts, each at its own place
+pub ruleset key_parts = (here-at, pos-here, value-length-here)
+
 -- the key at the place with an index, and those after it
 module _ {s places : List ℕ} {ks : List Key} (f : KeysAt s places ks) (i : ℕ) (h : i < length places) where
   pub whole-at : Whole s (get_or places i 0)

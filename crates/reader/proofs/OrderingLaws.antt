@@ -136,3 +136,12 @@ module _ (s : List ℕ) (start : ℕ) where
         (t ≡ 4 → ⊥) → (t ≡ 11 → ⊥) → (t ≡ 12 → ⊥) → (t ≡ 64 → ⊥) → field_within (field_from s t start) ≡ true
     unfolding field_within
     within-others a b d e = simp (ne_eqb t 4 a, ne_eqb t 11 b, ne_eqb t 12 d, ne_eqb t 64 e)
+
+-- one key's limits, one field's, and the order of two bodies and of two fields, by their tags
+pub ruleset limit_cases = (alloc-other, alloc-here, run-other, run-away, run-here, waiting-other, waiting-here)
+
+pub ruleset within_cases = (least-key, least-reserved, within-alloc, within-run, within-waiting, within-reserved, within-others)
+
+pub ruleset ascends_cases = (least-key, least-reserved, ascends-keys, ascends-buckets, ascends-others)
+
+pub ruleset follows_cases = (follows-more, follows-less, follows_same)

@@ -18,3 +18,6 @@ piece-at s at =
     let b = body-le s at 13 in
     let e : le 2 (take 13 (drop at s)) ≡ le 2 (drop at s) = rw add-zero at (b 2 0 (omega arith)) in
     simp (e, b 2 2 (omega arith), b 1 4 (omega arith), b 8 5 (omega arith))
+
+-- a piece's parts, each at its own place
+pub ruleset piece_places = (piece-at)

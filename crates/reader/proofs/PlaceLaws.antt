@@ -11,6 +11,7 @@ use lib.Dec.{leb, ltb, eqb}
 use borrow.Author.Tests.{eq-eqb, ne_eqb, eqb-true, leb-true}
 use native.Mathlib.Omega.{arith}
 use Rattle.wire.specs.Numbers.{le}
+use Rattle.wire.specs.declared.fields.FieldPlace.{FieldPlace}
 use Rattle.wire.specs.Fields.{field_at, step_of, found}
 use Rattle.wire.specs.Keys.{pos_of, key_of}
 use Rattle.wire.specs.Order.{pos_less}
@@ -125,7 +126,9 @@ front-tag (u ∷ lo ∷ hi ∷ xs) at t b n e = go (leb (le 2 (lo ∷ hi ∷ xs)
   where
     go : (q : Bool) → cond q (found u (at + 3) (le 2 (lo ∷ hi ∷ xs))) None ≡ found t b n → t ≡ u
     go false e = absurd (let z : ◌≡◌ {A = ℕ} 0 1 = cc in omega arith)
-    go true e = cc
+    go true e =
+        let r : ◌≡◌ {A = FieldPlace} (record { tag = u; start = at + 3; len = le 2 (lo ∷ hi ∷ xs) }) (record { tag = t; start = b; len = n }) = cc in
+        sym (ap (λ (f : FieldPlace). f.tag) r)
 
 front_length : (xs : List ℕ) (at t b n : ℕ) → step_of at xs ≡ found t b n → n ≡ le 2 (drop 1 xs)
 unfolding step_of
@@ -136,7 +139,9 @@ front_length (u ∷ lo ∷ hi ∷ xs) at t b n e = go (leb (le 2 (lo ∷ hi ∷ 
   where
     go : (q : Bool) → cond q (found u (at + 3) (le 2 (lo ∷ hi ∷ xs))) None ≡ found t b n → n ≡ le 2 (lo ∷ hi ∷ xs)
     go false e = absurd (let z : ◌≡◌ {A = ℕ} 0 1 = cc in omega arith)
-    go true e = cc
+    go true e =
+        let r : ◌≡◌ {A = FieldPlace} (record { tag = u; start = at + 3; len = le 2 (lo ∷ hi ∷ xs) }) (record { tag = t; start = b; len = n }) = cc in
+        sym (ap (λ (f : FieldPlace). f.len) r)
 
 -- the field of a step, as the table has it
 pub here-at :

@@ -73,7 +73,6 @@ key-tag t l m =
 pub sized-least : (len : ℕ) → (leb 37 len && leb len 293) ≡ true → 37 ≤ len
 sized-least len h = leb-true 37 len (and_left _ _ h)
 
--- a key's body, by its length and its snapshot
 module _ (s : List ℕ) (start len : ℕ) (fits : start + len ≤ length s) where
   pub key-missized : (leb 37 len && leb len 293) ≡ false → key_ok (take len (drop start s)) ≡ false
   unfolding key_ok key_sized
@@ -98,8 +97,11 @@ module _ (s : List ℕ) (start len : ℕ) (fits : start + len ≤ length s) wher
   unfolding root_ok root_listed
   root-sized h = simp (body-length s start len fits, eq-eqb len 1 h, le-take 1 len (drop start s) (omega arith))
 
-pub root-last : (x : ℕ) → (x ≡ 10 → ⊥) → (x ≡ 12 → ⊥) → (eqb x 10 || (eqb x 12 || eqb x 14)) ≡ eqb x 14
-root-last x a b = simp (ne_eqb x 10 a, ne_eqb x 12 b)
+-- a key's body, by its length and its snapshot
+pub ruleset key_cases = (key-missized, key-sized, sized-least)
+
+-- a root's body, by its length and its byte
+pub ruleset root_cases = (root-missized, root-sized)
 
 module _ (s : List ℕ) (t start len : ℕ) (fits : start + len ≤ length s) where
   abbrev here : Field
@@ -164,6 +166,19 @@ module _ (s : List ℕ) (t start len : ℕ) (fits : start + len ≤ length s) wh
         ne_eqb t 75 n75,
         ne_eqb t 76 n76,
       )
+
+-- the fields of a change list, by their tags
+pub ruleset change_cases = (
+  change-key,
+  change-extent,
+  change-root,
+  change-row,
+  change-72,
+  change-74,
+  change-76,
+  change-bucket,
+  change-none,
+)
 
 -- the requests of a call, by their tags
 pub requests-other : (call : ℕ) (f : Field) → (f.tag ≡ 65 → ⊥) → (f.tag ≡ 66 → ⊥) → shaped (request_shapes call) f ≡ false
@@ -242,3 +257,6 @@ module _ (s : List ℕ) (call t start len : ℕ) (fits : start + len ≤ length 
         ne_eqb t 14 (λ e. keys (omega arith) (omega arith)),
         ne_eqb t 64 n64,
       )
+
+-- the fields of a call's list, by their tags
+pub ruleset call_cases = (call-key, call-reserved, call-piece, call-freed, call_none)

@@ -1,6 +1,6 @@
 -- What the pass over a call list found at its end: the layout, the limits, the table and its ends.
 use Prim.Native.Nat.{ℕ, zero, suc, ◌+◌, ◌≤◌, ◌<◌}
-use mathlib.Core.Path.{◌≡◌, refl, sym, ◌∙◌, ap}
+use mathlib.Core.Path.{◌≡◌, refl, sym, ◌∙◌, ap, subst}
 use mathlib.Core.Logic.{◌⊎◌, inl, inr}
 use mathlib.Core.List.{List, [], ◌∷◌, map, append-nil}
 use mathlib.Core.Bool.{Bool, true, false, cond}
@@ -19,8 +19,8 @@ use Rattle.reader.specs.CallFields.{any_field_ok, others, follows, ascends, head
 use Rattle.reader.specs.Table.{most_of, rank_end, Fits, sorted_bodies, Indexed, Ended, ends_in, request_bodies, request_tag, Tabled}
 use Rattle.reader.specs.Readings.{laid_as}
 use Rattle.reader.specs.Surveyed.{Counted, LaidFound, Surveyed, OrderSurveyed}
-use Rattle.reader.specs.declared.survey.Pass.TheVariants.{Broken, Laid}
-use Rattle.reader.specs.declared.survey.OrderedPass.TheVariants.{InOrder, OutOfOrder}
+use Rattle.reader.specs.declared.survey.Laid.{Laid}
+use Rattle.std.proofs.Common.{Option, Some, None}
 use Rattle.reader.proofs.BoolLaws.{apart}
 use Rattle.reader.proofs.ShapeLaws.{KeyTag}
 use Rattle.reader.proofs.ListedLaws.{key-tag-bounds}
@@ -41,7 +41,7 @@ field_of t (b ∷ bs) zero h = refl
 field_of t (b ∷ bs) (suc i) h = field_of t bs i (omega arith)
 
 module _
-    (s : List ℕ) (call : ℕ) (any : Bool) (at m head last before : ℕ) (over : Bool) (counts index : List ℕ)
+    (s : List ℕ) (call : ℕ) (any : Bool) (at m : ℕ) (head : Option ℕ) (last before : ℕ) (over : Bool) (counts index : List ℕ)
     (g : Going s call any at m head last before over counts index) (e : length s ≤ at) where
   abbrev fs : List Field
   fs = others (fields s)
@@ -54,12 +54,12 @@ module _
   unfolding fields_after bodies those
   heads-are = sym (append-nil (head_bodies s head)) ∙ rw nothing_left at g.heads
 
-  pub no-head : head ≡ 0 → laid_as call any s ≡ false
-  no-head h = miscounted s call any (λ k. omega (arith, ap length (rw (eq-eqb head 0 h) at heads-are)))
+  pub no-head : head ≡ None → laid_as call any s ≡ false
+  no-head h = miscounted s call any (λ k. omega (arith, ap length (ap (head_bodies s) (sym h) ∙ heads-are)))
 
-  module _ (some : head ≡ 0 → ⊥) where
-    one-head : bodies 1 (fields s) ≡ take 39 (drop head s) ∷ []
-    one-head = sym (rw (ne_eqb head 0 some) at heads-are)
+  module _ (b : ℕ) (some : head ≡ Some b) where
+    one-head : bodies 1 (fields s) ≡ take 39 (drop b s) ∷ []
+    one-head = sym heads-are ∙ ap (head_bodies s) some
 
     all-fine : all_of (any_field_ok call any) (fields s) ≡ true
     unfolding all_of fields_after
@@ -73,7 +73,7 @@ module _
     listed : AllListed call fs
     listed = others-listed call any (fields s) all-fine
 
-    ends-head : head_of (take 39 (drop head s)) ≡ (read_volume s).head
+    ends-head : head_of (take 39 (drop b s)) ≡ (read_volume s).head
     unfolding call_list_of
     ends-head = sym (ap (λ (bs : List (List ℕ)). head_of (first_body bs)) one-head)
 
@@ -267,11 +267,11 @@ module _
               requests = table_is 7 (request_tag call) (request_bodies call (fields s)) (omega arith) rank-requests;
             }
 
-    pub ends_found : (ordered : Bool) → (ordered ≡ true → last ≡ 255 → ⊥) → LaidFound call any s counts index head over ordered
+    pub ends_found : (ordered : Bool) → (ordered ≡ true → last ≡ 255 → ⊥) → LaidFound call any s counts index b over ordered
     ends_found ordered told =
         record {
           laid = ends-laid;
-          inside = g.inside some;
+          inside = g.inside b some;
           first = ends-head;
           past = ends-past;
           counted = ends-counted;
@@ -280,32 +280,37 @@ module _
         }
 
 -- the one outcome of the pass, or the other
-pub broken-found : {call : ℕ} {any : Bool} {s counts index : List ℕ} → laid_as call any s ≡ false → Surveyed call any s counts index Broken
-broken-found h = record { broken = λ e. h; found = λ a b c e. absurd (let z : ◌≡◌ {A = ℕ} 0 1 = cc in omega arith) }
+pub broken-found : {call : ℕ} {any : Bool} {s counts index : List ℕ} → laid_as call any s ≡ false → Surveyed call any s counts index None
+broken-found h = record { broken = λ e. h; found = λ p e. absurd (let z : ◌≡◌ {A = ℕ} 0 1 = cc in omega arith) }
 
-pub laid-found : {call : ℕ} {any : Bool} {s counts index : List ℕ} {head : ℕ} {over ordered : Bool}
-    → LaidFound call any s counts index head over ordered → Surveyed call any s counts index (Laid head over ordered)
-laid-found {head = head} {over = over} {ordered = ordered} f =
+pub laid-found : {call : ℕ} {any : Bool} {s counts index : List ℕ} {p : Laid}
+    → LaidFound call any s counts index p.head p.over p.ordered → Surveyed call any s counts index (Some p)
+laid-found {call = call} {any = any} {s = s} {counts = counts} {index = index} {p = p} f =
     record {
       broken = λ e. absurd (let z : ◌≡◌ {A = ℕ} 0 1 = cc in omega arith);
-      found = λ h o d e.
-          let a : head ≡ h = cc in
-          let b : over ≡ o = cc in
-          let c : ordered ≡ d = cc in
-          rw (← a, ← b, ← c) f;
+      found = λ q e.
+          let z : p ≡ q = cc in
+          subst (λ (o : Laid). LaidFound call any s counts index o.head o.over o.ordered) z f;
     }
 
 -- the pass over a list in order, likewise
-pub unordered-found : {call : ℕ} {any : Bool} {s counts index : List ℕ} → Fits s index → OrderSurveyed call any s counts index OutOfOrder
-unordered-found w = record { found = λ h o e. absurd (let z : ◌≡◌ {A = ℕ} 0 1 = cc in omega arith); fits = w }
-
-pub ordered-found : {call : ℕ} {any : Bool} {s counts index : List ℕ} {head : ℕ} {over : Bool}
-    → Fits s index → LaidFound call any s counts index head over true → OrderSurveyed call any s counts index (InOrder head over)
-ordered-found {head = head} {over = over} w f =
+pub unordered-found : {call : ℕ} {any : Bool} {s counts index : List ℕ} → Fits s index → OrderSurveyed call any s counts index None
+unordered-found w =
     record {
-      found = λ h o e.
-          let a : head ≡ h = cc in
-          let b : over ≡ o = cc in
-          rw (← a, ← b) f;
+      found = λ p e. absurd (let z : ◌≡◌ {A = ℕ} 0 1 = cc in omega arith);
+      ordered = λ p e. absurd (let z : ◌≡◌ {A = ℕ} 0 1 = cc in omega arith);
+      fits = w;
+    }
+
+pub ordered-found : {call : ℕ} {any : Bool} {s counts index : List ℕ} {p : Laid}
+    → Fits s index → LaidFound call any s counts index p.head p.over p.ordered → p.ordered ≡ true → OrderSurveyed call any s counts index (Some p)
+ordered-found {call = call} {any = any} {s = s} {counts = counts} {index = index} {p = p} w f t =
+    record {
+      found = λ q e.
+          let z : p ≡ q = cc in
+          subst (λ (o : Laid). LaidFound call any s counts index o.head o.over o.ordered) z f;
+      ordered = λ q e.
+          let z : p ≡ q = cc in
+          subst (λ (o : Laid). o.ordered ≡ true) z t;
       fits = w;
     }

@@ -2,7 +2,8 @@
 use Prim.Native.Nat.{ℕ, ◌+◌, ◌*◌, ◌≤◌, ◌<◌}
 use mathlib.Core.Path.{◌≡◌, refl, sym, ◌∙◌, ap}
 use mathlib.Core.Logic.{◌⊎◌, inl, inr, ⊎_elim}
-use Rattle.std.proofs.Common.{None}
+use Rattle.std.specs.Prelude.{is_some}
+use Rattle.std.proofs.Common.{Option, Some, None}
 use mathlib.Core.List.{List, [], ◌∷◌, ◌++◌}
 use mathlib.Core.Bool.{Bool, true, false, not, ◌&&◌, ◌||◌, cond, and-false}
 use lib.ListN.{length, take, drop, get_or, set, length-set, length-map}
@@ -40,28 +41,31 @@ Limits s call at h m counts index true = AllListed call (others (fields s)) → 
 Limits s call at h m counts index false = Noting s (others (fields s)) at h m counts index
 
 -- field 1, if it was passed: its body, and its bytes
-abbrev pub head_bodies : List ℕ → ℕ → List (List ℕ)
-head_bodies s head = cond (eqb head 0) [] (take 39 (drop head s) ∷ [])
+abbrev pub head_bodies : List ℕ → Option ℕ → List (List ℕ)
+head_bodies s None = []
+head_bodies s (Some b) = take 39 (drop b s) ∷ []
 
-abbrev pub head_size : ℕ → ℕ
-head_size head = cond (eqb head 0) 0 42
+abbrev pub head_size : Option ℕ → ℕ
+head_size None = 0
+head_size (Some b) = 42
 
-pub head-most : (head : ℕ) → head_size head ≤ 42
-head-most head = go (eqb head 0)
-  where
-    go : (q : Bool) → cond q 0 42 ≤ 42
-    go true = omega arith
-    go false = omega arith
+pub head-most : (head : Option ℕ) → head_size head ≤ 42
+head-most None = omega arith
+head-most (Some b) = omega arith
+
+none-passed : (head : Option ℕ) → is_some head ≡ false → head ≡ None
+none-passed None h = refl
+none-passed (Some b) h = apart h
 
 -- the last field that was passed beside field 1
 abbrev pub last_field : List ℕ → ℕ → ℕ → ℕ → List Field
 last_field s last before len = cond (eqb last 0) [] (field_at s last before len ∷ [])
 
 -- m fields beside field 1 were passed; the last has the tag `last`, 0 where none was, and 255 where they are not in order
-pub record Going (s : List ℕ) (call : ℕ) (any : Bool) (at m head last before : ℕ) (over : Bool) (counts index : List ℕ) : Type 0 where
+pub record Going (s : List ℕ) (call : ℕ) (any : Bool) (at m : ℕ) (head : Option ℕ) (last before : ℕ) (over : Bool) (counts index : List ℕ) : Type 0 where
   pub walked : FieldsWalked s at
   pub heads : head_bodies s head ++ bodies 1 (fields (drop at s)) ≡ bodies 1 (fields s)
-  pub inside : (head ≡ 0 → ⊥) → head + 39 ≤ length s
+  pub inside : (b : ℕ) → head ≡ Some b → b + 39 ≤ length s
   pub fine : all_of (any_field_ok call any) (fields (drop at s)) ≡ all_of (any_field_ok call any) (fields s)
   pub len : ℕ
   pub kept : (last ≡ 0) ⊎ ((before + len ≤ length s) × (least_of last ≤ len))
@@ -74,12 +78,12 @@ pub record Going (s : List ℕ) (call : ℕ) (any : Bool) (at m head last before
 abbrev pub zeros : List ℕ
 zeros = 0 ∷ 0 ∷ 0 ∷ 0 ∷ 0 ∷ 0 ∷ 0 ∷ 0 ∷ []
 
-pub going_start : (s : List ℕ) (call : ℕ) (any : Bool) (index counts : List ℕ) → Fits s index → counts ≡ zeros → Going s call any 0 0 0 0 0 false counts index
+pub going_start : (s : List ℕ) (call : ℕ) (any : Bool) (index counts : List ℕ) → Fits s index → counts ≡ zeros → Going s call any 0 0 None 0 0 false counts index
 going_start s call any index counts z e =
     record {
       walked = walked_none s;
       heads = refl;
-      inside = λ n. absurd (n refl);
+      inside = λ b n. absurd (let z : ◌≡◌ {A = ℕ} 0 1 = cc in omega arith);
       fine = refl;
       len = 0;
       kept = inl refl;
@@ -109,7 +113,7 @@ module _ (s : List ℕ) (call : ℕ) (any : Bool) where
   miscounted n = list-laid s call any ∙ simp (ne_eqb (length (bodies 1 (fields s))) 1 n, and-false)
 
 module _
-    (s : List ℕ) (call : ℕ) (any : Bool) (at m head last before : ℕ) (over : Bool) (counts index : List ℕ)
+    (s : List ℕ) (call : ℕ) (any : Bool) (at m : ℕ) (head : Option ℕ) (last before : ℕ) (over : Bool) (counts index : List ℕ)
     (g : Going s call any at m head last before over counts index) where
   pub breaks : step_of at (drop at s) ≡ None → at < length s → laid_as call any s ≡ false
   breaks e h = cut s call any (whole-left s at g.walked e h)
@@ -129,22 +133,19 @@ module _
       comes : bodies 1 (fields (drop at s)) ≡ take n (drop b s) ∷ bodies 1 (fields (drop (b + n) s))
       comes = ap (bodies 1) f.here ∙ bodies-here 1 (field_at s t b n) (fields (drop (b + n) s)) e
 
-      pub second : (head ≡ 0 → ⊥) → laid_as call any s ≡ false
-      second h =
-          let z = ap length (sym g.heads ∙ ap (λ (bs : List (List ℕ)). head_bodies s head ++ bs) comes) in
-          miscounted s call any (λ k. more (ne_eqb head 0 h) z k)
+      pub second : is_some head ≡ true → laid_as call any s ≡ false
+      second h = miscounted s call any (λ k. more head h (ap length (sym g.heads ∙ ap (λ (bs : List (List ℕ)). head_bodies s head ++ bs) comes)) k)
         where
-          more : eqb head 0 ≡ false → length (bodies 1 (fields s)) ≡ length (head_bodies s head ++ (take n (drop b s) ∷ bodies 1 (fields (drop (b + n) s))))
+          more : (o : Option ℕ) → is_some o ≡ true
+              → length (bodies 1 (fields s)) ≡ length (head_bodies s o ++ (take n (drop b s) ∷ bodies 1 (fields (drop (b + n) s))))
               → length (bodies 1 (fields s)) ≡ 1 → ⊥
-          more q z k =
-              let y : length (bodies 1 (fields s)) ≡ length (take 39 (drop head s) ∷ take n (drop b s) ∷ bodies 1 (fields (drop (b + n) s)))
-              = z ∙ ap (λ (x : Bool). length (cond x [] (take 39 (drop head s) ∷ []) ++ (take n (drop b s) ∷ bodies 1 (fields (drop (b + n) s))))) q in
-              omega arith
+          more None h z k = apart (sym h)
+          more (Some c) h z k = omega arith
 
       pub bad-head : head_field_ok call any (take n (drop b s)) ≡ false → laid_as call any s ≡ false
       bad-head h = bad (any_head call any (field_at s t b n) e ∙ h)
 
-      module _ (h : head ≡ 0) (ok : head_field_ok call any (take n (drop b s)) ≡ true) where
+      module _ (h : is_some head ≡ false) (ok : head_field_ok call any (take n (drop b s)) ≡ true) where
         head-long : n ≡ 39
         unfolding head_field_ok
         head-long = sym (body-length s b n f.within) ∙ eqb-true (length (take n (drop b s))) 39 (and_left _ _ ok)
@@ -152,30 +153,28 @@ module _
         first-at : FieldAt s at 1 b 39
         first-at = rw (e, head-long) at f
 
-        start-some : eqb b 0 ≡ false
-        start-some = ne_eqb b 0 (λ z. omega (arith, f.on))
-
-        passed-heads : head_bodies s b ++ bodies 1 (fields (drop (b + n) s)) ≡ bodies 1 (fields s)
+        passed-heads : head_bodies s (Some b) ++ bodies 1 (fields (drop (b + n) s)) ≡ bodies 1 (fields s)
         passed-heads =
-            rw start-some
-            (ap (λ (k : ℕ). take k (drop b s) ∷ bodies 1 (fields (drop (b + n) s))) (sym head-long) ∙ sym comes
-            ∙ ap (λ (x : Bool). cond x [] (take 39 (drop head s) ∷ []) ++ bodies 1 (fields (drop at s))) (sym (eq-eqb head 0 h)) ∙ g.heads)
+            ap (λ (k : ℕ). take k (drop b s) ∷ bodies 1 (fields (drop (b + n) s))) (sym head-long) ∙ sym comes
+            ∙ ap (λ (x : Option ℕ). head_bodies s x ++ bodies 1 (fields (drop at s))) (sym (none-passed head h)) ∙ g.heads
 
-        passed-limits : (o : Bool) → Limits s call at (head_size head) m counts index o → Limits s call (b + n) (head_size b) m counts index o
+        passed-limits : (o : Bool) → Limits s call at (head_size head) m counts index o → Limits s call (b + n) 42 m counts index o
         passed-limits true w = w
         passed-limits false w =
-            let z : head_size head ≡ 0 = rw (eq-eqb head 0 h) in
-            rw (start-some, head-long) (noting-head s (others (fields s)) at (head_size head) m counts index g.width w z b first-at)
+            let z : head_size head ≡ 0 = ap head_size (none-passed head h) in
+            rw head-long (noting-head s (others (fields s)) at (head_size head) m counts index g.width w z b first-at)
 
         others_same : others (fields (drop at s)) ≡ others (fields (drop (b + n) s))
         others_same = ap others f.here ∙ others-head (field_at s t b n) (fields (drop (b + n) s)) e
 
-        pub goes-head : Going s call any (b + n) m b last before over counts index
+        pub goes-head : Going s call any (b + n) m (Some b) last before over counts index
         goes-head =
             record {
               walked = walked_more s at g.walked t b n f;
               heads = passed-heads;
-              inside = λ z. omega (arith, f.within, head-long);
+              inside = λ c z.
+                  let y : b ≡ c = cc in
+                  omega (arith, f.within, head-long);
               fine = passed-fine (any_head call any (field_at s t b n) e ∙ ok);
               len = g.len;
               kept = g.kept;
@@ -266,7 +265,7 @@ pub passed_length :
 passed_length {b = b} {m = m} {index = index} {r = r} p = ap length p.placed ∙ set-length r index m b
 
 module _
-    (s : List ℕ) (call : ℕ) (any : Bool) (at m head last before : ℕ) (over : Bool) (counts index : List ℕ)
+    (s : List ℕ) (call : ℕ) (any : Bool) (at m : ℕ) (head : Option ℕ) (last before : ℕ) (over : Bool) (counts index : List ℕ)
     (g : Going s call any at m head last before over counts index) (t b n : ℕ) (e : step_of at (drop at s) ≡ found t b n)
     (ok : call_field_ok call (field_at s t b n) ≡ true) where
   f : FieldAt s at t b n

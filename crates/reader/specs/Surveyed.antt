@@ -1,5 +1,5 @@
 -- What one pass over a list finds: that it breaks the layout; or where field 1 stands, whether a limit is passed, and whether its fields are in order.
-use Rattle.std.specs.Prelude.{ℕ, ◌+◌, ◌≤◌, ◌≡◌, Bool, true, false, List, ◌∷◌, length, take, drop}
+use Rattle.std.specs.Prelude.{Option, Some, None, ℕ, ◌+◌, ◌≤◌, ◌≡◌, Bool, true, false, List, ◌∷◌, length, take, drop}
 use Rattle.calls.specs.CallList.{head_of, none_twice}
 use Rattle.calls.specs.Limits.{list_within}
 use Rattle.calls.specs.Answers.{read_call, read_volume}
@@ -7,10 +7,7 @@ use Rattle.wire.specs.Fields.{fields, field_at}
 use Rattle.reader.specs.CallFields.{head_within, head_field_ok}
 use Rattle.reader.specs.Table.{rank_end, ends_in, Fits, Indexed, Ended}
 use Rattle.reader.specs.Readings.{laid_as}
-use Rattle.reader.specs.declared.survey.Pass.{Pass}
-use Rattle.reader.specs.declared.survey.Pass.TheVariants.{Broken, Laid}
-use Rattle.reader.specs.declared.survey.OrderedPass.{OrderedPass}
-use Rattle.reader.specs.declared.survey.OrderedPass.TheVariants.{InOrder}
+use Rattle.reader.specs.declared.survey.Laid.{Laid}
 
 -- fields within the limits, but for the head's: they are counted, and where they are in order the table has their places
 pub record Counted (call : ℕ) (s counts index : List ℕ) : Type 0 where
@@ -30,19 +27,24 @@ pub record LaidFound (call : ℕ) (any : Bool) (s counts index : List ℕ) (head
   pub once : ordered ≡ true → none_twice (read_volume s) ≡ true
   pub table : ordered ≡ true → over ≡ false → Indexed call s index (ends_in counts)
 
--- a field 1 of this call, or of any, stands first, with its body at r; or r is 0
-pub record HeadFirst (call : ℕ) (any : Bool) (s : List ℕ) (r : ℕ) : Type 0 where
-  pub here : (r ≡ 0 → ⊥) → fields s ≡ field_at s 1 r 39 ∷ fields (drop (r + 39) s)
-  pub within : (r ≡ 0 → ⊥) → r + 39 ≤ length s
-  pub on : (r ≡ 0 → ⊥) → r ≡ 3
-  pub ok : (r ≡ 0 → ⊥) → head_field_ok call any (take 39 (drop r s)) ≡ true
+-- a field 1 of this call, or of any, stands first, with its body at b
+pub record HeadAt (call : ℕ) (any : Bool) (s : List ℕ) (b : ℕ) : Type 0 where
+  pub here : fields s ≡ field_at s 1 b 39 ∷ fields (drop (b + 39) s)
+  pub within : b + 39 ≤ length s
+  pub on : b ≡ 3
+  pub ok : head_field_ok call any (take 39 (drop b s)) ≡ true
 
--- the one or the other
-pub record Surveyed (call : ℕ) (any : Bool) (s counts index : List ℕ) (r : Pass) : Type 0 where
-  pub broken : r ≡ Broken → laid_as call any s ≡ false
-  pub found : (head : ℕ) (over ordered : Bool) → r ≡ Laid head over ordered → LaidFound call any s counts index head over ordered
+-- so it does where that place is answered; none tells nothing of the list
+abbrev pub HeadFirst : ℕ → Bool → List ℕ → Option ℕ → Type 0
+HeadFirst call any s r = (b : ℕ) → r ≡ Some b → HeadAt call any s b
 
--- what is answered to be in order is laid out and in order; the other answer tells nothing of the list
-pub record OrderSurveyed (call : ℕ) (any : Bool) (s counts index : List ℕ) (r : OrderedPass) : Type 0 where
-  pub found : (head : ℕ) (over : Bool) → r ≡ InOrder head over → LaidFound call any s counts index head over true
+-- none where the list breaks the layout, else what is found
+pub record Surveyed (call : ℕ) (any : Bool) (s counts index : List ℕ) (r : Option Laid) : Type 0 where
+  pub broken : r ≡ None → laid_as call any s ≡ false
+  pub found : (p : Laid) → r ≡ Some p → LaidFound call any s counts index p.head p.over p.ordered
+
+-- what is answered is laid out and in order; none tells nothing of the list
+pub record OrderSurveyed (call : ℕ) (any : Bool) (s counts index : List ℕ) (r : Option Laid) : Type 0 where
+  pub found : (p : Laid) → r ≡ Some p → LaidFound call any s counts index p.head p.over p.ordered
+  pub ordered : (p : Laid) → r ≡ Some p → p.ordered ≡ true
   pub fits : Fits s index

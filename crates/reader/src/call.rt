@@ -1,5 +1,5 @@
 // Call lists and volumes: refusals 2, 22 and 3. A list in order is judged in one pass; any other has its table sorted.
-ghost use Rattle.std.specs.Prelude.{◌≡◌, ◌||◌, not, cond};
+ghost use Rattle.std.specs.Prelude.{◌≡◌, ◌||◌, not, cond, unwrap_or, is_none};
 ghost use Rattle.calls.specs.CallList.{none_twice};
 ghost use Rattle.calls.specs.Answers.{read_volume};
 ghost use Rattle.reader.specs.CallFields.{head_within};
@@ -11,7 +11,7 @@ ghost use Rattle.reader.specs.Readings.{call_refusal, volume_refusal, list_refus
 
 use crate::head::Head;
 use crate::refusal::Refusal;
-use crate::survey::Pass;
+use crate::survey::Laid;
 use crate::table::Ends;
 use crate::{arrange, head, survey, table};
 
@@ -36,17 +36,17 @@ fn past_refusal(s: &[u8], ordered: bool) -> Refusal
     Refusal::Limit
 }
 
-// A list of a call, or with `any` of whatever call its head names: its head, and where the places of each tag end in the table. The table that is lent shows the bound.
-fn read_list(s: &[u8], call: u8, any: bool, index: &mut [u32]) -> Result<(Head, Ends), Refusal>
+// A list of the call that is asked for, or of whatever call its head names: its head, and where the places of each tag end in the table. The table that is lent shows the bound.
+fn read_list(s: &[u8], asked: Option<u8>, index: &mut [u32]) -> Result<(Head, Ends), Refusal>
     requires { Fits s.now index.old }
-    ensures { Answered (list_refusal call any s.now) call s.now index.new result }
+    ensures { Answered (list_refusal (unwrap_or asked 0) (is_none asked) s.now) (unwrap_or asked 0) s.now index.new result }
 {
     let mut counts = [0usize; 8];
-    let Pass::Laid {
+    let Some(Laid {
         head,
         over,
         ordered,
-    } = survey::survey(s, call, any, &mut counts, index)
+    }) = survey::survey(s, asked, &mut counts, index)
     else {
         return Err(Refusal::Layout);
     };
@@ -58,7 +58,7 @@ fn read_list(s: &[u8], call: u8, any: bool, index: &mut [u32]) -> Result<(Head, 
     if ordered {
         return Ok((first, ends));
     }
-    if arrange::sort_table(s, call, ends, index) {
+    if arrange::sort_table(s, asked.unwrap_or(0), ends, index) {
         return Err(Refusal::Twice);
     }
     Ok((first, ends))
@@ -69,7 +69,7 @@ pub fn read_call(s: &[u8], call: u8, index: &mut [u32]) -> Result<(Head, Ends), 
     requires { Fits s.now index.old }
     ensures { Answered (call_refusal call s.now) call s.now index.new result }
 {
-    read_list(s, call, false, index)
+    read_list(s, Some(call), index)
 }
 
 // Reads a volume in the same way: a list of any call, without requests.
@@ -77,5 +77,5 @@ pub fn read_volume(s: &[u8], index: &mut [u32]) -> Result<(Head, Ends), Refusal>
     requires { Fits s.now index.old }
     ensures { Answered (volume_refusal s.now) 0 s.now index.new result }
 {
-    read_list(s, 0, true, index)
+    read_list(s, None, index)
 }

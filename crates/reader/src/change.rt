@@ -9,41 +9,30 @@ use wire::fields::FieldPlace;
 use wire::{fields, keys as wire_keys, le};
 
 // Whether a body of len bytes names a root: 10, 12 or 14. A field's length shows the bound.
+#[tactic(auto, using(crate::proofs::ShapeLaws::root_cases))]
 fn root_ok(s: &[u8], start: usize, len: usize) -> bool
     requires { start + len ≤ length s.now }
     ensures { result ≡ root_ok (take len (drop start s.now)) }
 {
-    if len != 1 {
-        return false;
-    }
-    let id = le::le8(s, start);
-    if id == 10 {
-        return true;
-    }
-    if id == 12 {
-        return true;
-    }
-    id == 14
+    len == 1 && matches!(le::le8(s, start), 10 | 12 | 14)
 }
 
 // Whether a row has one number or three.
 fn row_sized(len: usize) -> bool
     ensures { result ≡ (eqb len 24 || eqb len 40) }
 {
-    if len == 24 {
-        return true;
-    }
-    len == 40
+    len == 24 || len == 40
 }
 
 // Whether a field may stand in a change list. A field's length shows the bound.
+#[tactic(auto, using(crate::proofs::ShapeLaws::change_cases))]
 fn field_ok(s: &[u8], tag: u8, start: usize, len: usize) -> bool
     requires { start + len ≤ length s.now }
     ensures { result ≡ change_field_ok (field_at s.now tag start len) }
 {
     match tag {
         0 => wire_keys::key_sized(len),
-        4 | 10 | 11 | 12 | 13 | 14 => keys::key_ok(s, start, len),
+        4 | 10..=14 => keys::key_ok(s, start, len),
         70 => root_ok(s, start, len),
         71 | 75 => len == 4,
         72 => len == 15,
@@ -55,13 +44,11 @@ fn field_ok(s: &[u8], tag: u8, start: usize, len: usize) -> bool
 }
 
 // Whether a tag may stand after another: tags ascend within a batch, and begin anew after 76.
+#[tactic(auto, unfolding(crate::specs::Bodies::tag_after))]
 fn tag_after(last: u8, tag: u8) -> bool
     ensures { result ≡ tag_after last tag }
 {
-    if last == 76 {
-        return true;
-    }
-    last <= tag
+    last == 76 || last <= tag
 }
 
 // Whether a change list keeps its layout.
@@ -74,10 +61,7 @@ pub fn check_change(s: &[u8]) -> bool
         let Some(FieldPlace { tag, start, len }) = fields::next_field(s, at) else {
             return false;
         };
-        if !field_ok(s, tag, start, len) {
-            return false;
-        }
-        if !tag_after(last, tag) {
+        if !field_ok(s, tag, start, len) || !tag_after(last, tag) {
             return false;
         }
         last = tag;

@@ -6,7 +6,6 @@ ghost use Rattle.calls.specs.CallList.{head_of, head_body, head_ok};
 ghost use Rattle.reader.specs.CallFields.{head_within};
 ghost use Rattle.reader.specs.Heads.{call_byte, head_in, head_sizes};
 
-use wire::fields::FieldPlace;
 use wire::kinds::FileSector;
 use wire::output::Output;
 use wire::{fields, kinds, le};
@@ -30,21 +29,17 @@ pub fn call_byte(s: &[u8]) -> u8
     ensures { result ≡ call_byte s.now }
 {
     let mut at: usize = 0;
-    loop {
-        let Some(FieldPlace { tag, start, len }) = fields::next_field(s, at) else {
-            return 0;
-        };
-        at = start + len;
-        if tag == 1 {
-            if len == 0 {
-                return 0;
-            }
-            return le::le8(s, start);
+    while let Some(field) = fields::next_field(s, at) {
+        if field.tag == 1 {
+            return if field.len == 0 { 0 } else { le::le8(s, field.start) };
         }
+        at = field.start + field.len;
     }
+    0
 }
 
 // The head whose body starts at a place of a list. The length of field 1 shows the bound.
+#[tactic(auto, using(crate::proofs::HeadLaws::head_at_lem))]
 pub fn read_head(s: &[u8], at: usize) -> Head
     requires { at + 39 ≤ length s.now }
     ensures { head_in result ≡ head_of (take 39 (drop at s.now)) }
@@ -64,27 +59,18 @@ pub fn read_head(s: &[u8], at: usize) -> Head
 }
 
 // Whether a head names a call, and no root that there is not.
+#[tactic(auto, unfolding(calls::specs::CallList::head_ok))]
 pub fn head_ok(h: Head) -> bool
     ensures { result ≡ head_ok (head_in h) }
 {
-    if h.call < 1 {
-        return false;
-    }
-    if 3 < h.call {
-        return false;
-    }
-    h.roots < 8
+    (1..=3).contains(&h.call) && h.roots < 8
 }
 
 // Whether a head is within FORMAT.md's limits.
 pub fn head_within(h: Head) -> bool
     ensures { result ≡ head_within (head_in h) }
 {
-    if 65536 < h.reserve {
-        return false;
-    }
-    let base = h.base;
-    kinds::base_in_range(base)
+    h.reserve <= 65536 && kinds::base_in_range(h.base)
 }
 
 // The first five parts of a head.

@@ -18,6 +18,7 @@ fn body_len(s: &[u8], at: usize) -> usize
 }
 
 // The whole key.
+#[tactic(auto, unfolding(crate::specs::KeyHere::key_here))]
 pub fn key_at(s: &[u8], at: usize) -> Bkey
     requires { Whole s.now at }
     ensures { result ≡ held (key_here s.now at) }
@@ -26,6 +27,7 @@ pub fn key_at(s: &[u8], at: usize) -> Bkey
 }
 
 // Its type.
+#[tactic(auto, using(crate::proofs::KeyHereLaws::key_parts))]
 pub fn type_at(s: &[u8], at: usize) -> u8
     requires { Whole s.now at }
     ensures { result ≡ (key_here s.now at).type }
@@ -34,6 +36,7 @@ pub fn type_at(s: &[u8], at: usize) -> u8
 }
 
 // Its size.
+#[tactic(auto, using(crate::proofs::KeyHereLaws::key_parts))]
 pub fn size_at(s: &[u8], at: usize) -> u32
     requires { Whole s.now at }
     ensures { result ≡ (key_here s.now at).size }
@@ -42,6 +45,7 @@ pub fn size_at(s: &[u8], at: usize) -> u32
 }
 
 // Its position.
+#[tactic(auto, using(crate::proofs::KeyHereLaws::key_parts))]
 pub fn pos_at(s: &[u8], at: usize) -> Bpos
     requires { Whole s.now at }
     ensures { result ≡ (key_here s.now at).pos }
@@ -58,6 +62,7 @@ pub fn bucket_at(s: &[u8], at: usize) -> Bucket
 }
 
 // How many bytes its value has.
+#[tactic(auto, using(crate::proofs::KeyHereLaws::key_parts))]
 pub fn value_len(s: &[u8], at: usize) -> usize
     requires { Whole s.now at }
     ensures { result ≡ length (key_here s.now at).value }

@@ -5,13 +5,10 @@ ghost use Rattle.reader.specs.Bodies.{key_ok};
 use wire::keys;
 
 // Whether a body of len bytes is a key's with the snapshot 0. A field's length shows the bound.
+#[tactic(auto, using(crate::proofs::ShapeLaws::key_cases))]
 pub fn key_ok(s: &[u8], start: usize, len: usize) -> bool
     requires { start + len ≤ length s.now }
     ensures { result ≡ key_ok (take len (drop start s.now)) }
 {
-    if !keys::key_sized(len) {
-        return false;
-    }
-    let pos = keys::pos_at(s, start);
-    pos.snapshot == 0
+    keys::key_sized(len) && keys::pos_at(s, start).snapshot == 0
 }

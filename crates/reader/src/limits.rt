@@ -6,60 +6,49 @@ ghost use Rattle.reader.specs.CallFields.{alloc_within, run_within, waiting_with
 use wire::{keys, kinds, positions};
 
 // Whether an alloc key at inode 0 is of a bucket in range. A key's length shows the bound here and below.
+#[tactic(auto, using(crate::proofs::OrderingLaws::limit_cases))]
 fn alloc_within(s: &[u8], start: usize) -> bool
     requires { start + 37 ≤ length s.now }
     ensures { result ≡ alloc_within (key_of (drop start s.now)) }
 {
     let pos = keys::pos_at(s, start);
-    if pos.inode != 0 {
-        return true;
-    }
-    wire::kinds::bucket_in_range(positions::bucket_in(pos))
+    pos.inode != 0 || kinds::bucket_in_range(positions::bucket_in(pos))
 }
 
 // Whether a type 25 freespace key at inode 0 ends in range.
+#[tactic(auto, using(crate::proofs::OrderingLaws::limit_cases))]
 fn run_within(s: &[u8], start: usize) -> bool
     requires { start + 37 ≤ length s.now }
     ensures { result ≡ run_within (key_of (drop start s.now)) }
 {
-    let kind = keys::type_at(s, start);
-    if kind != 25 {
+    if keys::type_at(s, start) != 25 {
         return true;
     }
     let pos = keys::pos_at(s, start);
-    if pos.inode != 0 {
-        return true;
-    }
-    kinds::run_end_in_range(positions::bucket_in(pos))
+    pos.inode != 0 || kinds::run_end_in_range(positions::bucket_in(pos))
 }
 
 // Whether a need-discard key of type 25 is of a bucket in range.
+#[tactic(auto, using(crate::proofs::OrderingLaws::limit_cases))]
 fn waiting_within(s: &[u8], start: usize) -> bool
     requires { start + 37 ≤ length s.now }
     ensures { result ≡ waiting_within (key_of (drop start s.now)) }
 {
-    let kind = keys::type_at(s, start);
-    if kind != 25 {
-        return true;
-    }
-    wire::kinds::bucket_in_range(positions::bucket_in(keys::pos_at(s, start)))
+    keys::type_at(s, start) != 25
+        || kinds::bucket_in_range(positions::bucket_in(keys::pos_at(s, start)))
 }
 
 // Whether a field after field 1 keeps the limits. The length that its tag asks shows the bound.
+#[tactic(auto, using(crate::proofs::OrderingLaws::within_cases))]
 pub fn field_within(s: &[u8], tag: u8, start: usize) -> bool
     requires { start + least_of tag ≤ length s.now }
     ensures { result ≡ field_within (field_from s.now tag start) }
 {
-    if 12 < tag {
-        if tag == 64 {
-            return wire::kinds::bucket_in_range(kinds::read_bucket(s, start));
-        }
-        return true;
-    }
     match tag {
         4 => alloc_within(s, start),
         11 => run_within(s, start),
         12 => waiting_within(s, start),
+        64 => kinds::bucket_in_range(kinds::read_bucket(s, start)),
         _ => true,
     }
 }

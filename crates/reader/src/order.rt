@@ -1,5 +1,5 @@
 // The fields beside field 1: each by itself, and in order after the one before it.
-ghost use Rattle.std.specs.Prelude.{◌≡◌, ◌&&◌, ◌+◌, ◌≤◌, eqb, length, drop};
+ghost use Rattle.std.specs.Prelude.{◌≡◌, ◌+◌, ◌≤◌, unwrap_or, length, drop};
 ghost use Rattle.wire.specs.Fields.{field_at};
 ghost use Rattle.reader.specs.CallFields.{call_field_ok, field_from, least_of};
 ghost use Rattle.reader.specs.CallFields as specs;
@@ -7,58 +7,39 @@ ghost use Rattle.reader.specs.CallFields as specs;
 use crate::keys;
 use wire::{bpos, keys as wire_keys, kinds};
 
-// Whether a field beside field 1 may stand in a call's list. A field's length shows the bound.
-pub fn field_ok(s: &[u8], call: u8, tag: u8, start: usize, len: usize) -> bool
+// Whether a field beside field 1 may stand in a list of the call that is asked for; without one no request may. A field's length shows the bound.
+#[tactic(auto, using(crate::proofs::ShapeLaws::call_cases))]
+pub fn field_ok(s: &[u8], asked: Option<u8>, tag: u8, start: usize, len: usize) -> bool
     requires { start + len ≤ length s.now }
-    ensures { result ≡ call_field_ok call (field_at s.now tag start len) }
+    ensures { result ≡ call_field_ok (unwrap_or asked 0) (field_at s.now tag start len) }
 {
     match tag {
-        4 | 10 | 11 | 12 | 13 | 14 => keys::key_ok(s, start, len),
+        4 | 10..=14 => keys::key_ok(s, start, len),
         64 => len == 4,
-        65 => request_sized(call, 1, len, 13),
-        66 => request_sized(call, 2, len, 10),
+        65 => matches!(asked, Some(1)) && len == 13,
+        66 => matches!(asked, Some(2)) && len == 10,
         _ => false,
     }
 }
 
-// Whether a request is of the list's call, and as long as it must be.
-fn request_sized(call: u8, own: u8, len: usize, size: usize) -> bool
-    ensures { result ≡ (eqb call own && eqb len size) }
-{
-    if call != own {
-        return false;
-    }
-    len == size
-}
-
 // Whether two bodies of a tag, side by side, ascend. The length that the tag asks shows the bounds.
+#[tactic(auto, using(crate::proofs::OrderingLaws::ascends_cases))]
 fn ascends(s: &[u8], tag: u8, before: usize, start: usize) -> bool
     requires { (before + least_of tag ≤ length s.now) × (start + least_of tag ≤ length s.now) }
     ensures { result ≡ specs.ascends tag (drop before s.now) (drop start s.now) }
 {
-    if tag <= 14 {
-        let a = wire_keys::pos_at(s, before);
-        let b = wire_keys::pos_at(s, start);
-        return bpos::pos_less(a, b);
+    match tag {
+        0..=14 => bpos::pos_less(wire_keys::pos_at(s, before), wire_keys::pos_at(s, start)),
+        64 => kinds::bucket_below(kinds::read_bucket(s, before), kinds::read_bucket(s, start)),
+        _ => true,
     }
-    if tag == 64 {
-        let a = kinds::read_bucket(s, before);
-        let b = kinds::read_bucket(s, start);
-        return wire::kinds::bucket_below(a, b);
-    }
-    true
 }
 
 // Whether a field stands in order after another. Its length, and that of a field before with its tag, show the bounds.
+#[tactic(auto, using(crate::proofs::OrderingLaws::follows_cases))]
 pub fn follows(s: &[u8], last: u8, before: usize, tag: u8, start: usize) -> bool
     requires { (last ≡ tag → before + least_of tag ≤ length s.now) × (start + least_of tag ≤ length s.now) }
     ensures { result ≡ specs.follows (field_from s.now last before) (field_from s.now tag start) }
 {
-    if last < tag {
-        return true;
-    }
-    if tag < last {
-        return false;
-    }
-    ascends(s, tag, before, start)
+    last < tag || (last == tag && ascends(s, tag, before, start))
 }

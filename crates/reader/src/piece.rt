@@ -14,6 +14,7 @@ pub struct Piece {
 }
 
 // The piece whose body starts at a place of a list. The length of a field 65 shows the bound.
+#[tactic(auto, using(crate::proofs::PieceLaws::piece_places))]
 pub fn read_piece(s: &[u8], at: usize) -> Piece
     requires { at + 13 ≤ length s.now }
     ensures { piece_in result ≡ piece_of (take 13 (drop at s.now)) }
