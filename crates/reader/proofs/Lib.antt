@@ -34,3 +34,4 @@ pub mod BodyOrderLaws
 pub mod StoredLaws
 pub mod ArrangedLaws
 pub mod DoubledLaws
+pub mod AnswerLaws

@@ -10,3 +10,4 @@ pub mod Checked
 pub mod Arranged
 pub mod Surveyed
 pub mod Collected
+pub mod Refusals

@@ -1,5 +1,5 @@
 -- The answers of the readers: refusals 2, 22 and 3, or the head and the table.
-use Rattle.std.specs.Prelude.{ℕ, ◌<◌, ◌≡◌, List, [], ◌∷◌, ◌++◌, Bool, ◌&&◌, ◌||◌, eqb}
+use Rattle.std.specs.Prelude.{ℕ, ◌<◌, ◌≡◌, List, [], ◌∷◌, ◌++◌, Bool, ◌&&◌, ◌||◌, eqb, Result, Ok, Err}
 use Rattle.calls.specs.CallList.{laid_out, volume_shapes, request_shapes, call_laid_out, volume_laid_out, none_twice}
 use Rattle.calls.specs.Limits.{volume_within, list_within}
 use Rattle.calls.specs.Refusals.{test, verdict}
@@ -8,8 +8,8 @@ use Rattle.reader.specs.Heads.{head_in}
 use Rattle.reader.specs.Table.{Indexed, Ended}
 use Rattle.reader.specs.declared.head.Head.{Head}
 use Rattle.reader.specs.declared.table.Ends.{Ends}
-use Rattle.reader.specs.declared.call.Reading.{Reading}
-use Rattle.reader.specs.declared.call.Reading.TheVariants.{Refused, Read}
+use Rattle.reader.specs.declared.refusal.Refusal.{Refusal}
+use Rattle.reader.specs.Refusals.{number_of}
 
 -- refusals 2, 22 and 3 of a call, in their order
 unfoldable pub call_refusal : ℕ → List ℕ → ℕ
@@ -36,6 +36,6 @@ pub record ListRead (call : ℕ) (s index : List ℕ) (h : Head) (e : Ends) : Ty
   pub table : Indexed call s index e
 
 -- the refusal's number, or 0 and the list
-abbrev pub Answered : ℕ → ℕ → List ℕ → List ℕ → Reading → Type 0
-Answered number call s index (Refused n) = (n ≡ number) × (0 < number)
-Answered number call s index (Read h e) = (0 ≡ number) × ListRead call s index h e
+abbrev pub Answered : ℕ → ℕ → List ℕ → List ℕ → Result (Head × Ends) Refusal → Type 0
+Answered number call s index (Err r) = (number_of r ≡ number) × (0 < number)
+Answered number call s index (Ok l) = (0 ≡ number) × ListRead call s index l.0 l.1

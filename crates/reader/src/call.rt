@@ -4,49 +4,40 @@ ghost use Rattle.calls.specs.CallList.{none_twice};
 ghost use Rattle.calls.specs.Answers.{read_volume};
 ghost use Rattle.reader.specs.CallFields.{head_within};
 ghost use Rattle.reader.specs.Heads.{head_in};
+ghost use Rattle.reader.specs.Refusals.{number_of};
 ghost use Rattle.reader.specs.Arranged.{PastAsked};
 ghost use Rattle.reader.specs.Table.{Fits};
 ghost use Rattle.reader.specs.Readings.{call_refusal, volume_refusal, list_refusal, Answered};
 
 use crate::head::Head;
+use crate::refusal::Refusal;
 use crate::survey::Laid;
 use crate::table::Ends;
 use crate::{arrange, head, survey, table};
-
-// What a list is read as: refused with a number, or its head and where the places of each tag end in the table.
-#[derive(Clone, Copy, Drop)]
-pub enum Reading {
-    Refused(u32),
-    Read(Head, Ends),
-}
 
 // Whether a limit is passed, by a field or by the head.
 fn past_limit(over: bool, first: Head) -> bool
     ensures { result ≡ (over || not (head_within (head_in first))) }
 {
-    if over {
-        return true;
-    }
-    let within = head::head_within(first);
-    !within
+    over || !head::head_within(first)
 }
 
 // The refusal of a list that passes a limit: 22 where a position stands twice, else 3. The pass over it shows what is asked.
-fn past_refusal(s: &[u8], ordered: bool) -> u32
+fn past_refusal(s: &[u8], ordered: bool) -> Refusal
     requires { PastAsked s.now ordered }
-    ensures { result ≡ cond (none_twice (read_volume s.now)) 3 22 }
+    ensures { number_of result ≡ cond (none_twice (read_volume s.now)) 3 22 }
 {
     if ordered {
-        return 3;
+        return Refusal::Limit;
     }
     if arrange::doubled(s) {
-        return 22;
+        return Refusal::Twice;
     }
-    3
+    Refusal::Limit
 }
 
-// A list of the call that is asked for, or of whatever call its head names. The table that is lent shows the bound.
-fn read_list(s: &[u8], asked: Option<u8>, index: &mut [u32]) -> Reading
+// A list of the call that is asked for, or of whatever call its head names: its head, and where the places of each tag end in the table. The table that is lent shows the bound.
+fn read_list(s: &[u8], asked: Option<u8>, index: &mut [u32]) -> Result<(Head, Ends), Refusal>
     requires { Fits s.now index.old }
     ensures { Answered (list_refusal (unwrap_or asked 0) (is_none asked) s.now) (unwrap_or asked 0) s.now index.new result }
 {
@@ -57,24 +48,24 @@ fn read_list(s: &[u8], asked: Option<u8>, index: &mut [u32]) -> Reading
         ordered,
     }) = survey::survey(s, asked, &mut counts, index)
     else {
-        return Reading::Refused(2);
+        return Err(Refusal::Layout);
     };
     let first = head::read_head(s, head);
     if past_limit(over, first) {
-        return Reading::Refused(past_refusal(s, ordered));
+        return Err(past_refusal(s, ordered));
     }
     let ends = table::ends_of(counts);
     if ordered {
-        return Reading::Read(first, ends);
+        return Ok((first, ends));
     }
     if arrange::sort_table(s, asked.unwrap_or(0), ends, index) {
-        return Reading::Refused(22);
+        return Err(Refusal::Twice);
     }
-    Reading::Read(first, ends)
+    Ok((first, ends))
 }
 
 // Reads a call's list: refusal 2, then 22, then 3, else its head and the table of its fields.
-pub fn read_call(s: &[u8], call: u8, index: &mut [u32]) -> Reading
+pub fn read_call(s: &[u8], call: u8, index: &mut [u32]) -> Result<(Head, Ends), Refusal>
     requires { Fits s.now index.old }
     ensures { Answered (call_refusal call s.now) call s.now index.new result }
 {
@@ -82,7 +73,7 @@ pub fn read_call(s: &[u8], call: u8, index: &mut [u32]) -> Reading
 }
 
 // Reads a volume in the same way: a list of any call, without requests.
-pub fn read_volume(s: &[u8], index: &mut [u32]) -> Reading
+pub fn read_volume(s: &[u8], index: &mut [u32]) -> Result<(Head, Ends), Refusal>
     requires { Fits s.now index.old }
     ensures { Answered (volume_refusal s.now) 0 s.now index.new result }
 {

@@ -1,13 +1,14 @@
 // Field 1: the head of a call list.
 ghost use Rattle.std.specs.Prelude.{◌≡◌, ◌+◌, ◌≤◌, length, take, drop};
 ghost use Rattle.wire.specs.Encode.{encode_field};
-ghost use Rattle.wire.specs.Output.{Wrote};
+ghost use Rattle.wire.specs.Output.{with_bytes};
 ghost use Rattle.calls.specs.CallList.{head_of, head_body, head_ok};
 ghost use Rattle.reader.specs.CallFields.{head_within};
 ghost use Rattle.reader.specs.Heads.{call_byte, head_in, head_sizes};
 
 use wire::kinds::FileSector;
-use wire::{emit, fields, kinds, le};
+use wire::output::Output;
+use wire::{fields, kinds, le};
 
 #[derive(Clone, Copy, Drop)]
 pub struct Head {
@@ -73,26 +74,25 @@ pub fn head_within(h: Head) -> bool
 }
 
 // The first five parts of a head.
-fn put_sizes(out: &mut [u8], at: usize, h: Head) -> usize
-    ensures { Wrote out.old at 7 (head_sizes (head_in h)) out.new result }
+fn put_sizes(out: &mut Output, h: Head)
+    ensures { out.new ≡ with_bytes out.old (head_sizes (head_in h)) }
 {
-    let p = emit::put_le(out, at, 1, h.call as u64);
-    let p = emit::put_le(out, p, 2, h.bucket_sectors as u64);
-    let p = emit::put_le(out, p, 2, h.block_sectors as u64);
-    let p = emit::put_le(out, p, 1, h.option as u64);
-    emit::put_le(out, p, 1, h.roots as u64)
+    out.put_u8(h.call);
+    out.put_u16(h.bucket_sectors);
+    out.put_u16(h.block_sectors);
+    out.put_u8(h.option);
+    out.put_u8(h.roots);
 }
 
 // Field 1.
-pub fn put_head(out: &mut [u8], at: usize, h: Head) -> usize
-    ensures { Wrote out.old at 42 (encode_field (record { tag = 1; body = head_body (head_in h) })) out.new result }
+pub fn put_head(out: &mut Output, h: Head)
+    ensures { out.new ≡ with_bytes out.old (encode_field (record { tag = 1; body = head_body (head_in h) })) }
 {
-    let base = h.base;
-    let p = emit::put_head(out, at, 1, 39);
-    let p = put_sizes(out, p, h);
-    let p = emit::put_le(out, p, 4, h.reserve as u64);
-    let p = emit::put_le(out, p, 4, h.batch as u64);
-    let p = emit::put_le(out, p, 8, h.journal);
-    let p = emit::put_le(out, p, 8, h.inode);
-    emit::put_file_sector(out, p, base)
+    out.put_head(1, 39);
+    put_sizes(out, h);
+    out.put_u32(h.reserve);
+    out.put_u32(h.batch);
+    out.put_u64(h.journal);
+    out.put_u64(h.inode);
+    out.put_file_sector(h.base);
 }

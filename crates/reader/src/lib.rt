@@ -1,6 +1,7 @@
 // The readers of call lists, volumes and change lists: refusals 2, 22 and 3, the head, and a table of where each field stands.
 #![tactic(auto)]
 
+pub mod answer;
 pub mod arrange;
 pub mod call;
 pub mod change;
@@ -10,5 +11,6 @@ pub mod keys;
 pub mod limits;
 pub mod order;
 pub mod piece;
+pub mod refusal;
 pub mod survey;
 pub mod table;

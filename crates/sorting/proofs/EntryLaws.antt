@@ -12,6 +12,7 @@ use lib.Seq.{take-add, take_all, drop-drop}
 use borrow.Author.Tests.{eqb-true, leb-true, eq-eqb, ne_eqb}
 use Rattle.wire.specs.Bytes.{Bytes}
 use Rattle.wire.specs.Numbers.{le, le_bytes}
+use Rattle.wire.specs.declared.fields.FieldPlace.{FieldPlace}
 use Rattle.wire.specs.Fields.{Field, fields, field_at, step_of, found}
 use Rattle.wire.specs.Keys.{Key, pos_of}
 use Rattle.wire.specs.Encode.{head_bytes, encode_field}
@@ -43,8 +44,9 @@ step-at s at t b n e =
     (λ (k : length s - at - 3 < le 2 (drop (at + 1) s)). absurd (let d = step-long s at h k in let z : ◌≡◌ {A = ℕ} 0 1 = cc in omega arith))
     (λ (k : le 2 (drop (at + 1) s) ≤ length s - at - 3).
     let d = step-found s at h k in
-    let et : t ≡ get_or s at 0 = cc in
-    let en : n ≡ le 2 (drop (at + 1) s) = cc in
+    let r : ◌≡◌ {A = FieldPlace} (record { tag = t; start = b; len = n }) (record { tag = get_or s at 0; start = at + 3; len = le 2 (drop (at + 1) s) }) = cc in
+    let et : t ≡ get_or s at 0 = ap (λ (f : FieldPlace). f.tag) r in
+    let en : n ≡ le 2 (drop (at + 1) s) = ap (λ (f : FieldPlace). f.len) r in
     let f = field-at s at t b n e in
     let x : at ≡ b - 3 = omega (arith, f.on) in
     let y : at + 1 ≡ b - 2 = omega (arith, f.on) in

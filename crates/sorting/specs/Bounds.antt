@@ -1,20 +1,25 @@
--- Positions on one side of a bound, and between two.
-use Rattle.std.specs.Prelude.{Bool, true, not, ◌&&◌, cond}
+-- Positions on one side of a bound, and between two. No bound has all positions on either side.
+use Rattle.std.specs.Prelude.{Bool, true, not, ◌&&◌, Option, Some, None}
 use Rattle.wire.specs.Order.{pos_less}
 use Rattle.wire.specs.declared.bpos.Bpos.{Bpos}
-use Rattle.sorting.specs.declared.bound.Bound.{Bound}
+
+abbrev pub Bound : Type 0
+Bound = Option Bpos
 
 -- above it
 unfoldable pub over : Bound → Bpos → Bool
-over b p = cond b.any (pos_less b.pos p) true
+over None p = true
+over (Some q) p = pos_less q p
 
 -- below it
 unfoldable pub under : Bound → Bpos → Bool
-under b p = cond b.any (pos_less p b.pos) true
+under None p = true
+under (Some q) p = pos_less p q
 
 -- not above it
 unfoldable pub at_most : Bound → Bpos → Bool
-at_most b p = cond b.any (not (pos_less b.pos p)) true
+at_most None p = true
+at_most (Some q) p = not (pos_less q p)
 
 -- above one bound, and not above another
 unfoldable pub within : Bound → Bound → Bpos → Bool
@@ -22,4 +27,4 @@ within low high p = over low p && at_most high p
 
 -- the bound at a position
 abbrev pub upper : Bpos → Bound
-upper p = record { any = true; pos = p }
+upper p = Some p

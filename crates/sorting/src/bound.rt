@@ -1,49 +1,50 @@
 // Positions on one side of another.
 ghost use Rattle.std.specs.Prelude.{◌≡◌};
-ghost use Rattle.sorting.specs.Bounds.{over, under, within};
+ghost use Rattle.sorting.specs.Bounds.{over, under, at_most, within};
 
 use wire::bpos;
 use wire::bpos::Bpos;
 
-// All positions, or those on one side of pos.
-#[derive(Clone, Copy, Drop)]
-pub struct Bound {
-    pub any: bool,
-    pub pos: Bpos,
-}
+// The position that others lie on one side of; none bounds nothing.
+pub type Bound = Option<Bpos>;
 
 // Whether a position is above the bound.
+#[tactic(auto, unfolding(crate::specs::Bounds::over))]
 pub fn is_over(b: Bound, p: Bpos) -> bool
     ensures { result ≡ over b p }
 {
-    if b.any {
-        let q = b.pos;
-        return bpos::pos_less(q, p);
+    match b {
+        Some(q) => bpos::pos_less(q, p),
+        None => true,
     }
-    true
 }
 
 // Whether a position is below the bound.
+#[tactic(auto, unfolding(crate::specs::Bounds::under))]
 pub fn is_under(b: Bound, p: Bpos) -> bool
     ensures { result ≡ under b p }
 {
-    if b.any {
-        let q = b.pos;
-        return bpos::pos_less(p, q);
+    match b {
+        Some(q) => bpos::pos_less(p, q),
+        None => true,
     }
-    true
+}
+
+// Whether a position is not above the bound.
+#[tactic(auto, unfolding(crate::specs::Bounds::at_most))]
+fn is_at_most(b: Bound, p: Bpos) -> bool
+    ensures { result ≡ at_most b p }
+{
+    match b {
+        Some(q) => !bpos::pos_less(q, p),
+        None => true,
+    }
 }
 
 // Whether a position is above one bound, and not above another.
+#[tactic(auto, unfolding(crate::specs::Bounds::within))]
 pub fn is_within(low: Bound, high: Bound, p: Bpos) -> bool
     ensures { result ≡ within low high p }
 {
-    if !is_over(low, p) {
-        return false;
-    }
-    if !high.any {
-        return true;
-    }
-    let past = bpos::pos_less(high.pos, p);
-    !past
+    is_over(low, p) && is_at_most(high, p)
 }

@@ -7,15 +7,6 @@ use wire::bpos::Bpos;
 use wire::fields::FieldPlace;
 use wire::{fields, keys, kinds, positions};
 
-// What stands next of a section.
-#[derive(Clone, Copy, Drop)]
-pub enum NextEntry {
-    // A key: its body starts at start and is len bytes long.
-    Found { start: usize, len: usize },
-    // No key of the section is left.
-    Stop,
-}
-
 // The section of the reserved buckets.
 pub const BUCKETS: u8 = 64;
 
@@ -36,32 +27,23 @@ pub fn section_at(i: usize) -> u8
 }
 
 // Whether a field is a bucket that is reserved, in a volume or by a change list, or unreserved.
+#[tactic(auto, unfolding(crate::specs::Entries::is_bucket))]
 fn is_bucket(tag: u8, len: usize) -> bool
     ensures { result ≡ is_bucket tag len }
 {
-    if len != 4 {
-        return false;
-    }
-    if tag == 64 {
-        return true;
-    }
-    if tag == 71 {
-        return true;
-    }
-    tag == 75
+    len == 4 && matches!(tag, 64 | 71 | 75)
 }
 
 // Whether a field with a tag and a length is of a section.
+#[tactic(auto, unfolding(crate::specs::Entries::is_entry))]
 fn is_entry(section: u8, tag: u8, len: usize) -> bool
     ensures { result ≡ is_entry section tag len }
 {
     if section == BUCKETS {
-        return is_bucket(tag, len);
+        is_bucket(tag, len)
+    } else {
+        tag == section && keys::key_sized(len)
     }
-    if tag != section {
-        return false;
-    }
-    keys::key_sized(len)
 }
 
 // The position of the key whose body starts at o. `next_entry` and the table of a volume show that one does, here and below.
@@ -70,9 +52,10 @@ pub fn pos_at(s: &[u8], o: usize, section: u8) -> Bpos
     ensures { result ≡ (entry_from section s.now o).pos }
 {
     if section == BUCKETS {
-        return positions::alloc_at(kinds::read_bucket(s, o));
+        positions::alloc_at(kinds::read_bucket(s, o))
+    } else {
+        keys::pos_at(s, o)
     }
-    keys::pos_at(s, o)
 }
 
 // Its type; a bucket that is unreserved has type 0.
@@ -80,28 +63,26 @@ pub fn type_at(s: &[u8], o: usize, section: u8) -> u8
     requires { EntryAt section s.now o }
     ensures { result ≡ (entry_from section s.now o).type }
 {
-    if section == BUCKETS {
-        if fields::tag_at(s, o) == 75 {
-            return 0;
-        }
-        return 1;
+    if section != BUCKETS {
+        keys::type_at(s, o)
+    } else if fields::tag_at(s, o) == 75 {
+        0
+    } else {
+        1
     }
-    keys::type_at(s, o)
 }
 
-// The next key of a section from a place on. The place after a key, or 0, shows the bound.
-pub fn next_entry(s: &[u8], from: usize, section: u8) -> NextEntry
+// The next key of a section from a place on; none where no key of the section is left. The place after a key, or 0, shows the bound.
+pub fn next_entry(s: &[u8], from: usize, section: u8) -> Option<FieldPlace>
     requires { from ≤ length s.now }
     ensures { EntryStepped s.now from section result }
 {
     let mut at = from;
-    loop {
-        let Some(FieldPlace { tag, start, len }) = fields::next_field(s, at) else {
-            return NextEntry::Stop;
-        };
-        if is_entry(section, tag, len) {
-            return NextEntry::Found { start, len };
+    while let Some(field) = fields::next_field(s, at) {
+        if is_entry(section, field.tag, field.len) {
+            return Some(field);
         }
-        at = start + len;
+        at = field.start + field.len;
     }
+    None
 }

@@ -11,10 +11,10 @@ fn is_ahead(s: &[u8], t: &[usize], i: usize) -> bool
     requires { (i < length t.now) × All (FieldInside s.now) (drop i t.now) }
     ensures { result ≡ ahead (place_less s.now) (get_or t.now i 0) (drop (i + 1) t.now) }
 {
-    if t.len() - 1 <= i {
-        return true;
+    match t.get(i + 1) {
+        Some(next) => places::before(s, t[i], *next),
+        None => true,
     }
-    places::before(s, t[i], t[i + 1])
 }
 
 // Of places in order, the last at each position, moved to the front in order. The caller's table shows the bounds.
@@ -23,14 +23,10 @@ pub fn keep_last(s: &[u8], t: &mut [usize]) -> usize
     ensures { (result ≤ length t.new) × (take result t.new ≡ lasts (place_less s.now) t.old) }
 {
     let mut n = 0;
-    let mut i = 0;
-    while i < t.len() {
+    for i in 0..t.len() {
         if is_ahead(s, t, i) {
             t[n] = t[i];
             n += 1;
-            i += 1;
-        } else {
-            i += 1;
         }
     }
     n

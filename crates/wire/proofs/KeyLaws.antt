@@ -1,13 +1,13 @@
 -- Laws of reading keys: a key at its place, one field's part of a tree's keys, and the copy of a value.
-use Prim.Native.Nat.{ℕ, zero, suc, ◌+◌, ◌-◌, ◌<◌, ◌≤◌}
+use Prim.Native.Nat.{ℕ, zero, suc, ◌+◌, ◌-◌, ◌≤◌}
 use mathlib.Core.Path.{◌≡◌}
 use mathlib.Core.List.{List, [], ◌∷◌, ◌++◌}
-use lib.ListN.{length, take, drop, get_or, set, replicate, length-drop}
-use lib.Seq.{drop-drop, take-nil, set_at, take-suc, append_snoc, length-take-le, take-append_seam}
+use lib.ListN.{length, take, drop, replicate, length-drop}
+use lib.Seq.{drop-drop, take-nil, take-append_seam}
 use borrow.Author.Tests.{le-leb, eq-eqb}
 use native.Mathlib.Nat.{add_assoc, add-zero}
-use native.Mathlib.Numerals.{add-one}
 use native.Mathlib.Omega.{arith}
+use Rattle.std.proofs.lemmas.List.{drop-replicate}
 use Rattle.wire.specs.Numbers.{le}
 use Rattle.wire.specs.Fields.{Field, field_at}
 use Rattle.wire.specs.Keys.{Key, pos_of, key_of, key_sized, is_key, keys}
@@ -67,20 +67,14 @@ module _ (s : List ℕ) (t tag b n : ℕ) (fits : b + n ≤ length s) (fs : List
   unfolding keys is_key key_sized
   keys-take e l m = simp (eq-eqb tag t e, body-length s b n fits, le-leb 37 n l, le-leb n 293 m)
 
--- a turn of a loop that copies bytes to the front of zeros
-pub copy_more :
-    (v : List ℕ) (i n : ℕ) → i < length v → i < n
-    → set (take i v ++ replicate (n - i) 0) i (get_or v i 0) ≡ take (i + 1) v ++ replicate (n - (i + 1)) 0
-copy_more v i n h k =
-    let e : n - i ≡ suc (n - suc i) = omega arith in
-    rw (e, set_at (take i v) 0 (replicate (n - suc i) 0) (get_or v i 0) i (length-take-le i v (omega arith)), add-one, take-suc v i 0 h, append_snoc)
-
--- what is copied in the end
-pub value-is :
-    (s bytes : List ℕ) (start len i : ℕ) → start + len ≤ length s → i ≡ len
-    → bytes ≡ take i (drop start s) ++ replicate (256 - i) 0
-    → ◌≡◌ {A = Value} (record { bytes = bytes; len = len }) (padded (take len (drop start s)))
-value-is s bytes start len i fits e h = simp (h, e, body-length s start len fits)
+-- a value whose bytes are copied to the front of zeros
+pub copied :
+    (s bytes : List ℕ) (from len : ℕ) → from + len ≤ length s → bytes ≡ take (from + len - from) (drop from s)
+    → ◌≡◌ {A = Value} (record { bytes = bytes ++ drop {A = ℕ} len (replicate 256 0); len = len }) (padded (take len (drop from s)))
+copied s bytes from len fits e =
+    let z : from + len - from ≡ len = omega arith in
+    let r : drop {A = ℕ} len (replicate 256 0) ≡ replicate (256 - len) 0 = drop-replicate len 256 0 in
+    rw (body-length s from len fits, e, z, r)
 
 pub value_in_lem : (v : List ℕ) → value_in (padded v) ≡ v
 value_in_lem v = take-append_seam v (replicate (256 - length v) 0)

@@ -1,3 +1,4 @@
+pub mod AppendLaws
 pub mod BucketTables
 pub mod DryRun
 pub mod EmitLaws

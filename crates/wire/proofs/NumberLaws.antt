@@ -4,7 +4,7 @@ use mathlib.Core.Path.{◌≡◌, refl, ap}
 use mathlib.Core.List.{List, [], ◌∷◌, ◌++◌}
 use lib.ListN.{length, get_or, drop, take, length-take, length-drop}
 use lib.Seq.{get_or-drop, drop-drop}
-use native.Mathlib.Nat.{zero-add, add-zero, suc-add, one-le-pow, pow-suc, pow-zero, mul_assoc, mul_comm}
+use native.Mathlib.Nat.{add_assoc, zero-add, add-zero, suc-add, one-le-pow, pow-suc, pow-zero, mul_assoc, mul_comm}
 use native.Mathlib.Omega.{arith}
 use Rattle.wire.specs.Numbers.{le, le_bytes}
 use Rattle.wire.specs.Bytes.{All, none, more, Bytes}
@@ -62,6 +62,26 @@ byte-front (b ∷ s) = omega arith
 
 pub le-byte : (s : List ℕ) (at : ℕ) → le 1 (drop at s) ≡ get_or s at 0
 le-byte s at = rw (byte-front, get_or-drop, add-zero)
+
+-- the number at a place by its bytes
+module _ (s : List ℕ) where
+  pub two_bytes : (at : ℕ) → le 2 (drop at s) ≡ get_or s at 0 + 256 * get_or s (at + 1) 0
+  two_bytes at = omega (arith, le-at 1 1 s at, le-byte s at, le-byte s (at + 1))
+
+  pub four_bytes :
+      (at : ℕ)
+      → le 4 (drop at s) ≡ get_or s at 0 + 256 * get_or s (at + 1) 0 + 65536 * get_or s (at + 2) 0 + 16777216 * get_or s (at + 3) 0
+  four_bytes at = omega (arith, le-at 2 2 s at, two_bytes at, rw add_assoc at (two_bytes (at + 2)))
+
+  pub eight_bytes :
+      (at : ℕ)
+      → le 8 (drop at s)
+      ≡ get_or s at 0 + 256 * get_or s (at + 1) 0 + 65536 * get_or s (at + 2) 0 + 16777216 * get_or s (at + 3) 0
+      + 4294967296 * get_or s (at + 4) 0 + 1099511627776 * get_or s (at + 5) 0 + 281474976710656 * get_or s (at + 6) 0
+      + 72057594037927936 * get_or s (at + 7) 0
+  eight_bytes at = omega (arith, le-at 4 4 s at, four_bytes at, simp add_assoc at (four_bytes (at + 4)))
+
+pub ruleset numbers_at = (le-byte, two_bytes, four_bytes, eight_bytes)
 
 -- a number within the first m bytes
 pub le-take : (n m : ℕ) (s : List ℕ) → n ≤ m → le n (take m s) ≡ le n s

@@ -6,6 +6,7 @@ use Prim.Native.Nat.{ℕ, ◌<◌, compare, Ordering}
 use native.Mathlib.Omega.{arith}
 use lib.Dec.{ltb, eqb, is_le, compare_is_eq}
 use borrow.Author.Tests.{leb-true, leb-false, eqb-true, eqb-false, lt-ltb, le-ltb}
+use Rattle.std.proofs.lemmas.Bool.Decides.{nat_tests}
 use Rattle.wire.specs.Order.{or_then, cmp, is_less, pos_less, pos_same}
 use Rattle.wire.specs.declared.bpos.Bpos.{Bpos}
 
@@ -138,7 +139,7 @@ pos-cmp =
     (λ p. p.inode) (λ p. (p.offset, p.snapshot))
     (λ x y p q. λ i. record { inode = p i; offset = (q i).0; snapshot = (q i).1 })
 
--- the last test of `pos_less` and of `pos_same`
+-- the comparison of two numbers, where nothing else tells
 less-is : (x y : ℕ) → is_less (compare x y) ≡ ltb x y
 less-is x y = go (compare x y) refl
   where
@@ -147,7 +148,7 @@ less-is x y = go (compare x y) refl
     go Ordering.eq e = sym (le-ltb x y (omega (arith, use-eq x y e)))
     go Ordering.gt e = sym (le-ltb x y (omega (arith, use-gt x y e)))
 
--- the tests of `pos_less`
+-- positions compared by their parts
 module _ (a b : Bpos) where
   pub inode-less : a.inode < b.inode → pos_less a b ≡ true
   unfolding pos_less cmp
@@ -192,6 +193,11 @@ module _ (a b : Bpos) where
     pub snapshot-same : a.offset ≡ b.offset → pos_same a b ≡ eqb a.snapshot b.snapshot
     unfolding pos_same cmp
     snapshot-same o = simp (mk-eq a.inode b.inode i, mk-eq a.offset b.offset o)
+
+-- each answer of the derived order, by the parts
+pub ruleset parts_compared = (nat_tests, inode-less, inode-more, offset-less, offset-more, snapshot-less)
+
+pub ruleset parts_same = (nat_tests, other-inode, other_offset, snapshot-same)
 
 -- a position that stands before another, by the comparison
 pub less-cmp : (a b : Bpos) → pos_less a b ≡ true → cmp a b ≡ Ordering.lt

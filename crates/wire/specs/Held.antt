@@ -36,6 +36,17 @@ key_in k =
       value = value_in k.value;
     }
 
+-- what stands before its value
+abbrev pub head_in : Bkey → KeyHead
+head_in k =
+    record {
+      key_type = k.key_type;
+      size = k.size;
+      version_hi = k.version_hi;
+      version_lo = k.version_lo;
+      pos = k.pos;
+    }
+
 -- the key that a value makes of what stands before it
 abbrev pub key_with : KeyHead → List ℕ → Key
 key_with h v =

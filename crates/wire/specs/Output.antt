@@ -1,6 +1,7 @@
 -- What an emitter promises. A store past the end of the output does nothing, so that a run into a short output tells the length of what it would write.
-use Rattle.std.specs.Prelude.{◌≡◌, ℕ, ◌+◌, ◌≤◌, min, List, length}
+use Rattle.std.specs.Prelude.{◌≡◌, ℕ, ◌+◌, ◌-◌, ◌≤◌, min, max, List, length, take}
 use Rattle.std.proofs.lemmas.List.Edits.{sets}
+use Rattle.wire.specs.declared.output.Output.{Output}
 
 -- xs with the bytes of bs stored from index at on, those past its end left out
 unfoldable pub put : List ℕ → ℕ → List ℕ → List ℕ
@@ -20,3 +21,15 @@ pub record Wrote (xs : List ℕ) (at n : ℕ) (bs ys : List ℕ) (r : ℕ) : Typ
 -- the same where the bytes themselves say how many they are
 abbrev pub Emitted : List ℕ → ℕ → List ℕ → List ℕ → ℕ → Type 0
 Emitted xs at bs ys r = Wrote xs at (length bs) bs ys r
+
+-- The last place that an output counts to; no slice is as long.
+abbrev pub cap : ℕ
+cap = 0xffff_ffff_ffff_ffff
+
+-- o after these bytes were put into it from its place on: those past the end of its slice are left out, and counted all the same
+unfoldable pub with_bytes : Output → List ℕ → Output
+with_bytes o bs =
+    record {
+      bytes = record o.bytes { now = put o.bytes.now o.at (take (cap - o.at) bs) };
+      at = max o.at (min (o.at + length bs) cap);
+    }

@@ -5,7 +5,7 @@ ghost use Rattle.wire.specs.Order.{pos_less, pos_same};
 
 use crate::le;
 
-#[derive(Clone, Copy, Drop)]
+#[derive(Clone, Copy, PartialEq, Eq, PartialOrd, Ord, Drop)]
 pub struct Bpos {
     pub inode: u64,
     pub offset: u64,
@@ -25,33 +25,17 @@ pub fn read_pos(s: &[u8], at: usize) -> Bpos
 }
 
 // Whether a stands before b.
+#[tactic(auto, using(crate::proofs::OrderLaws::parts_compared))]
 pub fn pos_less(a: Bpos, b: Bpos) -> bool
     ensures { result ≡ pos_less a b }
 {
-    if a.inode < b.inode {
-        return true;
-    }
-    if b.inode < a.inode {
-        return false;
-    }
-    if a.offset < b.offset {
-        return true;
-    }
-    if b.offset < a.offset {
-        return false;
-    }
-    a.snapshot < b.snapshot
+    a < b
 }
 
 // Whether two positions are the same.
+#[tactic(auto, using(crate::proofs::OrderLaws::parts_same))]
 pub fn pos_same(a: Bpos, b: Bpos) -> bool
     ensures { result ≡ pos_same a b }
 {
-    if a.inode != b.inode {
-        return false;
-    }
-    if a.offset != b.offset {
-        return false;
-    }
-    a.snapshot == b.snapshot
+    a == b
 }

@@ -2,7 +2,7 @@
 ghost use Rattle.std.specs.Prelude.{◌≡◌, ◌+◌, ◌≤◌, ◌&&◌, leb, length, take, drop};
 ghost use Rattle.wire.specs.Numbers.{le};
 ghost use Rattle.wire.specs.Keys.{key_of, pos_of};
-ghost use Rattle.wire.specs.Held.{padded, held};
+ghost use Rattle.wire.specs.Held.{padded, held, head_in};
 
 use crate::bpos::Bpos;
 use crate::{bpos, le};
@@ -33,17 +33,28 @@ pub struct KeyHead {
     pub pos: Bpos,
 }
 
+impl Bkey {
+    // What stands before the value.
+    pub fn head(&self) -> KeyHead
+        ensures { result ≡ head_in self.now }
+    {
+        KeyHead {
+            key_type: self.key_type,
+            size: self.size,
+            version_hi: self.version_hi,
+            version_lo: self.version_lo,
+            pos: self.pos,
+        }
+    }
+}
+
 // The value of len bytes at a place of a list. The length of a key's field shows the bounds.
 pub fn read_value(s: &[u8], from: usize, len: usize) -> Value
     requires { (from + len ≤ length s.now) × (len ≤ 256) }
     ensures { result ≡ padded (take len (drop from s.now)) }
 {
     let mut bytes = [0u8; 256];
-    let mut i: usize = 0;
-    while i < len {
-        bytes[i] = s[from + i];
-        i += 1;
-    }
+    bytes[..len].copy_from_slice(&s[from..from + len]);
     Value { bytes, len }
 }
 
@@ -66,10 +77,7 @@ pub fn read_key(s: &[u8], start: usize, len: usize) -> Bkey
 pub fn key_sized(len: usize) -> bool
     ensures { result ≡ (leb 37 len && leb len 293) }
 {
-    if len < 37 {
-        return false;
-    }
-    len <= 293
+    (37..=293).contains(&len)
 }
 
 // The type of the key whose body starts at a place. The length of a key's field shows the bounds, here and below.

@@ -4,13 +4,13 @@ ghost use Rattle.wire.specs.Kinds.{sector_at, bucket_of, offset_in, extent_end, 
 
 use crate::le;
 
-#[derive(Clone, Copy, Drop)]
+#[derive(Clone, Copy, PartialEq, Eq, PartialOrd, Ord, Drop)]
 pub struct Bucket(pub u64);
 
-#[derive(Clone, Copy, Drop)]
+#[derive(Clone, Copy, PartialEq, Eq, PartialOrd, Ord, Drop)]
 pub struct DeviceSector(pub u64);
 
-#[derive(Clone, Copy, Drop)]
+#[derive(Clone, Copy, PartialEq, Eq, PartialOrd, Ord, Drop)]
 pub struct FileSector(pub u64);
 
 // The sector at an offset into a bucket. The limits show the bucket's bound, two-byte fields the others.
@@ -57,14 +57,14 @@ pub fn next_bucket(b: Bucket) -> Bucket
 pub fn same_bucket(a: Bucket, b: Bucket) -> bool
     ensures { result ≡ same_bucket a b }
 {
-    a.0 == b.0
+    a == b
 }
 
 // Whether a bucket comes before another.
 pub fn bucket_below(a: Bucket, b: Bucket) -> bool
     ensures { result ≡ bucket_below a b }
 {
-    a.0 < b.0
+    a < b
 }
 
 // Whether a bucket number is within FORMAT.md's limit.
@@ -92,10 +92,7 @@ pub fn began_before(end: Bucket, size: u32) -> bool
 pub fn run_start(end: Bucket, size: u32) -> Bucket
     ensures { result ≡ run_start end size }
 {
-    if began_before(end, size) {
-        return Bucket(0);
-    }
-    Bucket(end.0 - size as u64)
+    Bucket(end.0.saturating_sub(size as u64))
 }
 
 // How many buckets stand from a first one up to an end, the end left out. The limits show the bound.
@@ -118,7 +115,7 @@ pub fn read_bucket(s: &[u8], at: usize) -> Bucket
 pub fn base_in_range(f: FileSector) -> bool
     ensures { result ≡ base_in_range f }
 {
-    f.0 < 1099511627776
+    f.0 < 1 << 40
 }
 
 // A device sector as a pointer has it.

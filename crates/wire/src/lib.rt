@@ -8,5 +8,6 @@ pub mod fields;
 pub mod keys;
 pub mod kinds;
 pub mod le;
+pub mod output;
 pub mod positions;
 pub mod rows;

@@ -12,7 +12,7 @@ pub fn extent_at(inode: u64, end: FileSector) -> Bpos
     Bpos {
         inode,
         offset: end.0,
-        snapshot: 4294967295,
+        snapshot: u32::MAX,
     }
 }
 
@@ -33,7 +33,7 @@ pub fn lru_at(index: u64, b: Bucket) -> Bpos
     ensures { result ≡ lru_at index b }
 {
     Bpos {
-        inode: 2305843009213693952 + index,
+        inode: (1 << 61) + index,
         offset: b.0,
         snapshot: 0,
     }

@@ -1,12 +1,14 @@
 // Rows of signed counters.
-ghost use Rattle.std.specs.Prelude.{◌≡◌, ◌+◌, ◌*◌, ◌<◌, ◌≤◌, ◌^◌, [], ◌∷◌, pos, neg_ℤ, ◌+ℤ◌, get_or};
+ghost use Rattle.std.specs.Prelude.{◌≡◌, ◌+◌, ◌*◌, ◌<◌, ◌≤◌, ◌^◌, [], ◌∷◌, pos, neg_ℤ, ◌+ℤ◌, get_or, length};
 ghost use Rattle.std.specs.Int.{w64};
 ghost use Rattle.std.proofs.Common.{SFits, of_z};
-ghost use Rattle.wire.specs.Output.{Wrote};
+ghost use Rattle.wire.specs.Output.{Wrote, with_bytes};
+ghost use Rattle.wire.specs.Numbers.{each};
 ghost use Rattle.wire.specs.Encode.{encode_field};
 ghost use Rattle.wire.specs.Rows.{signed_bytes, row_field, added, counters_in};
 
 use crate::emit;
+use crate::output::Output;
 
 // The inode and the offset of a row's place, and its first `width` numbers.
 #[derive(Clone, Copy, Drop)]
@@ -97,4 +99,33 @@ pub fn put_row(out: &mut [u8], at: usize, r: Row) -> usize
         i += 1;
     }
     p
+}
+
+impl<'a> Output<'a> {
+    // A signed number in eight bytes.
+    pub fn put_i64(&mut self, x: i64)
+        ensures { self.new ≡ with_bytes self.old (signed_bytes x) }
+    {
+        self.put_u64(bits(x));
+    }
+
+    // Signed numbers.
+    fn put_numbers(&mut self, numbers: &[i64])
+        ensures { self.new ≡ with_bytes self.old (each signed_bytes numbers.now) }
+    {
+        for x in numbers {
+            self.put_i64(*x);
+        }
+    }
+
+    // A row: tag 73. Rows have one number or three.
+    pub fn put_row(&mut self, inode: u64, offset: u64, numbers: &[i64])
+        requires { length numbers.now ≤ 3 }
+        ensures { self.new ≡ with_bytes self.old (encode_field (row_field (record { inode = inode; offset = offset; numbers = numbers.now }))) }
+    {
+        self.put_head(73, 16 + 8 * numbers.len());
+        self.put_u64(inode);
+        self.put_u64(offset);
+        self.put_numbers(numbers);
+    }
 }

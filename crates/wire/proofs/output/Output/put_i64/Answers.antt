@@ -1,0 +1,8 @@
+use mir.Syntax.{w64}
+use mir.ValLaws.{to_z-of_z}
+use Rattle.wire.specs.Rows.{signed_bytes}
+use Rattle.wire.proofs.output.Output.put_i64.Goals as goal
+
+pub returns : goal.returns
+unfolding signed_bytes
+returns c = rw (c.bits.ensures, to_z-of_z w64 c.args.x c.ranges.x) at c.put_u64.ensures
