@@ -8,7 +8,7 @@ use lib.ListN.{length, drop, drop_of_length-le}
 use lib.Dec.{leb, eqb}
 use borrow.Author.Tests.{eqb-true, le-leb}
 use native.Mathlib.Omega.{arith}
-use Rattle.wire.specs.Fields.{Field, fields_after, fields, field_at, step_of, whole, found}
+use Rattle.wire.specs.Fields.{Field, fields_after, fields, field_at, step_of, whole}
 use Rattle.wire.proofs.FieldLaws.{FieldAt, FieldsWalked, walked_none, walked_more, whole-end, whole-left}
 use Rattle.calls.specs.Lists.{all_of, in_order}
 use Rattle.calls.specs.CallList.{shaped}

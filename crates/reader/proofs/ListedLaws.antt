@@ -109,9 +109,3 @@ listed_below (freed c e l) = omega arith
 -- a tag of a tree, or one above them
 abbrev pub Tagged : ℕ → Type 0
 Tagged t = KeyTag t ⊎ (14 < t)
-
-pub listed-tagged : {call t n : ℕ} → FieldListed call t n → Tagged t
-listed-tagged (key k l m) = inl k
-listed-tagged (reserved e l) = inr (omega arith)
-listed-tagged (piece c e l) = inr (omega arith)
-listed-tagged (freed c e l) = inr (omega arith)

@@ -6,7 +6,7 @@ use mathlib.Core.List.{List, [], ◌∷◌, map, append-nil}
 use mathlib.Core.Bool.{Bool, true, false, cond}
 use lib.ListN.{length, take, drop, get_or, length-map, drop_of_length-le}
 use lib.Dec.{eqb}
-use borrow.Author.Tests.{ne_eqb, eq-eqb, eqb-true, eqb-false}
+use borrow.Author.Tests.{ne_eqb, eqb-true, eqb-false}
 use native.Mathlib.Omega.{arith}
 use Rattle.wire.specs.Fields.{Field, fields_after, fields, field_at, whole}
 use Rattle.wire.proofs.FieldLaws.{whole-end}

@@ -42,11 +42,13 @@ fn read_list(s: &[u8], asked: Option<u8>, index: &mut [u32]) -> Result<(Head, En
     ensures { Answered (list_refusal (unwrap_or asked 0) (is_none asked) s.now) (unwrap_or asked 0) s.now index.new result }
 {
     let mut counts = [0usize; 8];
-    let Some(Laid {
-        head,
-        over,
-        ordered,
-    }) = survey::survey(s, asked, &mut counts, index)
+    let Some(
+        Laid {
+            head,
+            over,
+            ordered,
+        },
+    ) = survey::survey(s, asked, &mut counts, index)
     else {
         return Err(Refusal::Layout);
     };

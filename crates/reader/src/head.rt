@@ -31,7 +31,11 @@ pub fn call_byte(s: &[u8]) -> u8
     let mut at: usize = 0;
     while let Some(field) = fields::next_field(s, at) {
         if field.tag == 1 {
-            return if field.len == 0 { 0 } else { le::le8(s, field.start) };
+            return if field.len == 0 {
+                0
+            } else {
+                le::le8(s, field.start)
+            };
         }
         at = field.start + field.len;
     }

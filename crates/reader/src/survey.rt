@@ -61,8 +61,7 @@ fn passes(
     requires { (start + least_of tag ≤ length s.now) × (over ≡ false → Free counts.old (rank_of tag) n index.old) }
     ensures { FieldNoted s.now over tag start n counts.old counts.new index.old index.new result }
 {
-    over
-        || !limits::field_within(s, tag, start)
+    over || !limits::field_within(s, tag, start)
         || !table::note(counts, index, table::rank_of(tag), n, start)
 }
 

@@ -3,8 +3,8 @@ use Rattle.reader.proofs.ListRefusalLaws.{broken}
 use Rattle.reader.proofs.ReadLaws.{past-asked, read_past, table_fits, table-sortable, read-ordered, read_twice, read-sorted}
 use Rattle.reader.proofs.call.read_list.Goals as goal
 
-pub returns-else : goal.returns-else
-returns-else c = broken _ _ _ (c.survey.ensures.broken c.else.is)
+pub returns-in_default : goal.returns-in_default
+returns-in_default c = broken _ _ _ (c.survey.ensures.broken c.in_default.is)
 
 pub read_head-first-requires : goal.read_head-first-requires
 read_head-first-requires c = (c.survey.ensures.found _ c.in-Some.is).inside
@@ -27,15 +27,16 @@ returns-then-ordered c =
 
 pub sort_table-requires : goal.sort_table-requires
 sort_table-requires c =
-    table-sortable (c.survey.ensures.found _ c.in-Some.is) _ c.read_head-first.ensures (sym c.past_limit.ensures ∙ c.if-past_limit.false) _
-    c.ends_of-ends.ensures
+    rw c.unwrap_or.ensures
+    (table-sortable (c.survey.ensures.found _ c.in-Some.is) _ c.read_head-first.ensures (sym c.past_limit.ensures ∙ c.if-past_limit.false) _
+    c.ends_of-ends.ensures)
 
 pub returns-then-sort_table : goal.returns-then-sort_table
 returns-then-sort_table c =
     read_twice (c.survey.ensures.found _ c.in-Some.is) _ c.read_head-first.ensures (sym c.past_limit.ensures ∙ c.if-past_limit.false)
-    _ c.if-sort_table.true c.sort_table.ensures
+    _ c.if-sort_table.true (rw c.unwrap_or.ensures at c.sort_table.ensures)
 
 pub returns : goal.returns
 returns c =
     read-sorted (c.survey.ensures.found _ c.in-Some.is) _ c.read_head-first.ensures (sym c.past_limit.ensures ∙ c.if-past_limit.false) _
-    c.ends_of-ends.ensures (search rules) _ c.if-sort_table.false c.sort_table.ensures
+    c.ends_of-ends.ensures (search rules) _ c.if-sort_table.false (rw c.unwrap_or.ensures at c.sort_table.ensures)

@@ -1,4 +1,4 @@
-use Rattle.std.proofs.Common.{◌≡◌, ℕ, sym, ◌∙◌, arith}
+use Rattle.std.proofs.Common.{sym, ◌∙◌, arith}
 use Rattle.wire.proofs.FieldLaws.{field-at}
 use Rattle.reader.proofs.ChangeLaws.{breaks, ends, bad, back, goes_on}
 use Rattle.reader.proofs.change.check_change.Goals.{then-not-field_ok-via-then-not-field_ok, then-not-field_ok-via-else-not-field_ok+then-not-tag_after}
@@ -14,9 +14,9 @@ pub returns-then-not-field_ok : goal.returns-then-not-field_ok
 returns-then-not-field_ok c =
     let f = field-at _ _ _ _ _ (sym c.next_field.ensures ∙ c.in-Some.is) in
     elim c.then-not-field_ok.branch [
-      then-not-field_ok-via-then-not-field_ok w ↦
+      | then-not-field_ok-via-then-not-field_ok w ↦
           sym (bad _ _ _ c.loop-at.invariant _ _ _ f (sym c.field_ok.ensures ∙ w.if-not-field_ok.true))
-    | then-not-field_ok-via-else-not-field_ok+then-not-tag_after w ↦
+      | then-not-field_ok-via-else-not-field_ok+then-not-tag_after w ↦
           sym (back _ _ _ c.loop-at.invariant _ _ _ f (sym w.tag_after.ensures ∙ w.if-not-tag_after.true))
     ]
 

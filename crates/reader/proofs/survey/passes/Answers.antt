@@ -7,6 +7,6 @@ pub note-requires : goal.note-requires
 note-requires c =
     rw c.rank_of.ensures
     (elim c.if-over.branch [
-      then-over w ↦ absurd (let z : ◌≡◌ {A = ℕ} 0 1 = cc in omega arith)
-    | else-over w ↦ (rank_below _, c.requires.1 w.if-over.false)
+      | then-over w ↦ absurd (let z : ◌≡◌ {A = ℕ} 0 1 = cc in omega arith)
+      | else-over w ↦ (rank_below _, c.requires.1 w.if-over.false)
     ])

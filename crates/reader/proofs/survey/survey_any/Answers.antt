@@ -1,4 +1,4 @@
-use Rattle.std.proofs.Common.{◌≡◌, ℕ, sym, ◌∙◌, refl, arith, false}
+use Rattle.std.proofs.Common.{sym, ◌∙◌, refl, arith, false}
 use Rattle.calls.proofs.lists.BoolLaws.{clash}
 use Rattle.wire.proofs.FieldLaws.{field-at}
 use Rattle.reader.proofs.SurveyLaws.{going_start, breaks, second, bad-head, goes-head, bad-beside, next-within, next-free, goes_on}
@@ -48,10 +48,10 @@ returns-then-tag-ne1 c =
     let f = field-at _ _ _ _ _ (sym c.next_field.ensures ∙ c.in_ok-tag.was) in
     broken-found
     (elim c.then-tag-ne1.branch [
-      then-tag-ne1-via-then-tag-ne1 w ↦
+      | then-tag-ne1-via-then-tag-ne1 w ↦
           bad-beside _ _ _ _ _ _ _ _ _ _ _ c.loop-at.invariant _ _ _ f w.if-tag-ne1.true (sym c.field_ok.ensures ∙ c.if-field_ok.false)
-    | then-tag-ne1-via-else-tag-ne1+then-is_some w ↦ second _ _ _ _ _ _ _ _ _ _ _ c.loop-at.invariant _ _ _ f w.if-tag-ne1.false (sym w.is_some.ensures ∙ w.if-is_some.true)
-    | then-tag-ne1-via-else-tag-ne1+else-is_some+then-not-head_field_ok w ↦
+      | then-tag-ne1-via-else-tag-ne1+then-is_some w ↦ second _ _ _ _ _ _ _ _ _ _ _ c.loop-at.invariant _ _ _ f w.if-tag-ne1.false (sym w.is_some.ensures ∙ w.if-is_some.true)
+      | then-tag-ne1-via-else-tag-ne1+else-is_some+then-not-head_field_ok w ↦
           bad-head _ _ _ _ _ _ _ _ _ _ _ c.loop-at.invariant _ _ _ f w.if-tag-ne1.false
           (sym w.head_field_ok.ensures ∙ w.if-not-head_field_ok.true)
     ])

@@ -1,5 +1,5 @@
 -- What is left of the list decides its layout, and no limit was passed yet or one was; no order is told.
-use Rattle.std.proofs.Common.{◌≡◌, length, unwrap_or, is_none, ◌-◌}
+use Rattle.std.proofs.Common.{length, unwrap_or, is_none, ◌-◌}
 use Rattle.reader.proofs.SurveyLaws.{Going}
 use Rattle.reader.proofs.survey.survey_any.Given as goal
 

@@ -1,8 +1,8 @@
-use Rattle.std.proofs.Common.{◌≡◌, ℕ, sym, ◌∙◌, refl, arith, true}
+use Rattle.std.proofs.Common.{sym, ◌∙◌, refl, arith, true}
 use Rattle.wire.proofs.FieldLaws.{field-at}
 use Rattle.reader.proofs.SurveyLaws.{next-within, last_within, next-free, next-below, goes_after}
 use Rattle.reader.proofs.SurveyStartLaws.{first-going}
-use Rattle.reader.proofs.SurveyEndLaws.{ends_found, unordered-found, ordered-found}
+use Rattle.reader.proofs.SurveyEndLaws.{ends_found, ordered-found}
 use Rattle.reader.proofs.survey.survey_ordered.Goals as goal
 
 pub overflow_add-at : goal.overflow_add-at
