@@ -29,11 +29,7 @@ fn head_field_ok(s: &[u8], asked: Option<u8>, start: usize, len: usize) -> bool
         return false;
     }
     let first = head::read_head(s, start);
-    head::head_ok(first)
-        && match asked {
-            None => true,
-            Some(call) => first.call == call,
-        }
+    head::head_ok(first) && asked.unwrap_or(first.call) == first.call
 }
 
 // Where the body of such a field 1 starts, if one stands first.
