@@ -1,5 +1,5 @@
 // The answer of a call that wrote its bytes, or of one whose bytes have no room.
-ghost use Rattle.std.specs.Prelude.{◌≡◌, List, ℕ, [], length, min};
+ghost use Rattle.std.specs.Prelude.{◌≡◌, List, ℕ, [], ◌++◌, ◌≤◌, length, drop, min};
 ghost use Rattle.wire.specs.Output.{cap, with_bytes};
 ghost use Rattle.calls.specs.Answers.{answer, outcome};
 ghost use Rattle.reader.specs.Refusals.{made_by};
@@ -25,6 +25,15 @@ fn emitted_length<E: Emit>(e: &E) -> usize
     dry.at
 }
 
+// The bytes are put at the front of a slice that has room for them.
+pub fn put_into<E: Emit>(e: &E, out: &mut [u8])
+    requires { length (E.bytes e.now) ≤ length out.old }
+    ensures { out.new ≡ E.bytes e.now ++ drop (length (E.bytes e.now)) out.old }
+{
+    let mut front = Output::new(out);
+    e.emit(&mut front);
+}
+
 // Refusal 21, with nothing written, or the bytes, and how many they are.
 pub fn written<E: Emit>(e: &E, out: &mut [u8]) -> Result<usize, Refusal>
     ensures { made_by result out.new ≡ outcome (answer [] (E.bytes e.now) (length out.old)) out.old }
@@ -33,7 +42,6 @@ pub fn written<E: Emit>(e: &E, out: &mut [u8]) -> Result<usize, Refusal>
     if out.len() < n {
         return Err(Refusal::ShortOutput);
     }
-    let mut wet = Output::new(out);
-    e.emit(&mut wet);
+    put_into(e, out);
     Ok(n)
 }
