@@ -4,13 +4,10 @@ use mathlib.Core.Bool.{Bool, and-true}
 use mathlib.Core.List.{List, [], ◌∷◌, ◌++◌}
 use Prim.Native.Nat.{ℕ, ◌≤◌, ◌<◌}
 use native.Mathlib.Omega.{arith}
-use lib.ListN.{length, take}
+use lib.ListN.{length, take, drop}
 use borrow.Author.Tests.{eq-eqb}
 use Rattle.wire.specs.Bytes.{All, Bytes}
 use Rattle.wire.specs.Encode.{encode_field}
-use Rattle.wire.specs.Output.{Wrote, Emitted}
-use Rattle.wire.proofs.DryRun.{wet}
-use Rattle.wire.proofs.OutputLaws.{then}
 use Rattle.calls.specs.CallList.{head_body, volume_shapes, request_shapes, laid_out, call_laid_out, list_laid_out, none_twice}
 use Rattle.calls.specs.Limits.{list_within}
 use Rattle.calls.specs.Refusals.{test}
@@ -20,12 +17,12 @@ use Rattle.calls.proofs.answers.OutcomeLaws.{answer-short, answer-fits, refused,
 use Rattle.calls.proofs.answers.SortedForm.{form-length}
 use Rattle.calls.proofs.encoding.Blocks.{field}
 use Rattle.calls.proofs.encoding.VolumeTrip.{list-laid}
-use Rattle.reader.specs.Heads.{call_byte, head_in}
+use Rattle.reader.specs.Heads.{call_byte}
 use Rattle.reader.specs.Readings.{call_refusal, ListRead}
 use Rattle.reader.specs.declared.head.Head.{Head}
 use Rattle.reader.specs.declared.table.Ends.{Ends}
 use Rattle.reader.proofs.PartsLaws.{passed, read-on, read-refused}
-use Rattle.sort.specs.Form.{Placed, fields_at}
+use Rattle.sort.specs.Form.{Placed, form_bytes}
 use Rattle.sort.proofs.FormBlocks.{form-is}
 use Rattle.sort.proofs.FormTable.{table-stands}
 
@@ -79,15 +76,21 @@ module _ {s : List ℕ} (r : Bytes s) (z : 0 ≡ call_refusal (call_byte s) s) w
     all_placed = (table-stands r q.ends q.table).placed
 
     -- field 1, and the fields at the table's places, are the sorted form
-    form-at : encode_field (field 1 (head_body (head_in h))) ++ fields_at s (take e.requests index) ≡ sorted_form s
+    form-at : form_bytes s h (take e.requests index) ≡ sorted_form s
+    unfolding form_bytes
     form-at =
         let p = passed (call_byte s) s z in
         let b = sym (table-stands r q.ends q.table).bytes in
         (λ i. encode_field (field 1 (head_body (q.head i))) ++ b i)
         ∙ sym (form-is (call_byte s) s (sym (called s) ∙ p.laid) (list-laid r (sym (listed s) ∙ p.laid)))
 
-    pub gives-0 : {xs ys zs : List ℕ} {m p t : ℕ} → length s ≤ length xs → Wrote xs 0 m (encode_field (field 1 (head_body (head_in h)))) ys p
-        → Emitted ys p (fields_at s (take e.requests index)) zs t → made 0 (length s) zs ≡ outcome (sort s (length xs)) xs
-    gives-0 {xs} l a b =
+    -- which has room where the list has
+    pub form-fits : (xs : List ℕ) → length s ≤ length xs → length (form_bytes s h (take e.requests index)) ≤ length xs
+    form-fits xs l = rw form-at (omega (arith, form-long))
+
+    pub gives-0 : (xs : List ℕ) {ys : List ℕ} → length s ≤ length xs
+        → ys ≡ form_bytes s h (take e.requests index) ++ drop (length (form_bytes s h (take e.requests index))) xs
+        → made 0 (length s) ys ≡ outcome (sort s (length xs)) xs
+    gives-0 xs l b =
         let k : length (sorted_form s) ≤ length xs = omega (arith, form-long) in
-        accepted (sorted_form s) xs (left (length xs) ∙ answer-fits (sorted_form s) (length xs) k) (sym form-long) (wet (rw form-at at (then a b)) k)
+        accepted (sorted_form s) xs (left (length xs) ∙ answer-fits (sorted_form s) (length xs) k) (sym form-long) (rw form-at at b)

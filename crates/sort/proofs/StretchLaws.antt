@@ -1,16 +1,16 @@
--- Neighbouring fields are one stretch of the list: the loop that passes them, and the loop that copies the stretches.
+-- Neighbouring fields are one stretch of the list: the loop that joins fields to the stretch that is not copied yet.
 use mathlib.Core.Path.{◌≡◌, refl, ap, sym, ◌∙◌}
-use mathlib.Core.List.{List, [], ◌++◌, append_assoc}
+use mathlib.Core.List.{List, [], ◌++◌, append_assoc, append-nil}
 use Prim.Native.Nat.{ℕ, ◌+◌, ◌-◌, ◌≤◌, ◌<◌}
 use native.Mathlib.Omega.{arith}
 use lib.ListN.{length, take, drop, get_or, drop_of_length-le}
 use lib.Seq.{take-add, drop-drop}
-use Rattle.wire.specs.Output.{top, Wrote, Emitted}
-use Rattle.wire.proofs.OutputLaws.{Part, begin, turn, drop-next, each_next, each_none}
-use Rattle.wire.proofs.EmitLaws.{done}
+use Rattle.wire.specs.Output.{with_bytes}
+use Rattle.wire.specs.declared.output.Output.{Output}
+use Rattle.wire.proofs.OutputLaws.{drop-next, each_next, each_none}
+use Rattle.wire.proofs.AppendLaws.{with-with}
 use Rattle.sorting.specs.EntryPlaces.{size_at}
-use Rattle.sort.specs.Form.{Placed, bytes_at, fields_at, Stretched}
-use Rattle.sort.specs.declared.form.Stretch.{Stretch}
+use Rattle.sort.specs.Form.{Placed, bytes_at, fields_at}
 
 -- the fields from an index on
 pub fields-next : (s places : List ℕ) (k : ℕ) → k < length places
@@ -30,68 +30,61 @@ stretch-on s start e o n l z =
     let y : start + (e - start) ≡ e = omega arith in
     rw (x, take-add (e - start) (3 + n) (drop start s), drop-drop (e - start) start s, y)
 
--- the loop that passes neighbours: those from index i up to k are the bytes from place start up to e
-pub record Passing (s places : List ℕ) (i start k e : ℕ) : Type 0 where
-  pub on : i ≤ k
+-- a stretch of the list
+abbrev pub stretch : List ℕ → ℕ → ℕ → List ℕ
+stretch s start e = take (e - start) (drop start s)
+
+-- where the fields from index i on and the stretch before them are left to copy
+pub record Copying (s places : List ℕ) (first : Output) (i start e : ℕ) (out : Output) : Type 0 where
   pub long : start ≤ e
   pub inside : e ≤ length s
-  pub bytes : take (e - start) (drop start s) ++ fields_at s (drop k places) ≡ fields_at s (drop i places)
-  pub first : k ≡ i → e ≡ start
+  pub bytes : with_bytes out (stretch s start e ++ fields_at s (drop i places)) ≡ with_bytes first (fields_at s places)
 
-pub passing-start : (s places : List ℕ) (i start : ℕ) → start ≤ length s → Passing s places i start i start
-passing-start s places i start l =
-    let z : start - start ≡ 0 = omega arith in
-    record { on = omega arith; long = omega arith; inside = l; bytes = rw z; first = λ q. refl }
-
-module _ {s places : List ℕ} {i start k e : ℕ} (p : Passing s places i start k e) where
-  stretched : (k ≡ i → ⊥) → Stretched s places i start (record { next = k; end = e })
-  stretched n = record { on = omega (arith, p.on, n); long = p.long; inside = p.inside; bytes = p.bytes }
-
-  -- no field is left
-  pub passing-out : i < length places → length places ≤ k → Stretched s places i start (record { next = k; end = e })
-  passing-out h l = stretched (λ q. omega arith)
-
-  -- the next is no neighbour
-  pub passing-apart : start + 3 ≡ get_or places i 0 → (get_or places k 0 ≡ e + 3 → ⊥) → Stretched s places i start (record { next = k; end = e })
-  passing-apart z n =
-      stretched (λ q. n (ap (λ (j : ℕ). get_or places j 0) q ∙ sym z ∙ ap (λ (j : ℕ). j + 3) (sym (p.first q))))
-
-  -- the next is one
-  pub passing-on : {n : ℕ} → k < length places → Placed s (get_or places k 0) → get_or places k 0 ≡ e + 3 → n ≡ size_at s (get_or places k 0)
-      → Passing s places i start (k + 1) (get_or places k 0 + n)
+module _ {s places : List ℕ} {first : Output} {i start e : ℕ} {out : Output} (c : Copying s places first i start e out) {n : ℕ}
+    (l : i < length places) (h : Placed s (get_or places i 0)) (m : n ≡ size_at s (get_or places i 0)) where
+  -- the next field joins the stretch
+  pub joined : get_or places i 0 ≡ e + 3 → Copying s places first (i + 1) start (get_or places i 0 + n) out
   unfolding bytes_at
-  passing-on {n} l h z m =
-      let o : ℕ = get_or places k 0 in
-      let rest : List ℕ = fields_at s (drop (k + 1) places) in
+  joined z =
+      let o : ℕ = get_or places i 0 in
+      let rest : List ℕ = fields_at s (drop (i + 1) places) in
       let back : o - 3 ≡ e = omega arith in
       let here : take (3 + n) (drop e s) ≡ bytes_at s o = rw (m, ← back) in
       record {
-        on = omega (arith, p.on);
-        long = omega (arith, p.long);
+        long = omega (arith, c.long);
         inside = omega (arith, h.within);
         bytes =
-            ap (λ (b : List ℕ). b ++ rest) (stretch-on s start e o n p.long z)
-            ∙ append_assoc (take (e - start) (drop start s)) (take (3 + n) (drop e s)) rest
-            ∙ ap (λ (b : List ℕ). take (e - start) (drop start s) ++ b) (ap (λ (b : List ℕ). b ++ rest) here ∙ sym (fields-next s places k l))
-            ∙ p.bytes;
-        first = λ q. absurd (omega (arith, p.on));
+            ap (with_bytes out)
+            (ap (λ (b : List ℕ). b ++ rest) (stretch-on s start e o n c.long z)
+            ∙ append_assoc (stretch s start e) (take (3 + n) (drop e s)) rest
+            ∙ ap (λ (b : List ℕ). stretch s start e ++ b) (ap (λ (b : List ℕ). b ++ rest) here ∙ sym (fields-next s places i l)))
+            ∙ c.bytes;
       }
 
--- the loop that copies the stretches: the fields from index i on are left
-pub record Copying (xs s places : List ℕ) (at : ℕ) (ys : List ℕ) (p i : ℕ) : Type 0 where
-  pub part : Part xs at (fields_at s places) ys p (fields_at s (drop i places))
+  -- the stretch is copied, and the next field begins another
+  pub apart : {next : Output} → next ≡ with_bytes out (stretch s start e)
+      → Copying s places first (i + 1) (get_or places i 0 - 3) (get_or places i 0 + n) next
+  unfolding bytes_at
+  apart {next} w =
+      let o : ℕ = get_or places i 0 in
+      let rest : List ℕ = fields_at s (drop (i + 1) places) in
+      let many : o + n - (o - 3) ≡ 3 + n = omega (arith, h.after) in
+      let here : stretch s (o - 3) (o + n) ≡ bytes_at s o = rw (many, m) in
+      record {
+        long = omega arith;
+        inside = omega (arith, h.within);
+        bytes =
+            ap (λ (r : Output). with_bytes r (stretch s (o - 3) (o + n) ++ rest)) w ∙ with-with out (stretch s start e) (stretch s (o - 3) (o + n) ++ rest)
+            ∙ ap (λ (b : List ℕ). with_bytes out (stretch s start e ++ b)) (ap (λ (b : List ℕ). b ++ rest) here ∙ sym (fields-next s places i l))
+            ∙ c.bytes;
+      }
 
-pub copying-start : (xs s places : List ℕ) (at : ℕ) → length xs ≤ top → Copying xs s places at xs at 0
-copying-start xs s places at h = record { part = begin xs at (fields_at s places) h }
+-- no field is left
+pub copied : {s places : List ℕ} {first : Output} {i start e : ℕ} {out last : Output} → Copying s places first i start e out → length places ≤ i
+    → last ≡ with_bytes out (stretch s start e) → last ≡ with_bytes first (fields_at s places)
+copied {s} {places} {first} {i} {start} {e} {out} c l w =
+    w ∙ ap (with_bytes out) (sym (append-nil (stretch s start e)) ∙ ap (λ (b : List ℕ). stretch s start e ++ b) (sym (fields-none s places i l))) ∙ c.bytes
 
-module _ {xs s places : List ℕ} {at : ℕ} {ys : List ℕ} {p i : ℕ} (c : Copying xs s places at ys p i) where
-  pub copying-on : {start : ℕ} {r : Stretch} {n q : ℕ} {zs : List ℕ} → Stretched s places i start r
-      → Wrote ys p n (take (r.end - start) (drop start s)) zs q → Copying xs s places at zs q r.next
-  copying-on t w = record { part = turn _ c.part (sym t.bytes) w }
-
-  -- fewer are left
-  pub copying-less : {start : ℕ} {r : Stretch} → Stretched s places i start r → i < length places → length places - r.next < length places - i
-  copying-less t l = omega (arith, t.on)
-
-  pub copying-end : length places ≤ i → Emitted xs at (fields_at s places) ys p
-  copying-end l = done c.part (fields-none s places i l)
+-- at the start no stretch is left
+pub copying-start : (s places : List ℕ) (first : Output) → Copying s places first 0 0 0 first
+copying-start s places first = record { long = omega arith; inside = omega arith; bytes = refl }

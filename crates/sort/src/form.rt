@@ -1,48 +1,69 @@
-// The fields at the places of a table, one after the other: neighbours of the list are copied as one stretch.
-ghost use Rattle.std.specs.Prelude.{◌≡◌, ◌+◌, ◌<◌, length, get_or};
+// The sorted form of a list: field 1, and the fields at the places of a table. Neighbours of the list are copied as one stretch.
+ghost use Rattle.std.specs.Prelude.{◌≡◌, ◌++◌, List, ℕ};
 ghost use Rattle.wire.specs.Bytes.{All};
-ghost use Rattle.wire.specs.Output.{Emitted};
-ghost use Rattle.sort.specs.Form.{Placed, fields_at, Stretched};
+ghost use Rattle.wire.specs.Output.{with_bytes};
+ghost use Rattle.sort.specs.Form.{Placed, fields_at, form_bytes};
 
-use wire::{emit, fields};
-
-// Neighbouring fields of a list: the index after their last, and where that one ends.
-#[derive(Clone, Copy, Drop)]
-pub struct Stretch {
-    pub next: usize,
-    pub end: usize,
-}
-
-// The fields from an index of the table on that stand side by side from a place on. `put_fields` shows that the first does.
-fn pass_beside(list: &[u8], places: &[u32], i: usize, start: usize) -> Stretch
-    requires { All (Placed list.now) places.now × (i < length places.now) × (start + 3 ≡ get_or places.now i 0) }
-    ensures { Stretched list.now places.now i start result }
-{
-    let mut next = i;
-    let mut end = start;
-    while next < places.len() {
-        let o = places[next] as usize;
-        if o != end + 3 {
-            return Stretch { next, end };
-        }
-        end = o + fields::len_at(list, o);
-        next += 1;
-    }
-    Stretch { next, end }
-}
+use reader::answer::Emit;
+use reader::head;
+use reader::head::Head;
+use std::marker::Model;
+use wire::fields;
+use wire::output::Output;
 
 // The fields at some places, in their order. The reader's table shows that they are fields.
-pub fn put_fields(out: &mut [u8], at: usize, list: &[u8], places: &[u32]) -> usize
+pub fn put_fields(out: &mut Output, list: &[u8], places: &[u32])
     requires { All (Placed list.now) places.now }
-    ensures { Emitted out.old at (fields_at list.now places.now) out.new result }
+    ensures { out.new ≡ with_bytes out.old (fields_at list.now places.now) }
 {
-    let mut p = at;
-    let mut i: usize = 0;
-    while i < places.len() {
-        let start = places[i] as usize - 3;
-        let s = pass_beside(list, places, i, start);
-        p = emit::put_bytes(out, p, list, start, s.end - start);
-        i = s.next;
+    let mut from: usize = 0;
+    let mut end: usize = 0;
+    for place in places {
+        let o = *place as usize;
+        if o != end + 3 {
+            out.put_slice(&list[from..end]);
+            from = o - 3;
+        }
+        end = o + fields::len_at(list, o);
     }
-    p
+    out.put_slice(&list[from..end]);
+}
+
+// A list that was read: its bytes, its head, and the places of its other fields. A clause sees its sorted form.
+#[derive(Drop)]
+pub struct SortedForm<'a> {
+    list: &'a [u8],
+    head: Head,
+    places: &'a [u32],
+}
+
+impl<'a> Model for SortedForm<'a> {
+    ghost use Rattle.std.specs.Prelude.{ℕ, List};
+
+    ghost Value = { List ℕ };
+
+    ghost use Rattle.sort.specs.FormView.{form_view, IsForm};
+
+    ghost view = { form_view };
+
+    ghost invariant = { IsForm };
+}
+
+impl<'a> SortedForm<'a> {
+    // The form of a list that was read. The reader's table shows that fields stand at its places.
+    pub fn new(list: &'a [u8], head: Head, places: &'a [u32]) -> SortedForm<'a>
+        requires { All (Placed list.now) places.now }
+        ensures { result ≡ form_bytes list.now head places.now }
+    {
+        SortedForm { list, head, places }
+    }
+}
+
+impl<'a> Emit for SortedForm<'a> {
+    ghost bytes = { λ f. f };
+
+    fn emit(&self, out: &mut Output) {
+        head::put_head(out, self.head);
+        put_fields(out, self.list, self.places);
+    }
 }
