@@ -1,13 +1,14 @@
 -- The joint lookup: the keys up to a bucket's record, the record among them, and the keys visited.
 use mathlib.Core.Path.{◌≡◌, refl, ap, sym, ◌∙◌}
-use mathlib.Core.Bool.{Bool, true, false, cond}
+use mathlib.Core.Bool.{Bool, true, false, cond, ◌&&◌}
 use mathlib.Core.List.{List, [], ◌∷◌}
-use mathlib.Core.Option.{Option, none, some}
+use mathlib.Core.Option.{none, some}
+use Rattle.std.proofs.Common.{Some, None}
 use Prim.Native.Nat.{ℕ, zero, suc, ◌+◌, ◌-◌, ◌≤◌, ◌<◌, Ordering}
 use native.Mathlib.Omega.{arith}
-use lib.Dec.{compare_is_eq}
-use lib.ListN.{length, get_or}
-use borrow.Author.Tests.{eq-eqb, ne_eqb}
+use lib.Dec.{compare_is_eq, eqb}
+use lib.ListN.{length, get_or, take, drop, length-take, length-drop}
+use lib.Seq.{get_or-drop, get_or-take}
 use Rattle.wire.specs.Keys.{Key}
 use Rattle.wire.specs.Order.{cmp, pos_less, pos_same}
 use Rattle.wire.specs.Positions.{gens_at}
@@ -16,7 +17,7 @@ use Rattle.wire.specs.declared.kinds.Bucket.{Bucket}
 use Rattle.wire.proofs.OrderLaws.{pos-cmp, cmp-less, less-cmp}
 use Rattle.calls.specs.Trees.{on_eq, lookup}
 use Rattle.calls.specs.CallList.{keys_ascend}
-use Rattle.calls.specs.Generations.{gen_record}
+use Rattle.calls.specs.Generations.{of_type30, gen_record}
 use Rattle.calls.specs.JointLookup.{up_to_past}
 use Rattle.calls.proofs.lists.BoolLaws.{clash}
 use Rattle.calls.proofs.trees.SortedLaws.{Sorted, chain-weak, chain-sorted, lookup-chain, order-sorted}
@@ -58,6 +59,34 @@ module _ (p : Bpos) (d : Key) where
       go : (t : Bool) → keys_up_to p xs ≤ k → cond t 0 (suc (keys_up_to p xs)) ≤ suc k
       go true h = omega arith
       go false h = omega (arith, h)
+
+-- the walk over the places from one on
+module _ {s places : List ℕ} {ks : List Key} (f : KeysAt s places ks) (p : Bpos) where
+  pub up-to-places : {known : ℕ} → known ≤ keys_up_to p ks → known ≤ length places
+  up-to-places h = omega (arith, up-to-within p no_key ks, f.count)
+
+  module _ (known n : ℕ) (h : n < length (take (length places - known) (drop known places))) where
+    abbrev here : ℕ
+    here = get_or (take (length places - known) (drop known places)) n 0
+
+    here-below : known + n < length places
+    here-below = omega (arith, simp (length-take, length-drop) at h)
+
+    here-is : here ≡ get_or places (known + n) 0
+    here-is = get_or-take (length places - known) (drop known places) n 0 (omega (arith, here-below)) ∙ get_or-drop known places n 0
+
+    pub here-whole : Whole s here
+    here-whole = rw here-is (f.at (known + n) here-below).whole
+
+    here-tested : {t : Bool} → t ≡ pos_less p (key_here s here).pos → pos_less p (get_or ks (known + n) no_key).pos ≡ t
+    here-tested e =
+        sym (ap (λ (k : Key). pos_less p k.pos) (ap (key_here s) here-is ∙ (f.at (known + n) here-below).is)) ∙ sym e
+
+    pub here-stop : known + n ≤ keys_up_to p ks → true ≡ pos_less p (key_here s here).pos → known + n ≡ keys_up_to p ks
+    here-stop l e = omega (arith, up-to-stop p no_key ks (known + n) (omega (arith, here-below, f.count)) (here-tested e))
+
+    pub here-next : known + n ≤ keys_up_to p ks → false ≡ pos_less p (key_here s here).pos → known + (n + 1) ≤ keys_up_to p ks
+    here-next l e = omega (arith, up-to-next p no_key ks (known + n) l (omega (arith, here-below, f.count)) (here-tested e))
 
 -- a later position has no fewer up to it
 pub up-to-later : (p q : Bpos) → pos_less q p ≡ false → (ks : List Key) → keys_up_to p ks ≤ keys_up_to q ks
@@ -142,68 +171,60 @@ module _ (p : Bpos) (d : Key) where
       go false z ih = rest n (omega arith) ih
 
 -- ---- a bucket's record, by the last of the keys up to it
-on_same : {A : Type 0} (o : Ordering) (a : Option A) → compare_is_eq o ≡ true → on_eq o a none ≡ a
-on_same Ordering.lt a h = absurd (clash h refl)
-on_same Ordering.eq a h = refl
-on_same Ordering.gt a h = absurd (clash h refl)
-
-on-other : {A : Type 0} (o : Ordering) (a : Option A) → compare_is_eq o ≡ false → on_eq o a none ≡ none
-on-other Ordering.lt a h = refl
-on-other Ordering.eq a h = absurd (clash refl h)
-on-other Ordering.gt a h = refl
-
 module _ (s places : List ℕ) (f : KeysAt s places (keys_here s places)) (a : keys_ascend (keys_here s places) ≡ true) (b : Bucket) where
   abbrev ks : List Key
   ks = keys_here s places
 
-  pub no_record_lem : keys_up_to (gens_at b) ks ≡ 0 → RecordIs s ks b 0
-  unfolding gen_record
-  no_record_lem e = record { stands = λ n. absurd (n refl); is = rw (lookup-none (gens_at b) no_key ks (order-sorted ks a) e) }
+  module _ (k : ℕ) (e : k ≡ keys_up_to (gens_at b) ks) where
+    pub last-within : k ≤ length places
+    last-within = up-to-places f (gens_at b) (omega arith)
 
-  module _ (k : ℕ) (e : k ≡ keys_up_to (gens_at b) ks) (n : k ≡ 0 → ⊥) where
-    pub below-places : k - 1 < length places
-    below-places = omega (arith, up-to-within (gens_at b) no_key ks, f.count)
+    -- no key stands up to it
+    pub no_record_lem : length (take k places) ≤ 0 → RecordIs s ks b None
+    unfolding gen_record
+    no_record_lem n =
+        let z : keys_up_to (gens_at b) ks ≡ 0 = omega (arith, last-within, simp (length-take) at n) in
+        record { stands = tt; is = rw (lookup-none (gens_at b) no_key ks (order-sorted ks a) z) }
 
-    abbrev at : ℕ
-    at = get_or places (k - 1) 0
+    -- the last of the places up to it
+    module _ (at : ℕ) (n : 0 < length (take k places)) (last : at ≡ get_or (take k places) (length (take k places) - 1) 0) where
+      some-up-to : 0 < k
+      some-up-to = omega (arith, simp (length-take) at n)
 
-    pub stands-there : Whole s at
-    stands-there = (f.at (k - 1) below-places).whole
+      last-below : k - 1 < length places
+      last-below = omega (arith, last-within, some-up-to)
 
-    found-there : lookup (gens_at b) ks ≡ on_eq (cmp (gens_at b) (key_here s at).pos) (some (key_here s at)) none
-    found-there =
-        let i = (f.at (k - 1) below-places).is in
-        let one-before : keys_up_to (gens_at b) ks ≡ suc (k - 1) = omega arith in
-        lookup-last (gens_at b) no_key ks (k - 1) (order-sorted ks a) one-before
-        ∙ ap (λ (x : Key). on_eq (cmp (gens_at b) x.pos) (some x) none) (sym i)
+      last-is : at ≡ get_or places (k - 1) 0
+      last-is =
+          let q : length (take k places) ≡ k = omega (arith, length-take k places, last-within) in
+          last ∙ ap (λ (m : ℕ). get_or (take k places) (m - 1) 0) q ∙ get_or-take k places (k - 1) 0 (omega (arith, some-up-to))
 
-    pub other-position : pos_same (gens_at b) (key_here s at).pos ≡ false → RecordIs s ks b 0
-    unfolding gen_record pos_same
-    other-position h =
-        record {
-          stands = λ n. absurd (n refl);
-          is = rw (found-there, on-other (cmp (gens_at b) (key_here s at).pos) (some (key_here s at)) h);
-        }
+      pub stands-there : Whole s at
+      stands-there = rw last-is (f.at (k - 1) last-below).whole
 
-    module _ (h : pos_same (gens_at b) (key_here s at).pos ≡ true) where
-      pub other-type : ((key_here s at).type ≡ 30 → ⊥) → RecordIs s ks b 0
+      found-there : lookup (gens_at b) ks ≡ on_eq (cmp (gens_at b) (key_here s at).pos) (some (key_here s at)) none
+      found-there =
+          let i = ap (key_here s) last-is ∙ (f.at (k - 1) last-below).is in
+          let one-before : keys_up_to (gens_at b) ks ≡ suc (k - 1) = omega (arith, some-up-to) in
+          lookup-last (gens_at b) no_key ks (k - 1) (order-sorted ks a) one-before
+          ∙ ap (λ (x : Key). on_eq (cmp (gens_at b) x.pos) (some x) none) (sym i)
+
+      -- whether the key there is the bucket's record
+      abbrev its : Bool
+      its = pos_same (gens_at b) (key_here s at).pos && eqb (key_here s at).type 30
+
+      last-record : gen_record ks b ≡ cond its (some (key_here s at)) none
       unfolding gen_record pos_same
-      other-type t =
-          record {
-            stands = λ n. absurd (n refl);
-            is = rw (found-there, on_same (cmp (gens_at b) (key_here s at).pos) (some (key_here s at)) h, ne_eqb (key_here s at).type 30 t);
-          }
+      last-record = rw found-there (go (cmp (gens_at b) (key_here s at).pos))
+        where
+          go : (o : Ordering) → of_type30 (on_eq o (some (key_here s at)) none) ≡ cond (compare_is_eq o && eqb (key_here s at).type 30) (some (key_here s at)) none
+          go Ordering.lt = refl
+          go Ordering.eq = refl
+          go Ordering.gt = refl
 
-      pub record-there : (key_here s at).type ≡ 30 → RecordIs s ks b at
-      unfolding gen_record pos_same
-      record-there t =
-          record {
-            stands = λ n. stands-there;
-            is =
-                rw (
-                  found-there,
-                  on_same (cmp (gens_at b) (key_here s at).pos) (some (key_here s at)) h,
-                  eq-eqb (key_here s at).type 30 t,
-                  ne_eqb at 0 (λ z. omega (arith, stands-there.after)),
-                );
-          }
+      pub record-there : true ≡ its → RecordIs s ks b (Some at)
+      record-there h =
+          record { stands = stands-there; is = sym (last-record ∙ ap (λ (t : Bool). cond t (some (key_here s at)) none) (sym h)) }
+
+      pub record_missing : false ≡ its → RecordIs s ks b None
+      record_missing h = record { stands = tt; is = sym (last-record ∙ ap (λ (t : Bool). cond t (some (key_here s at)) none) (sym h)) }

@@ -1,8 +1,11 @@
 -- The joint lookup, one bucket after the other.
 use mathlib.Core.Path.{◌≡◌, refl, ap, sym, ◌∙◌}
-use mathlib.Core.Bool.{true}
+use mathlib.Core.Bool.{Bool, true, false}
 use mathlib.Core.List.{List, [], ◌∷◌, ◌++◌, map, append-nil}
-use Prim.Native.Nat.{ℕ, zero, suc, ◌+◌, ◌≤◌, ◌<◌}
+use Prim.Native.Nat.{ℕ, zero, suc, ◌+◌, ◌≤◌, ◌<◌, min}
+use lib.Dec.{ltb}
+use borrow.Author.Tests.{ltb-true, ltb-false}
+use Rattle.reader.specs.Located.{no_key}
 use native.Mathlib.Numerals.{add-one}
 use native.Mathlib.Omega.{arith}
 use lib.ListN.{length, take, drop, get_or, set, length-map, length-set, take-append-drop}
@@ -20,7 +23,7 @@ use Rattle.calls.proofs.freespace.UpLaws.{Up, order-up}
 use Rattle.calls.proofs.trees.SortedLaws.{order-sorted}
 use Rattle.calls.proofs.trees.JointLookupLaws.{record-up, joint-generations}
 use Rattle.gens.specs.Joint.{keys_up_to, Looked}
-use Rattle.gens.proofs.JointLaws.{up-to-later, visited-past, visited-all}
+use Rattle.gens.proofs.JointLaws.{up-to-within, up-to-later, visited-past, visited-all}
 
 -- ---- the last of the first i buckets
 last-next : (d : Bucket) (bs : List Bucket) (i : ℕ) → i < length bs → last_or d (take (suc i) bs) ≡ get_or bs i no_bucket
@@ -62,11 +65,11 @@ module _ (ks : List Key) (ns : List ℕ) where
     pub known : k ≤ up_to_last i
     pub all : 0 < i → k ≡ up_to_last i
 
-  pub looking-start : (before : List ℕ) → Looking before before 0 0
-  looking-start before =
-      record { within = omega arith; long = refl; filled = refl; rest = refl; known = omega arith; all = λ h. absurd (omega arith) }
-
   module _ {before after : List ℕ} {k i : ℕ} (l : Looking before after k i) where
+    -- no more than all
+    pub looking-within : k ≤ length ks
+    looking-within = omega (arith, l.known, up-to-within (gens_at (last_or no_bucket (take i (buckets_in ns)))) no_key ks)
+
     -- the next bucket's record stands no earlier
     pub looking-known : in_order bucket_below (buckets_in ns) ≡ true → i < length ns → k ≤ keys_up_to (gens_at (bucket_is (get_or ns i 0))) ks
     looking-known o h =
@@ -124,20 +127,25 @@ module _ (ks : List Key) (ns : List ℕ) where
           l.all h
           ∙ ap (λ (bs : List Bucket). keys_up_to (gens_at (last_or no_bucket bs)) ks) (take_all i (buckets_in ns) (omega (arith, table-length ns)))
 
-      pub looked-none : i ≡ 0 → Looked ks (buckets_in ns) before after 0
+      pub looked-none : length ns ≡ 0 → Looked ks (buckets_in ns) before after 0
       looked-none z = looked (sym (visited-none ks (buckets_in ns) (omega (arith, table-length ns))))
 
-      pub looked-past : (i ≡ 0 → ⊥) → k < length ks → Looked ks (buckets_in ns) before after (k + 1)
-      looked-past z h =
-          let q = last-is (omega arith) in
-          let p = gens_at (last_or no_bucket (buckets_in ns)) in
-          looked (ap (λ (m : ℕ). m + 1) q ∙ visited-past p ks (omega (arith, q)) ∙ visited-by ks (buckets_in ns) (omega (arith, table-length ns, l.within)))
+      pub looked-some : {visited : ℕ} → (length ns ≡ 0 → ⊥) → visited ≡ min (length ks) (k + 1) → Looked ks (buckets_in ns) before after visited
+      looked-some {visited} z v = looked (go (ltb k (length ks)) refl ∙ visited-by ks (buckets_in ns) (omega (arith, table-length ns)))
+        where
+          q : k ≡ keys_up_to (gens_at (last_or no_bucket (buckets_in ns))) ks
+          q = last-is (omega arith)
 
-      pub looked-all : (i ≡ 0 → ⊥) → length ks ≤ k → Looked ks (buckets_in ns) before after k
-      looked-all z h =
-          let q = last-is (omega arith) in
-          let p = gens_at (last_or no_bucket (buckets_in ns)) in
-          looked (q ∙ visited-all p ks (omega (arith, q)) ∙ visited-by ks (buckets_in ns) (omega (arith, table-length ns, l.within)))
+          go : (t : Bool) → ltb k (length ks) ≡ t → visited ≡ length (up_to_past (gens_at (last_or no_bucket (buckets_in ns))) ks)
+          go true h =
+              let l = ltb-true k (length ks) h in
+              let e : visited ≡ k + 1 = omega arith in
+              e ∙ ap (λ (m : ℕ). m + 1) q ∙ visited-past (gens_at (last_or no_bucket (buckets_in ns))) ks (omega (arith, q))
+          go false h =
+              let l = ltb-false k (length ks) h in
+              let m : k ≤ length ks = omega (arith, q, up-to-within (gens_at (last_or no_bucket (buckets_in ns))) no_key ks) in
+              let e : visited ≡ k = omega arith in
+              e ∙ q ∙ visited-all (gens_at (last_or no_bucket (buckets_in ns))) ks (omega (arith, q))
 
 -- ---- what is left
 -- the first bytes of the output are the single lookups'

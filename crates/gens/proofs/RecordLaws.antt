@@ -1,14 +1,16 @@
 -- The table of the generation records, from the last key to the first.
 use mathlib.Core.Path.{◌≡◌, refl, ap, sym, ◌∙◌}
-use mathlib.Core.Bool.{Bool, true, false, ◌&&◌, and-false, cond}
+use mathlib.Core.Bool.{Bool, true, false, ◌&&◌, cond}
 use mathlib.Core.List.{List, [], ◌∷◌}
 use mathlib.Core.Option.{none, some}
-use Prim.Native.Nat.{ℕ, ◌/◌, ◌≤◌, ◌<◌, Ordering}
+use Prim.Native.Nat.{ℕ, ◌/◌, ◌<◌, Ordering}
 use native.Mathlib.Omega.{arith}
 use lib.Dec.{ltb, eqb}
 use lib.ListN.{length, get_or, set, replicate, length-set, length-replicate, get_or-replicate}
-use lib.Seq.{get_or-set_same, get_or-set_other}
-use borrow.Author.Tests.{eqb-true, eqb-false, eq-eqb, ne_eqb, lt-ltb, le-ltb, ltb-true, ltb-false}
+use lib.Seq.{get_or-set_same, get_or-set_other, get_or-append_seam}
+use Rattle.std.proofs.Common.{◌++◌, append_assoc, length-append}
+use Rattle.std.specs.List.{push}
+use borrow.Author.Tests.{eqb-true, eqb-false, ne_eqb, ltb-true, ltb-false}
 use Rattle.wire.specs.Keys.{Key}
 use Rattle.wire.specs.Order.{cmp}
 use Rattle.wire.specs.Positions.{gens_at}
@@ -18,33 +20,10 @@ use Rattle.wire.proofs.OrderLaws.{pos-cmp, mk-eq}
 use Rattle.calls.specs.Trees.{on_eq, lookup}
 use Rattle.calls.specs.Generations.{of_type30, gen_record}
 use Rattle.reader.specs.KeyHere.{key_here, Whole}
+use Rattle.reader.specs.Located.{KeysAt}
+use Rattle.reader.proofs.KeyHereLaws.{whole-at}
 use Rattle.wire.specs.Kinds.{bucket_in_range}
-use Rattle.gens.specs.Records.{record_noted, record_at, RecordsFound}
-
--- what the code stores, by its tests
-module _ (at : ℕ) (k : Key) (table : List ℕ) where
-  pub noted-inode : (k.pos.inode ≡ 0 → ⊥) → table ≡ record_noted at k table
-  unfolding record_noted
-  noted-inode n = rw (ne_eqb k.pos.inode 0 n)
-
-  pub noted-snapshot : (k.pos.snapshot ≡ 0 → ⊥) → table ≡ record_noted at k table
-  unfolding record_noted
-  noted-snapshot n = simp (ne_eqb k.pos.snapshot 0 n, and-false)
-
-  pub noted-past : 256 ≤ k.pos.offset → table ≡ record_noted at k table
-  unfolding record_noted
-  noted-past h = simp (le-ltb k.pos.offset 256 h, and-false)
-
-  module _ (i : k.pos.inode ≡ 0) (z : k.pos.snapshot ≡ 0) (o : k.pos.offset < 256) where
-    pub noted_here : set table k.pos.offset (cond (eqb k.type 30) at 0) ≡ record_noted at k table
-    unfolding record_noted
-    noted_here = simp (eq-eqb k.pos.inode 0 i, eq-eqb k.pos.snapshot 0 z, lt-ltb k.pos.offset 256 o)
-
-    pub noted-record : k.type ≡ 30 → set table k.pos.offset at ≡ record_noted at k table
-    noted-record e = ap (λ (t : Bool). set table k.pos.offset (cond t at 0)) (sym (eq-eqb k.type 30 e)) ∙ noted_here
-
-    pub noted_other : (k.type ≡ 30 → ⊥) → set table k.pos.offset 0 ≡ record_noted at k table
-    noted_other n = ap (λ (t : Bool). set table k.pos.offset (cond t at 0)) (sym (ne_eqb k.type 30 n)) ∙ noted_here
+use Rattle.gens.specs.Records.{record_noted, record_at, place_in, RecordStands, RecordsFound}
 
 -- no key yet
 pub noting-start : (s table : List ℕ) → table ≡ replicate 256 0 → RecordsFound s [] table
@@ -52,8 +31,8 @@ unfolding gen_record lookup
 noting-start s table e =
     let z : (o : ℕ) → o < 256 → get_or table o 0 ≡ 0 = λ o h. ap (λ (t : List ℕ). get_or t o 0) e ∙ get_or-replicate {A = ℕ} 256 o 0 0 h in
     record {
-      stand = record { count = ap length e ∙ length-replicate {A = ℕ} 256 0; whole = λ o h n. absurd (n (z o h)) };
-      is = λ b h. ap (record_at s) (z (b.0 / 256) (omega (arith, ltb-true b.0 65536 h)));
+      stand = record { count = ap length e ∙ length-replicate {A = ℕ} 256 0; whole = λ o h. rw (z o h) tt };
+      is = λ b h. ap (λ (n : ℕ). record_at s (place_in n)) (z (b.0 / 256) (omega (arith, ltb-true b.0 65536 h)));
     }
 
 -- a key that no bucket's record is
@@ -84,19 +63,19 @@ module _ (s : List ℕ) (at : ℕ) (w : Whole s at) (ks : List Key) (table : Lis
   abbrev entry : ℕ
   entry = cond (eqb k.type 30) at 0
 
-  entry-is : record_at s entry ≡ cond (eqb k.type 30) (some k) none
+  entry-is : record_at s (place_in entry) ≡ cond (eqb k.type 30) (some k) none
   entry-is = go (eqb k.type 30)
     where
-      go : (t : Bool) → record_at s (cond t at 0) ≡ cond t (some (key_here s at)) none
+      go : (t : Bool) → record_at s (place_in (cond t at 0)) ≡ cond t (some (key_here s at)) none
       go true = rw (ne_eqb at 0 (λ z. omega (arith, w.after)))
       go false = refl
 
-  entry_whole : (entry ≡ 0 → ⊥) → Whole s entry
+  entry_whole : RecordStands s (place_in entry)
   entry_whole = go (eqb k.type 30)
     where
-      go : (t : Bool) → (cond t at 0 ≡ 0 → ⊥) → Whole s (cond t at 0)
-      go true h = w
-      go false h = absurd (h refl)
+      go : (t : Bool) → RecordStands s (place_in (cond t at 0))
+      go true = rw (ne_eqb at 0 (λ z. omega (arith, w.after))) w
+      go false = tt
 
   kept : ((b : Bucket) → bucket_in_range b ≡ true → cmp (gens_at b) k.pos ≡ Ordering.eq → ⊥) → RecordsFound s (k ∷ ks) table
   kept h =
@@ -120,23 +99,20 @@ module _ (s : List ℕ) (at : ℕ) (w : Whole s at) (ks : List Key) (table : Lis
       same = get_or-set_same table k.pos.offset entry 0 inside
 
       at-index : (j : ℕ) → j < 256 → (t : Bool) → eqb j k.pos.offset ≡ t
-          → (get_or (set table k.pos.offset entry) j 0 ≡ 0 → ⊥) → Whole s (get_or (set table k.pos.offset entry) j 0)
-      at-index j h true e m =
-          let q = eqb-true j k.pos.offset e in
-          rw (q, same) (entry_whole (λ v. m (ap (λ (x : ℕ). get_or (set table k.pos.offset entry) x 0) q ∙ same ∙ v)))
-      at-index j h false e m =
-          let q = get_or-set_other table k.pos.offset j entry 0 (eqb-false j k.pos.offset e) in
-          rw q (n.stand.whole j h (λ v. m (q ∙ v)))
+          → RecordStands s (place_in (get_or (set table k.pos.offset entry) j 0))
+      at-index j h true e = rw (eqb-true j k.pos.offset e, same) entry_whole
+      at-index j h false e =
+          rw (get_or-set_other table k.pos.offset j entry 0 (eqb-false j k.pos.offset e)) (n.stand.whole j h)
 
       of-bucket : (b : Bucket) → bucket_in_range b ≡ true → (t : Bool) → eqb (b.0 / 256) k.pos.offset ≡ t
-          → record_at s (get_or (set table k.pos.offset entry) (b.0 / 256) 0) ≡ gen_record (k ∷ ks) b
+          → record_at s (place_in (get_or (set table k.pos.offset entry) (b.0 / 256) 0)) ≡ gen_record (k ∷ ks) b
       of-bucket b h true e =
           let q = eqb-true (b.0 / 256) k.pos.offset e in
-          ap (record_at s) (ap (λ (x : ℕ). get_or (set table k.pos.offset entry) x 0) q ∙ same) ∙ entry-is
+          ap (λ (m : ℕ). record_at s (place_in m)) (ap (λ (x : ℕ). get_or (set table k.pos.offset entry) x 0) q ∙ same) ∙ entry-is
           ∙ record-here k ks b (at-gens b k q i z)
       of-bucket b h false e =
           let d = eqb-false (b.0 / 256) k.pos.offset e in
-          ap (record_at s) (get_or-set_other table k.pos.offset (b.0 / 256) entry 0 d) ∙ n.is b h
+          ap (λ (m : ℕ). record_at s (place_in m)) (get_or-set_other table k.pos.offset (b.0 / 256) entry 0 d) ∙ n.is b h
           ∙ record_same k ks b (λ c. d (ap (λ (p : Bpos). p.offset) (pos-cmp.eq-path (gens_at b) k.pos c)))
 
   pub noting-on : (next : List ℕ) → next ≡ record_noted at k table → RecordsFound s (k ∷ ks) next
@@ -150,3 +126,13 @@ module _ (s : List ℕ) (at : ℕ) (w : Whole s at) (ks : List Key) (table : Lis
       go true f true g false h =
           kept (λ b l c. omega (arith, ltb-true b.0 65536 l, ltb-false k.pos.offset 256 h, ap (λ (p : Bpos). p.offset) (pos-cmp.eq-path (gens_at b) k.pos c)))
       go true f true g true h = stored (eqb-true k.pos.inode 0 f) (eqb-true k.pos.snapshot 0 g) (ltb-true k.pos.offset 256 h)
+
+-- the last of the places that are left
+pub last-left : (left noted : List ℕ) (at : ℕ) {rest places : List ℕ} → rest ≡ push left at → rest ++ noted ≡ places → left ++ (at ∷ noted) ≡ places
+last-left left noted at e h = sym (append_assoc left (at ∷ []) noted) ∙ ap (λ (r : List ℕ). r ++ noted) (sym e) ∙ h
+
+pub last-whole : (left noted : List ℕ) (at : ℕ) {s places : List ℕ} {ks : List Key} → KeysAt s places ks → left ++ (at ∷ noted) ≡ places → Whole s at
+last-whole left noted at {s} {places} f h =
+    let n : length left < length places = omega (arith, length-append left (at ∷ noted), ap length h) in
+    let e : get_or places (length left) 0 ≡ at = ap (λ (p : List ℕ). get_or p (length left) 0) (sym h) ∙ get_or-append_seam left at noted 0 in
+    rw e at (whole-at f (length left) n)

@@ -1,5 +1,5 @@
 -- The table of the generation records.
-use Rattle.std.specs.Prelude.{ℕ, ◌/◌, ◌<◌, ◌≡◌, true, ◌&&◌, cond, List, ltb, eqb, length, get_or, set}
+use Rattle.std.specs.Prelude.{ℕ, ◌/◌, ◌<◌, ◌≡◌, true, ◌&&◌, cond, List, ltb, eqb, length, get_or, set, Some, None, Option as Maybe}
 use Rattle.std.proofs.Math.Option.{Option, none, some}
 use Rattle.wire.specs.Keys.{Key}
 use Rattle.wire.specs.Kinds.{bucket_in_range}
@@ -13,27 +13,33 @@ record_noted at k table =
     cond (eqb k.pos.inode 0 && (eqb k.pos.snapshot 0 && ltb k.pos.offset 256))
     (set table k.pos.offset (cond (eqb k.type 30) at 0)) table
 
--- what an entry stands for: the key at its offset, or none where it is 0
-abbrev pub record_at : List ℕ → ℕ → Option Key
-record_at s at = cond (eqb at 0) none (some (key_here s at))
+-- the place that an entry names, or none where it is 0
+abbrev pub place_in : ℕ → Maybe ℕ
+place_in at = cond (eqb at 0) None (Some at)
 
--- where it is not 0, a key stands there
-abbrev pub RecordStands : List ℕ → ℕ → Type 0
-RecordStands s at = (at ≡ 0 → ⊥) → Whole s at
+-- the key at a place, or none
+abbrev pub record_at : List ℕ → Maybe ℕ → Option Key
+record_at s None = none
+record_at s (Some at) = some (key_here s at)
 
--- it stands for the record that holds a bucket's generation
-pub record RecordIs (s : List ℕ) (gens : List Key) (b : Bucket) (at : ℕ) : Type 0 where
+-- where there is a place, a key stands there
+abbrev pub RecordStands : List ℕ → Maybe ℕ → Type 0
+RecordStands s None = Unit {0}
+RecordStands s (Some at) = Whole s at
+
+-- it is that of the record that holds a bucket's generation
+pub record RecordIs (s : List ℕ) (gens : List Key) (b : Bucket) (at : Maybe ℕ) : Type 0 where
   pub stands : RecordStands s at
   pub is : record_at s at ≡ gen_record gens b
 
 -- each entry of a table stands for a key, or for none
 pub record RecordsStand (s table : List ℕ) : Type 0 where
   pub count : length table ≡ 256
-  pub whole : (o : ℕ) → o < 256 → (get_or table o 0 ≡ 0 → ⊥) → Whole s (get_or table o 0)
+  pub whole : (o : ℕ) → o < 256 → RecordStands s (place_in (get_or table o 0))
 
--- the entry of a bucket's record
-abbrev pub record_entry : List ℕ → Bucket → ℕ
-record_entry table b = get_or table (b.0 / 256) 0
+-- the place of a bucket's record
+abbrev pub record_entry : List ℕ → Bucket → Maybe ℕ
+record_entry table b = place_in (get_or table (b.0 / 256) 0)
 
 -- the table finds the record that holds a bucket's generation
 pub record RecordsFound (s : List ℕ) (gens : List Key) (table : List ℕ) : Type 0 where

@@ -1,10 +1,11 @@
 // The joint lookup: the generations of buckets that ascend, in one walk over the keys of tree 14.
-ghost use Rattle.std.specs.Prelude.{◌≡◌, true, ◌≤◌, length};
+ghost use Rattle.std.specs.Prelude.{◌≡◌, true, ◌≤◌, ◌&&◌, eqb, length};
 ghost use Rattle.wire.specs.Kinds.{bucket_below, buckets_in};
+ghost use Rattle.wire.specs.Order.{pos_same};
 ghost use Rattle.wire.specs.Positions.{gens_at};
 ghost use Rattle.calls.specs.CallList.{keys_ascend};
 ghost use Rattle.calls.specs.Lists.{in_order};
-ghost use Rattle.reader.specs.KeyHere.{keys_here};
+ghost use Rattle.reader.specs.KeyHere.{key_here, keys_here, Whole};
 ghost use Rattle.reader.specs.Located.{KeysAt};
 ghost use Rattle.gens.specs.Joint.{keys_up_to, Looked};
 ghost use Rattle.gens.specs.Records.{RecordIs};
@@ -20,32 +21,29 @@ fn keys_up_to(s: &[u8], gens: &[u32], known: usize, b: Bucket) -> usize
     ensures { result ≡ keys_up_to (gens_at b) (keys_here s.now gens.now) }
 {
     let p = positions::gens_at(b);
-    let mut k = known;
-    while k < gens.len() {
-        if bpos::pos_less(p, key::pos_at(s, gens[k] as usize)) {
-            return k;
+    for (n, at) in gens[known..].iter().enumerate() {
+        if bpos::pos_less(p, key::pos_at(s, *at as usize)) {
+            return known + n;
         }
-        k += 1;
     }
-    k
+    gens.len()
 }
 
-// The place of a bucket's record, which is the last of the keys up to it, or 0 where there is none. Refusal 22 shows that keys ascend, here and below.
-fn record_up_to(s: &[u8], gens: &[u32], k: usize, b: Bucket) -> usize
+// Whether the key at a place is a bucket's record.
+fn is_record(s: &[u8], at: usize, b: Bucket) -> bool
+    requires { Whole s.now at }
+    ensures { result ≡ (pos_same (gens_at b) (key_here s.now at).pos && eqb (key_here s.now at).type 30) }
+{
+    bpos::pos_same(positions::gens_at(b), key::pos_at(s, at)) && key::type_at(s, at) == 30
+}
+
+// The place of a bucket's record, which is the last of the keys up to it, if there is one. Refusal 22 shows that keys ascend, here and below.
+fn record_up_to(s: &[u8], gens: &[u32], k: usize, b: Bucket) -> Option<usize>
     requires { KeysAt s.now gens.now (keys_here s.now gens.now) × (keys_ascend (keys_here s.now gens.now) ≡ true) × (k ≡ keys_up_to (gens_at b) (keys_here s.now gens.now)) }
     ensures { RecordIs s.now (keys_here s.now gens.now) b result }
 {
-    if k == 0 {
-        return 0;
-    }
-    let at = gens[k - 1] as usize;
-    if !bpos::pos_same(positions::gens_at(b), key::pos_at(s, at)) {
-        return 0;
-    }
-    if key::type_at(s, at) != 30 {
-        return 0;
-    }
-    at
+    let at = *gens[..k].last()? as usize;
+    if is_record(s, at, b) { Some(at) } else { None }
 }
 
 // Fills in the generation of each bucket, and tells how many keys are visited: up to and with the first past the last bucket's record.
@@ -55,18 +53,13 @@ pub fn bucket_gens(out: &mut [u8], s: &[u8], gens: &[u32], buckets: &[u64]) -> u
     ensures { Looked (keys_here s.now gens.now) (buckets_in buckets.now) out.old out.new result }
 {
     let mut k: usize = 0;
-    let mut i: usize = 0;
-    while i < buckets.len() {
-        let b = Bucket(buckets[i]);
+    for (i, n) in buckets.iter().enumerate() {
+        let b = Bucket(*n);
         k = keys_up_to(s, gens, k, b);
         out[i] = lookup::record_gen(s, record_up_to(s, gens, k, b), b);
-        i += 1;
     }
-    if i == 0 {
+    if buckets.is_empty() {
         return 0;
     }
-    if k < gens.len() {
-        return k + 1;
-    }
-    k
+    gens.len().min(k + 1)
 }

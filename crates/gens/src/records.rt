@@ -9,26 +9,17 @@ use reader::key;
 use wire::kinds::Bucket;
 
 // Notes the offset of a key, if it is a record; another key at a record's place takes out what was noted. The reader shows that a key stands there.
+#[tactic(auto, unfolding(crate::specs::Records::record_noted))]
 fn note_record(s: &[u8], at: u32, table: &mut [u32; 256])
     requires { Whole s.now at }
     ensures { table.new ≡ record_noted at (key_here s.now at) table.old }
 {
     let p = key::pos_at(s, at as usize);
-    if p.inode != 0 {
+    if p.inode != 0 || p.snapshot != 0 || 256 <= p.offset {
         return;
     }
-    if p.snapshot != 0 {
-        return;
-    }
-    if 256 <= p.offset {
-        return;
-    }
-    let o = p.offset as usize;
-    if key::type_at(s, at as usize) == 30 {
-        table[o] = at;
-    } else {
-        table[o] = 0;
-    }
+    let is_record = key::type_at(s, at as usize) == 30;
+    table[p.offset as usize] = if is_record { at } else { 0 };
 }
 
 // Fills a table of zeros: entry o is the offset of the record at inode 0, offset o, or 0. The reader shows where the keys stand.
@@ -36,18 +27,18 @@ pub fn find_records(s: &[u8], gens: &[u32], table: &mut [u32; 256])
     requires { KeysAt s.now gens.now (keys_here s.now gens.now) × (table.old ≡ replicate 256 0) }
     ensures { RecordsFound s.now (keys_here s.now gens.now) table.new }
 {
-    let mut i = gens.len();
-    while 0 < i {
-        i -= 1;
-        note_record(s, gens[i], table);
+    for at in gens.iter().rev() {
+        note_record(s, *at, table);
     }
 }
 
-// The entry of a bucket's record. `find_records` makes the table, and the limits show the bound.
-pub fn record_of(table: &[u32], b: Bucket) -> usize
+// The place of a bucket's record, as the table has it. `find_records` makes the table, and the limits show the bound.
+pub fn record_of(table: &[u32], b: Bucket) -> Option<usize>
     requires { (length table.now ≡ 256) × (bucket_in_range b ≡ true) }
     ensures { result ≡ record_entry table.now b }
 {
-    let o = (b.0 / 256) as usize;
-    table[o] as usize
+    match table[(b.0 / 256) as usize] {
+        0 => None,
+        at => Some(at as usize),
+    }
 }

@@ -1,0 +1,7 @@
+-- The loop's invariant: the first i buckets are looked up, and k keys stand up to the last one's record.
+use Rattle.reader.specs.KeyHere.{keys_here}
+use Rattle.gens.proofs.LookingLaws.{Looking}
+use Rattle.gens.proofs.joint.bucket_gens.Given as goal
+
+abbrev pub invariant-loop-i : goal.invariant-loop-i
+invariant-loop-i l = Looking (keys_here l.s l.gens) l.buckets l.fn.out l.out l.k l.i
