@@ -47,14 +47,14 @@ fn record_up_to(s: &[u8], gens: &[u32], k: usize, b: Bucket) -> Option<usize>
 }
 
 // Fills in the generation of each bucket, and tells how many keys are visited: up to and with the first past the last bucket's record.
-pub fn bucket_gens(out: &mut [u8], s: &[u8], gens: &[u32], buckets: &[u64]) -> usize
+pub fn bucket_gens(out: &mut [u8], s: &[u8], gens: &[u32], buckets: &[u32]) -> usize
     requires keys_at { KeysAt s.now gens.now (keys_here s.now gens.now) × (keys_ascend (keys_here s.now gens.now) ≡ true) }
     requires buckets_value { (in_order bucket_below (buckets_in buckets.now) ≡ true) × (length buckets.now ≤ length out.old) }
     ensures { Looked (keys_here s.now gens.now) (buckets_in buckets.now) out.old out.new result }
 {
     let mut k: usize = 0;
     for (i, n) in buckets.iter().enumerate() {
-        let b = Bucket(*n);
+        let b = Bucket(*n as u64);
         k = keys_up_to(s, gens, k, b);
         out[i] = lookup::record_gen(s, record_up_to(s, gens, k, b), b);
     }
