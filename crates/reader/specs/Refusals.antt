@@ -1,6 +1,6 @@
 -- FORMAT.md, "Refusals": the number of each, and what is told of an answer.
 use Rattle.std.specs.Prelude.{ℕ, List, Result, Ok, Err}
-use Rattle.calls.specs.Answers.{Outcome, made}
+use Rattle.calls.specs.Answers.{Outcome, made, GenerationsOutcome, looked_up}
 use Rattle.reader.specs.declared.refusal.Refusal.{Refusal}
 use Rattle.reader.specs.declared.refusal.Refusal.TheVariants.{ShortScratch, Layout, Limit, NoSectors, ChecksumOption, CompressionKind, NoChecksum, BlockSectors, PieceSectors, RunsOverlap, TooFewFree, RunBeforeBuckets, BucketInUse, OutsideBucket, NoAlloc, ShortAlloc, DirtyPastBucket, FreedPastDirty, ShortGens, NoBatch, ShortOutput, Twice}
 
@@ -37,3 +37,8 @@ number_in (Err r) = number_of r
 abbrev pub made_by : Result ℕ Refusal → List ℕ → Outcome
 made_by (Ok count) output = made 0 count output
 made_by (Err r) output = made (number_of r) 0 output
+
+-- what a lookup of generations leaves that tells how many keys it visited, or why it refused
+abbrev pub looked_up_by : Result ℕ Refusal → List ℕ → GenerationsOutcome
+looked_up_by (Ok visited) output = looked_up 0 visited output
+looked_up_by (Err r) output = looked_up (number_of r) 0 output
