@@ -1,5 +1,5 @@
 -- The table by bucket: which need-discard key is the last that names each bucket.
-use Rattle.std.specs.Prelude.{ℕ, ◌+◌, ◌-◌, ◌≤◌, ◌<◌, ◌≡◌, List, Bool, true, ◌&&◌, cond, length, get_or, set}
+use Rattle.std.specs.Prelude.{ℕ, ◌+◌, ◌-◌, ◌≤◌, ◌<◌, ◌≡◌, List, Bool, true, ◌&&◌, cond, eqb, length, get_or, set, Some, None, Option as Maybe}
 use Rattle.std.proofs.Math.Option.{Option, none, some}
 use Rattle.wire.specs.Bytes.{All}
 use Rattle.wire.specs.Keys.{Key}
@@ -10,26 +10,29 @@ use Rattle.calls.specs.Limits.{is_set}
 use Rattle.calls.specs.Discard.{waiting_key}
 use Rattle.reader.specs.KeyHere.{key_here, keys_here}
 use Rattle.need_discard.specs.Kept.{bucket_here, NeedKept}
-use Rattle.need_discard.specs.declared.waiting.Waits.{Waits}
-use Rattle.need_discard.specs.declared.waiting.Waits.TheVariants.{At, Not}
+use Rattle.wire.specs.declared.bpos.Bpos.{Bpos}
 
 -- where the need-discard key of a bucket stands, if it has one
-abbrev pub waits_of : Option Key → Waits
-waits_of none = Not
-waits_of (some k) = At k.pos
+abbrev pub waits_of : Option Key → Maybe Bpos
+waits_of none = None
+waits_of (some k) = Some k.pos
 
 -- a key names a bucket
 abbrev pub is_of_bucket : Key → Bucket → Bool
 is_of_bucket k b = is_set k && same_bucket (bucket_in k.pos) b
 
--- The entry of a bucket: 0 where none of the keys names it, else the place of the last that does, counted from 1.
-pub record Entry (s needs : List ℕ) (ks : List Key) (b : Bucket) (e : ℕ) : Type 0 where
-  pub unnamed : e ≡ 0 → waiting_key ks b ≡ none
-  pub named : 0 < e → (e ≤ length needs) × (waiting_key ks b ≡ some (key_here s (get_or needs (e - 1) 0)))
+-- The last of the keys that names a bucket stands at a place, or none does.
+abbrev pub Entry : List ℕ → List ℕ → List Key → Bucket → Maybe ℕ → Type 0
+Entry s needs ks b None = waiting_key ks b ≡ none
+Entry s needs ks b (Some i) = (i < length needs) × (waiting_key ks b ≡ some (key_here s (get_or needs i 0)))
+
+-- the place that an entry of the table names: none where it is 0, else it is counted from 1
+abbrev pub place_in : ℕ → Maybe ℕ
+place_in e = cond (eqb e 0) None (Some (e - 1))
 
 -- each bucket within the limit has the entry that these of the need-discard keys give it
 abbrev pub Entries : List ℕ → List ℕ → List Key → List ℕ → Type 0
-Entries s needs ks table = (b : Bucket) → bucket_in_range b ≡ true → Entry s needs ks b (get_or table b.0 0)
+Entries s needs ks table = (b : Bucket) → bucket_in_range b ≡ true → Entry s needs ks b (place_in (get_or table b.0 0))
 
 -- A table with an entry for each bucket is filled, and the need-discard keys stand where they are looked for.
 pub record WaitingTable (s needs table : List ℕ) : Type 0 where

@@ -14,14 +14,8 @@ use wire::bpos::Bpos;
 use wire::kinds;
 use wire::kinds::Bucket;
 
-// Where the need-discard key of a bucket stands, if it has one.
-#[derive(Clone, Copy, Drop)]
-pub enum Waits {
-    At(Bpos),
-    Not,
-}
-
 // The key at place i takes the entry of its bucket, so that the last stands. The limits show the bounds, here and below.
+#[tactic(auto, unfolding(crate::specs::Table::wait_noted))]
 fn note(table: &mut [u16; 65536], s: &[u8], o: u32, i: usize)
     requires { NeedKept s.now o × (i < 4096) }
     ensures { table.new ≡ wait_noted s.now table.old o i }
@@ -38,10 +32,8 @@ pub fn note_waiting(table: &mut [u16; 65536], s: &[u8], needs: &[u32])
     requires { All (NeedKept s.now) needs.now × (length needs.now ≤ 4096) × (table.old ≡ replicate 65536 0) }
     ensures { (length table.new ≡ 65536) × WaitingTable s.now needs.now table.new }
 {
-    let mut i: usize = 0;
-    while i < needs.len() {
-        note(table, s, needs[i], i);
-        i += 1;
+    for (i, o) in needs.iter().enumerate() {
+        note(table, s, *o, i);
     }
 }
 
@@ -50,47 +42,39 @@ fn names_bucket(s: &[u8], o: u32, b: Bucket) -> bool
     requires { NeedKept s.now o }
     ensures { result ≡ is_of_bucket (key_here s.now o) b }
 {
-    if kinds::same_bucket(key::bucket_at(s, o as usize), b) {
-        return key::type_at(s, o as usize) == 25;
-    }
-    false
+    kinds::same_bucket(key::bucket_at(s, o as usize), b) && key::type_at(s, o as usize) == 25
 }
 
-// The entry of a bucket, by a search through the keys: the last that names it stands.
-fn search_entry(s: &[u8], needs: &[u32], b: Bucket) -> usize
+// The place of the last key that names a bucket, by a search through the keys.
+fn search_place(s: &[u8], needs: &[u32], b: Bucket) -> Option<usize>
     requires { All (NeedKept s.now) needs.now }
     ensures { Entry s.now needs.now (keys_here s.now needs.now) b result }
 {
-    let mut e: usize = 0;
-    let mut i: usize = 0;
-    while i < needs.len() {
-        if names_bucket(s, needs[i], b) {
-            e = i + 1;
+    let mut last = None;
+    for (i, o) in needs.iter().enumerate() {
+        if names_bucket(s, *o, b) {
+            last = Some(i);
         }
-        i += 1;
     }
-    e
+    last
 }
 
-// The entry of a bucket: from the table, where it has one for each bucket, else by a search.
-fn entry_of(s: &[u8], needs: &[u32], table: &[u16], b: Bucket) -> usize
+// The same, from the table, where it has an entry for each bucket, else by a search.
+fn place_of(s: &[u8], needs: &[u32], table: &[u16], b: Bucket) -> Option<usize>
     requires { WaitingTable s.now needs.now table.now × (bucket_in_range b ≡ true) }
     ensures { Entry s.now needs.now (keys_here s.now needs.now) b result }
 {
     if table.len() < 65536 {
-        return search_entry(s, needs, b);
+        return search_place(s, needs, b);
     }
-    table[b.0 as usize] as usize
+    (table[b.0 as usize] as usize).checked_sub(1)
 }
 
-// The key that stands for a bucket. `discard_lists` chooses the table.
-pub fn waiting_at(s: &[u8], needs: &[u32], table: &[u16], b: Bucket) -> Waits
+// Where the need-discard key of a bucket stands, if it has one. `discard_lists` chooses the table.
+pub fn waiting_at(s: &[u8], needs: &[u32], table: &[u16], b: Bucket) -> Option<Bpos>
     requires { WaitingTable s.now needs.now table.now × (bucket_in_range b ≡ true) }
     ensures { result ≡ waits_of (waiting_key (keys_here s.now needs.now) b) }
 {
-    let e = entry_of(s, needs, table, b);
-    if e == 0 {
-        return Waits::Not;
-    }
-    Waits::At(key::pos_at(s, needs[e - 1] as usize))
+    let i = place_of(s, needs, table, b)?;
+    Some(key::pos_at(s, needs[i] as usize))
 }
