@@ -12,7 +12,7 @@ use Rattle.next_fit.specs.Fit.{slot_number, slots_in, fit_slot, fit_piece, lay, 
 use Rattle.next_fit.specs.declared.slot.Open.{Open}
 use Rattle.next_fit.proofs.NextFitLaws.{fit_none}
 use Rattle.next_fit.proofs.SlotLaws.{number_read, slots-put}
-use Rattle.next_fit.proofs.LayLaws.{no_piece, lay-more, lay-end, index-grows, offset-within, used-below, slots_next}
+use Rattle.next_fit.proofs.LayLaws.{no_piece, lay-more, lay-end, index-grows, offset-within, slots_next}
 
 -- the sectors of some pieces
 abbrev pub stored : List Piece → List ℕ
@@ -38,8 +38,8 @@ module _ {B at : ℕ} {ps : List Piece} {c : Open} {ts : List ℕ} (d : LaidUpTo
       ≡ fit_slot B c piece ∷ next_fit B (fit_piece B c piece).index (fit_piece B c piece).used (stored (drop (at + 1) ps))
   rest-is l = rw (add-one, drop-cons ps at no_piece l) (slots_next B c piece (stored (drop (suc at) ps)))
 
-  pub laid_next : at < length ps → length ps ≤ length ts → B < 65536 → piece.stored < 65536 → LaidUpTo B ps (at + 1) (fit_piece B c piece) (set ts at (slot_number (fit_slot B c piece)))
-  laid_next l k b z =
+  pub laid_next : at < length ps → length ps ≤ length ts → (fit_piece B c piece).used < 65536 → LaidUpTo B ps (at + 1) (fit_piece B c piece) (set ts at (slot_number (fit_slot B c piece)))
+  laid_next l k z =
       let n = slot_number (fit_slot B c piece) in
       record {
         upto = omega (arith, l);
@@ -52,7 +52,7 @@ module _ {B at : ℕ} {ps : List Piece} {c : Open} {ts : List ℕ} (d : LaidUpTo
               ← rest-is l,
             ) d.slots;
         below = omega (arith, index-grows B c piece, d.below);
-        short = used-below B c piece z b;
+        short = z;
       }
 
   -- at the end all are

@@ -10,7 +10,7 @@ use Rattle.calls.specs.Pieces.{Slot, next_fit}
 use Rattle.reader.specs.declared.piece.Piece.{Piece}
 use Rattle.next_fit.specs.Fit.{first_of, fit_slot, fit_piece, lay, unused}
 use Rattle.next_fit.specs.declared.slot.Open.{Open}
-use Rattle.next_fit.proofs.NextFitLaws.{fit_next, fit-high, fit-offset, fit-used, first_slot, first-is}
+use Rattle.next_fit.proofs.NextFitLaws.{fit_next, fit-high, fit-offset, first_slot, first-is}
 
 -- what stands past the end of a list of pieces
 abbrev pub no_piece : Piece
@@ -37,11 +37,6 @@ module _ (B : ℕ) (o : Open) (p : Piece) where
   -- its offset is within what is used
   pub offset-within : (fit_slot B o p).offset ≤ o.used
   offset-within = fit-offset B o.index o.used p.stored slot fit_is
-
-  -- sectors are used within the bound of the bucket and of the piece
-  pub used-below : {n : ℕ} → p.stored < n → B < n → (fit_piece B o p).used < n
-  unfolding fit_piece
-  used-below h k = fit-used B o.index o.used p.stored slot fit_is h k
 
   -- the slots of a piece and of those after it
   pub slots_next : (zs : List ℕ) → next_fit B o.index o.used (p.stored ∷ zs) ≡ slot ∷ next_fit B (fit_piece B o p).index (fit_piece B o p).used zs

@@ -3,4 +3,3 @@ pub mod SlotLaws
 pub mod LayLaws
 pub mod NeededLaws
 pub mod LaidLaws
-pub mod ReadLaws

@@ -6,18 +6,10 @@ use mathlib.Core.List.{List, [], ◌∷◌}
 use Prim.Native.Nat.{ℕ, suc, ◌+◌, ◌≤◌, ◌<◌}
 use native.Mathlib.Omega.{arith}
 use lib.Dec.{leb}
-use borrow.Author.Tests.{le-leb, lt-leb, leb-true}
+use borrow.Author.Tests.{leb-true}
 use Rattle.calls.specs.Pieces.{Slot, next_fit, buckets_needed}
 
 module _ (B i u z : ℕ) where
-  pub fits : u + z ≤ B → next_fit B i u (z ∷ []) ≡ record { index = i; offset = u } ∷ []
-  unfolding next_fit
-  fits h = simp (le-leb (u + z) B h)
-
-  pub exceeds : B < u + z → next_fit B i u (z ∷ []) ≡ record { index = i + 1; offset = 0 } ∷ []
-  unfolding next_fit
-  exceeds h = let e : i + 1 ≡ suc i = omega arith in rw e (simp (lt-leb (u + z) B h))
-
   -- the slot of the first piece, and those of the pieces after it
   module _ (t : Slot) (e : next_fit B i u (z ∷ []) ≡ t ∷ []) where
     pub fit_next : (zs : List ℕ) → next_fit B i u (z ∷ zs) ≡ t ∷ next_fit B t.index (t.offset + z) zs

@@ -22,10 +22,8 @@ pub fn read_pieces(s: &[u8], offsets: &[u32]) -> [Piece; 1024]
         checksum: 0,
     };
     let mut ps = [none; 1024];
-    let mut i = 0;
-    while i < offsets.len() {
-        ps[i] = piece::read_piece(s, offsets[i] as usize);
-        i += 1;
+    for (i, at) in offsets.iter().enumerate() {
+        ps[i] = piece::read_piece(s, *at as usize);
     }
     ps
 }
@@ -41,6 +39,6 @@ pub fn lay_out(s: &[u8], pieces: &[u32], bucket: u16, slots: &mut [u32]) -> usiz
         return 0;
     }
     let records = read_pieces(s, pieces);
-    let o = pieces::layout_of(records, n, bucket as u64, slots);
-    o.index + 1
+    let open = pieces::layout(&records[..n], bucket as u64, slots);
+    open.index + 1
 }

@@ -1,7 +1,7 @@
 // Next fit: which bucket a piece goes into.
 ghost use Rattle.std.specs.Prelude.{◌≡◌, ◌<◌, ◌^◌, [], ◌∷◌, length, get_or};
 ghost use Rattle.calls.specs.Pieces.{next_fit};
-ghost use Rattle.next_fit.specs.Fit.{slot_in, slot_of};
+ghost use Rattle.next_fit.specs.Fit.{slot_in, slot_number, slot_of};
 
 // The open bucket, by its index among those taken, and how many of its sectors are used.
 #[derive(Clone, Copy, Drop)]
@@ -17,32 +17,46 @@ pub struct Slot {
     pub offset: u64,
 }
 
-// The slot of a piece: a piece that exceeds the open bucket opens the next. Two-byte fields and 1,024 pieces show the bounds.
-pub fn next_fit(o: Open, stored: u64, bucket: u64) -> Slot
-    requires { (o.index < 2 ^ 63) × (o.used < 65536) × (stored < 65536) }
-    ensures { next_fit bucket o.index o.used (stored ∷ []) ≡ slot_in result ∷ [] }
-{
-    if o.used + stored <= bucket {
-        return Slot {
-            index: o.index,
-            offset: o.used,
-        };
+impl Open {
+    // The slot of a piece: a piece that exceeds the open bucket opens the next. Two-byte fields and 1,024 pieces show the bounds.
+    #[tactic(auto, unfolding(calls::specs::Pieces::next_fit))]
+    pub fn next_fit(self, stored: u64, bucket: u64) -> Slot
+        requires { (self.index < 2 ^ 63) × (self.used < 65536) × (stored < 65536) }
+        ensures { next_fit bucket self.index self.used (stored ∷ []) ≡ slot_in result ∷ [] }
+    {
+        if self.used + stored <= bucket {
+            return Slot {
+                index: self.index,
+                offset: self.used,
+            };
+        }
+        Slot {
+            index: self.index + 1,
+            offset: 0,
+        }
     }
-    Slot {
-        index: o.index + 1,
-        offset: 0,
+}
+
+impl Slot {
+    // The slot as one number, which a table holds.
+    #[tactic(auto, unfolding(crate::specs::Fit::slot_number))]
+    pub fn number(self) -> u32
+        requires { (self.index < 65536) × (self.offset < 65536) }
+        ensures { result ≡ slot_number (slot_in self) }
+    {
+        (self.index as u64 * 65536 + self.offset) as u32
     }
 }
 
 // The slot at an index of a table.
+#[tactic(auto, unfolding(crate::specs::Fit::slot_of))]
 pub fn slot_at(slots: &[u32], i: usize) -> Slot
     requires { i < length slots.now }
     ensures { slot_in result ≡ slot_of (get_or slots.now i 0) }
 {
     let n = slots[i] as u64;
-    let index = (n / 65536) as usize;
     Slot {
-        index,
+        index: (n / 65536) as usize,
         offset: n % 65536,
     }
 }
