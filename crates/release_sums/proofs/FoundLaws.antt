@@ -9,7 +9,7 @@ use lib.ListN.{length, set, take, length-append}
 use lib.Seq.{take-suc-set, append_snoc}
 use lib.Dec.{ltb, eqb}
 use borrow.Author.Tests.{lt-ltb, ltb-true, ltb-false, eqb-true, eqb-false, eq-eqb, ne_eqb}
-use Rattle.wire.specs.Kinds.{same_bucket, bucket_of, buckets_in, buckets_from, no_bucket}
+use Rattle.wire.specs.Kinds.{same_bucket, bucket_of, buckets_from, no_bucket}
 use Rattle.wire.specs.declared.kinds.Bucket.{Bucket}
 use Rattle.wire.proofs.OrderLaws.{use-lt, use-eq, use-gt}
 use Rattle.calls.specs.CallList.{Freed}
@@ -126,14 +126,8 @@ module _ (sectors : ℕ) (rs : List Freed) (sums : List ℕ) (s : Sums sectors r
       up_same 0 (summed_buckets sums) (freed_buckets sectors rs)
       (up-those (λ (c : Bucket). ltb 0 (sum_of sums c)) 0 (buckets_from 65536 no_bucket) (up_from 65536 0)) (freed-up sectors rs) same_in
 
--- ---- buckets of a list are picked out, with a value each
+-- ---- buckets of a list are picked out, each into a row
 -- one more is listed
-named_more : (xs : List ℕ) (n : ℕ) (b : Bucket) (bs : List Bucket) {all : List Bucket} → n < length xs → buckets_in (take n xs) ++ (b ∷ bs) ≡ all
-    → buckets_in (take (n + 1) (set xs n b.0)) ++ bs ≡ all
-unfolding buckets_in
-named_more xs n b bs h e =
-    rw (add-one, take-suc-set xs n b.0 h, map-append bucket (take n xs) (b.0 ∷ []), append_snoc (buckets_in (take n xs)) b bs) e
-
 listed_more : {A : Type 0} (xs : List A) (n : ℕ) (x : A) (ys : List A) {all : List A} → n < length xs → take n xs ++ (x ∷ ys) ≡ all
     → take (n + 1) (set xs n x) ++ ys ≡ all
 listed_more xs n x ys h e = rw (add-one, take-suc-set xs n x h, append_snoc (take n xs) x ys) e
@@ -144,49 +138,41 @@ listed-many : {A : Type 0} (xs : List A) (n : ℕ) (xs' : List A) (r : ℕ) (ys 
 listed-many xs n xs' r ys zs h e = rw (h, append_assoc (take n xs) ys zs) e
 
 -- On the way: after the first n₀, n are listed, and `rest` is left.
-pub record Appending (all rest : List Bucket) (value : Bucket → ℕ) (buckets₀ values₀ : List ℕ) (n₀ : ℕ) (buckets values : List ℕ) (n : ℕ) : Type 0 where
+pub record Appending {A : Type 0} (all rest : List Bucket) (row : Bucket → A) (rows₀ : List A) (n₀ : ℕ) (rows : List A) (n : ℕ) : Type 0 where
   pub count : n + length rest ≡ n₀ + length all
-  pub named : buckets_in (take n buckets) ++ rest ≡ buckets_in (take n₀ buckets₀) ++ all
-  pub valued : take n values ++ map value rest ≡ take n₀ values₀ ++ map value all
+  pub listed : take n rows ++ map row rest ≡ take n₀ rows₀ ++ map row all
 
 -- the same from the first one on
-abbrev pub Picking : List Bucket → List Bucket → (Bucket → ℕ) → List ℕ → List ℕ → ℕ → Type 0
-Picking all rest value buckets values n = Appending all rest value [] [] 0 buckets values n
+abbrev pub Picking : {A : Type 0} → List Bucket → List Bucket → (Bucket → A) → List A → ℕ → Type 0
+Picking all rest row rows n = Appending all rest row [] 0 rows n
 
-pub pick-starts : (all : List Bucket) (value : Bucket → ℕ) (buckets values : List ℕ) → Picking all all value buckets values 0
-pick-starts all value buckets values = record { count = refl; named = refl; valued = refl }
+pub pick-starts : {A : Type 0} (all : List Bucket) (row : Bucket → A) (rows : List A) → Picking all all row rows 0
+pick-starts all row rows = record { count = refl; listed = refl }
 
-module _ {all rest : List Bucket} {value : Bucket → ℕ} {buckets₀ values₀ : List ℕ} {n₀ : ℕ} {buckets values : List ℕ} {n : ℕ} (p : Appending all rest value buckets₀ values₀ n₀ buckets values n) where
-  pub pick-hit : {b : Bucket} {next : List Bucket} → rest ≡ b ∷ next → n < length buckets → n < length values
-      → Appending all next value buckets₀ values₀ n₀ (set buckets n b.0) (set values n (value b)) (n + 1)
-  pick-hit {b} {next} e l m =
+module _ {A : Type 0} {all rest : List Bucket} {row : Bucket → A} {rows₀ : List A} {n₀ : ℕ} {rows : List A} {n : ℕ} (p : Appending all rest row rows₀ n₀ rows n) where
+  pub pick-hit : {b : Bucket} {next : List Bucket} → rest ≡ b ∷ next → n < length rows → Appending all next row rows₀ n₀ (set rows n (row b)) (n + 1)
+  pick-hit {b} {next} e l =
       record {
         count = omega (arith, p.count, ap length e);
-        named = named_more buckets n b next l (rw e at p.named);
-        valued = listed_more values n (value b) (map value next) m (rw e at p.valued);
+        listed = listed_more rows n (row b) (map row next) l (rw e at p.listed);
       }
 
-  pub pick-miss : {next : List Bucket} → rest ≡ next → Appending all next value buckets₀ values₀ n₀ buckets values n
-  pick-miss e = record { count = omega (arith, p.count, ap length e); named = rw e at p.named; valued = rw e at p.valued }
+  pub pick-miss : {next : List Bucket} → rest ≡ next → Appending all next row rows₀ n₀ rows n
+  pick-miss e = record { count = omega (arith, p.count, ap length e); listed = rw e at p.listed }
 
-  pub pick-many : {bs next : List Bucket} {buckets' values' : List ℕ} {r : ℕ} → rest ≡ bs ++ next → Appended bs value buckets values n buckets' values' r
-      → Appending all next value buckets₀ values₀ n₀ buckets' values' r
-  pick-many {bs} {next} {buckets'} {values'} {r} e a =
+  pub pick-many : {bs next : List Bucket} {rows' : List A} {r : ℕ} → rest ≡ bs ++ next → Appended bs row rows n rows' r → Appending all next row rows₀ n₀ rows' r
+  pick-many {bs} {next} {rows'} {r} e a =
       record {
         count = omega (arith, p.count, ap length e, length-append bs next, a.count);
-        named = rw (a.named, append_assoc (buckets_in (take n buckets)) bs next) (rw e at p.named);
-        valued = listed-many values n values' r (map value bs) (map value next) a.valued (rw (e, map-append value bs next) at p.valued);
+        listed = listed-many rows n rows' r (map row bs) (map row next) a.listed (rw (e, map-append row bs next) at p.listed);
       }
 
-  pub pick-appends : rest ≡ [] → Appended all value buckets₀ values₀ n₀ buckets values n
+  pub pick-appends : rest ≡ [] → Appended all row rows₀ n₀ rows n
   pick-appends e =
       record {
         count = omega (arith, p.count, ap length e);
-        named = sym (append-nil (buckets_in (take n buckets))) ∙ (rw e at p.named);
-        valued = sym (append-nil (take n values)) ∙ (rw e at p.valued);
+        listed = sym (append-nil (take n rows)) ∙ (rw e at p.listed);
       }
 
-pub pick_ends : {all rest : List Bucket} {value : Bucket → ℕ} {buckets values : List ℕ} {n : ℕ} → Picking all rest value buckets values n → rest ≡ []
-    → BucketsListed all value buckets values n
-unfolding buckets_in
-pick_ends p e = let a = pick-appends p e in record { count = omega (arith, a.count); named = a.named; valued = a.valued }
+pub pick_ends : {A : Type 0} {all rest : List Bucket} {row : Bucket → A} {rows : List A} {n : ℕ} → Picking all rest row rows n → rest ≡ [] → BucketsListed all row rows n
+pick_ends p e = let a = pick-appends p e in record { count = omega (arith, a.count); listed = a.listed }

@@ -1,32 +1,54 @@
 -- Reading released pieces, and tests over all of them.
-use mathlib.Core.Path.{◌≡◌, ◌∙◌}
+use mathlib.Core.Path.{◌≡◌, refl, ap, ◌∙◌}
 use mathlib.Core.Bool.{true, ◌&&◌}
 use Prim.Native.Nat.{ℕ, ◌+◌, ◌≤◌, ◌<◌}
 use native.Mathlib.Nat.{add-zero}
 use native.Mathlib.Omega.{arith}
 use mathlib.Core.List.{List, [], ◌∷◌}
 use lib.ListN.{length, get_or, take, drop, drop_of_length-le}
+use Rattle.std.proofs.lemmas.List.{drop-map}
 use lib.Dec.{leb}
 use borrow.Author.Tests.{leb-true, ltb-true, le-leb}
 use Rattle.wire.specs.Numbers.{le}
 use Rattle.wire.specs.Kinds.{bucket_of, offset_in, bucket_in_range}
+use Rattle.wire.specs.declared.kinds.Bucket.{Bucket}
 use Rattle.wire.proofs.NumberLaws.{body-le}
 use Rattle.wire.proofs.OutputLaws.{drop-next}
 use Rattle.calls.specs.CallList.{Freed, freed_of}
+use Rattle.calls.specs.Lists.{all_of}
 use Rattle.calls.specs.Release.{freed_ok}
+use Rattle.calls.proofs.lists.AllOfLaws.{all-of-drop, all-of-first}
 use Rattle.calls.proofs.lists.BoolLaws.{parts}
 use Rattle.reader.specs.Located.{no_freed}
 use Rattle.release_sums.specs.Freeds.{freeds_in, Requested}
 
 -- a piece, each part read at its own place
-pub freed-read : (s : List ℕ) (at d n : ℕ) → d ≡ le 8 (drop at s) → n ≡ le 2 (drop (at + 8) s)
+pub freed_read : (s : List ℕ) (at d n : ℕ) → d ≡ le 8 (drop at s) → n ≡ le 2 (drop (at + 8) s)
     → ◌≡◌ {A = Freed} (record { first = record { 0 = d }; sectors = n }) (freed_of (take 10 (drop at s)))
 unfolding freed_of
-freed-read s at d n p q =
+freed_read s at d n p q =
     let a : le 8 (take 10 (drop at s)) ≡ le 8 (drop at s) = rw add-zero at (body-le s at 10 8 0 (omega arith)) in
     rw (p, q, a, body-le s at 10 2 8 (omega arith))
 
--- what is left from index i on: the piece there, and the rest
+-- what is left from index i on: the piece that the offset there finds, and the rest; past the last none is left
+pub freeds_next : (s offsets : List ℕ) (i : ℕ) → i < length offsets
+    → freeds_in s (drop i offsets) ≡ freed_of (take 10 (drop (get_or offsets i 0) s)) ∷ freeds_in s (drop (i + 1) offsets)
+unfolding freeds_in
+freeds_next s offsets i h = rw (drop-next 0 offsets i h) refl
+
+pub freeds_here : (s offsets : List ℕ) {i : ℕ} {r : Freed} → i < length offsets → r ≡ freed_of (take 10 (drop (get_or offsets i 0) s))
+    → freeds_in s (drop i offsets) ≡ r ∷ freeds_in s (drop (i + 1) offsets)
+freeds_here s offsets {i} h e = rw e (freeds_next s offsets i h)
+
+freeds-drop : (s offsets : List ℕ) (i : ℕ) → drop i (freeds_in s offsets) ≡ freeds_in s (drop i offsets)
+unfolding freeds_in
+freeds-drop s offsets i = drop-map (λ at. freed_of (take 10 (drop at s))) i offsets
+
+pub freeds_none : (s offsets : List ℕ) (i : ℕ) → length offsets ≤ i → freeds_in s (drop i offsets) ≡ []
+unfolding freeds_in
+freeds_none s offsets i h = rw (drop_of_length-le offsets h) refl
+
+-- the same by index
 pub freeds-next : (s offsets : List ℕ) (i : ℕ) {r : Freed} → Requested s offsets → i < length offsets → r ≡ get_or (freeds_in s offsets) i no_freed
     → drop i (freeds_in s offsets) ≡ r ∷ drop (i + 1) (freeds_in s offsets)
 freeds-next s offsets i q h e = drop-next no_freed (freeds_in s offsets) i (omega (arith, q.count)) ∙ rw e
@@ -60,3 +82,10 @@ pub ok_tests : (sectors : ℕ) (r : Freed) → 1 ≤ r.sectors → r.sectors ≤
     → freed_ok sectors r ≡ (leb (offset_in r.first sectors + r.sectors) sectors && bucket_in_range (bucket_of r.first sectors))
 unfolding freed_ok
 ok_tests sectors r l m = rw (le-leb 1 r.sectors l, le-leb r.sectors 128 m)
+
+-- the bucket of the piece that the offset at an index finds
+pub bucket_at : (sectors : ℕ) (s offsets : List ℕ) {i : ℕ} {r : Freed} {b : Bucket} → all_of (freed_ok sectors) (freeds_in s offsets) ≡ true → i < length offsets
+    → r ≡ freed_of (take 10 (drop (get_or offsets i 0) s)) → b ≡ bucket_of r.first sectors → b.0 < 65536
+bucket_at sectors s offsets {i} ok h e f =
+    let here = freeds-drop s offsets i ∙ freeds_here s offsets h e in
+    omega (arith, ap (λ (x : Bucket). x.0) f, (within sectors _ (all-of-first (freed_ok sectors) (all-of-drop (freed_ok sectors) (freeds_in s offsets) i ok) here)).low)

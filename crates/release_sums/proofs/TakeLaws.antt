@@ -9,12 +9,13 @@ use lib.ListN.{length, get_or, set, take, drop, replicate, length-append, length
 use lib.Seq.{get_or-append-add, get_or-drop, drop-append-add, drop-drop, take_at, append_snoc}
 use lib.Dec.{ltb}
 use borrow.Author.Tests.{lt-ltb, le-ltb}
-use Rattle.wire.specs.Kinds.{buckets_in, buckets_from}
+use Rattle.wire.specs.Kinds.{buckets_from}
 use Rattle.wire.specs.declared.kinds.Bucket.{Bucket}
 use Rattle.wire.proofs.OutputLaws.{drop-next}
 use Rattle.calls.specs.Lists.{those}
 use Rattle.calls.proofs.history.View.{bucket}
-use Rattle.release_sums.specs.Summing.{Marked, sum_of, summed_buckets, summed_from, BucketsListed, Appended}
+use Rattle.release_sums.specs.Summing.{Marked, sum_of, summed_row, summed_buckets, summed_from, BucketsListed, Appended}
+use Rattle.release_sums.specs.declared.sums.FreedBucket.{FreedBucket}
 use Rattle.release_sums.proofs.SumLaws.{clear_next}
 use Rattle.release_sums.proofs.FoundLaws.{Appending, pick-hit, pick-miss, pick-many, pick-appends, pick_ends}
 
@@ -54,23 +55,24 @@ module _ (s t : List ℕ) where
   summed_same (suc n) i h =
       rw (summed-next s n i, summed-next t n i, h i (omega arith), summed_same n (i + 1) (λ j l. h j (omega arith)))
 
-  freed-same : (n i : ℕ) → ((j : ℕ) → i ≤ j → get_or s j 0 ≡ get_or t j 0) → map (sum_of s) (summed_from n (bucket i) t) ≡ map (sum_of t) (summed_from n (bucket i) t)
-  freed-same zero i h = rw (summed-none t 0 i refl)
-  freed-same (suc n) i h = rw (summed-next t n i) (go (ltb 0 (get_or t i 0)) (freed-same n (i + 1) (λ j l. h j (omega arith))))
+  rows-same : (n i : ℕ) → ((j : ℕ) → i ≤ j → get_or s j 0 ≡ get_or t j 0)
+      → map (summed_row (sum_of s)) (summed_from n (bucket i) t) ≡ map (summed_row (sum_of t)) (summed_from n (bucket i) t)
+  rows-same zero i h = rw (summed-none t 0 i refl)
+  rows-same (suc n) i h = rw (summed-next t n i) (go (ltb 0 (get_or t i 0)) (rows-same n (i + 1) (λ j l. h j (omega arith))))
     where
-      go : (u : Bool) → map (sum_of s) (summed_from n (bucket (i + 1)) t) ≡ map (sum_of t) (summed_from n (bucket (i + 1)) t)
-          → map (sum_of s) (cond u (bucket i ∷ summed_from n (bucket (i + 1)) t) (summed_from n (bucket (i + 1)) t)) ≡ map (sum_of t) (cond u (bucket i ∷ summed_from n (bucket (i + 1)) t) (summed_from n (bucket (i + 1)) t))
+      go : (u : Bool) → map (summed_row (sum_of s)) (summed_from n (bucket (i + 1)) t) ≡ map (summed_row (sum_of t)) (summed_from n (bucket (i + 1)) t)
+          → map (summed_row (sum_of s)) (cond u (bucket i ∷ summed_from n (bucket (i + 1)) t) (summed_from n (bucket (i + 1)) t))
+          ≡ map (summed_row (sum_of t)) (cond u (bucket i ∷ summed_from n (bucket (i + 1)) t) (summed_from n (bucket (i + 1)) t))
       go true q = rw (h i (omega arith), q)
       go false q = q
 
-  appended-same : (n i : ℕ) {buckets freed : List ℕ} {m : ℕ} {buckets' freed' : List ℕ} {r : ℕ} → ((j : ℕ) → i ≤ j → get_or s j 0 ≡ get_or t j 0)
-      → Appended (summed_from n (bucket i) s) (sum_of s) buckets freed m buckets' freed' r → Appended (summed_from n (bucket i) t) (sum_of t) buckets freed m buckets' freed' r
-  appended-same n i {buckets} {freed} {m} h a =
+  appended-same : (n i : ℕ) {rows : List FreedBucket} {m : ℕ} {rows' : List FreedBucket} {r : ℕ} → ((j : ℕ) → i ≤ j → get_or s j 0 ≡ get_or t j 0)
+      → Appended (summed_from n (bucket i) s) (summed_row (sum_of s)) rows m rows' r → Appended (summed_from n (bucket i) t) (summed_row (sum_of t)) rows m rows' r
+  appended-same n i {rows} {m} h a =
       let e = summed_same n i h in
       record {
         count = a.count ∙ ap (λ (l : List Bucket). m + length l) e;
-        named = a.named ∙ ap (λ (l : List Bucket). buckets_in (take m buckets) ++ l) e;
-        valued = a.valued ∙ ap (λ (l : List Bucket). take m freed ++ map (sum_of s) l) e ∙ ap (λ (l : List ℕ). take m freed ++ l) (freed-same n i h);
+        listed = a.listed ∙ ap (λ (l : List Bucket). take m rows ++ map (summed_row (sum_of s)) l) e ∙ ap (λ (l : List FreedBucket). take m rows ++ l) (rows-same n i h);
       }
 
 -- ---- the sums whose first ones are cleared
@@ -102,28 +104,28 @@ pub cut-length : (s : List ℕ) (i : ℕ) → i ≤ length s → length (replica
 cut-length s i h = omega (arith, length-append (replicate i 0) (drop i s), zeros i, length-drop i s)
 
 -- ---- The pass up to an end on its way: the sums below b are taken out, and those from b on are left.
-pub record Taking (all : List Bucket) (end : ℕ) (before buckets₀ freed₀ : List ℕ) (n₀ : ℕ) (sums buckets freed : List ℕ) (n b : ℕ) : Type 0 where
+pub record Taking (all : List Bucket) (end : ℕ) (before : List ℕ) (rows₀ : List FreedBucket) (n₀ : ℕ) (sums : List ℕ) (rows : List FreedBucket) (n b : ℕ) : Type 0 where
   pub low : b ≤ end
   pub cut : sums ≡ replicate b 0 ++ drop b before
-  pub listing : Appending all (summed_from (end - b) (bucket b) before) (sum_of before) buckets₀ freed₀ n₀ buckets freed n
+  pub listing : Appending all (summed_from (end - b) (bucket b) before) (summed_row (sum_of before)) rows₀ n₀ rows n
 
 -- a group
-pub taking-starts : (s buckets freed : List ℕ) (n from m : ℕ) → take from s ≡ replicate from 0
-    → Taking (summed_from m (bucket from) s) (from + m) s buckets freed n s buckets freed n from
-taking-starts s buckets freed n from m e =
+pub taking-starts : (s : List ℕ) (rows : List FreedBucket) (n from m : ℕ) → take from s ≡ replicate from 0
+    → Taking (summed_from m (bucket from) s) (from + m) s rows n s rows n from
+taking-starts s rows n from m e =
     let d : from + m - from ≡ m = omega arith in
     record {
       low = omega arith;
       cut = sym (take-append-drop from s) ∙ ap (λ (l : List ℕ). l ++ drop from s) e;
-      listing = rw d (record { count = refl; named = refl; valued = refl });
+      listing = rw d (record { count = refl; listed = refl });
     }
 
 -- all of them
-pub taking-all : (s buckets freed : List ℕ) → Taking (summed_buckets s) 65536 s [] [] 0 s buckets freed 0 0
+pub taking-all : (s : List ℕ) (rows : List FreedBucket) → Taking (summed_buckets s) 65536 s [] 0 s rows 0 0
 unfolding summed_buckets summed_from
-taking-all s buckets freed = record { low = omega arith; cut = refl; listing = record { count = refl; named = refl; valued = refl } }
+taking-all s rows = record { low = omega arith; cut = refl; listing = record { count = refl; listed = refl } }
 
-module _ {all : List Bucket} {end : ℕ} {before buckets₀ freed₀ : List ℕ} {n₀ : ℕ} {sums buckets freed : List ℕ} {n b : ℕ} (t : Taking all end before buckets₀ freed₀ n₀ sums buckets freed n b) (long : end ≤ length before) where
+module _ {all : List Bucket} {end : ℕ} {before : List ℕ} {rows₀ : List FreedBucket} {n₀ : ℕ} {sums : List ℕ} {rows : List FreedBucket} {n b : ℕ} (t : Taking all end before rows₀ n₀ sums rows n b) (long : end ≤ length before) where
   pub taking-length : length sums ≡ length before
   taking-length = ap length t.cut ∙ cut-length before b (omega (arith, t.low))
 
@@ -140,16 +142,16 @@ module _ {all : List Bucket} {end : ℕ} {before buckets₀ freed₀ : List ℕ}
   pub taking-room : b < end → 0 < get_or sums b 0 → n < n₀ + length all
   taking-room h k = omega (arith, t.listing.count, ap length (hit h k))
 
-  pub taking-hit : b < end → 0 < get_or sums b 0 → n < length buckets → n < length freed
-      → Taking all end before buckets₀ freed₀ n₀ (set sums b 0) (set buckets n b) (set freed n (get_or sums b 0)) (n + 1) (b + 1)
-  taking-hit h k l m =
+  pub taking-hit : b < end → 0 < get_or sums b 0 → n < length rows
+      → Taking all end before rows₀ n₀ (set sums b 0) (set rows n (summed_row (sum_of sums) (bucket b))) (n + 1) (b + 1)
+  taking-hit h k l =
       record {
         low = omega arith;
         cut = ap (λ (x : List ℕ). set x b 0) t.cut ∙ clear_next before b (omega arith);
-        listing = rw (left b (omega arith)) (pick-hit t.listing (hit h k) l m);
+        listing = rw (left b (omega arith)) (pick-hit t.listing (hit h k) l);
       }
 
-  pub taking-miss : b < end → get_or sums b 0 ≤ 0 → Taking all end before buckets₀ freed₀ n₀ sums buckets freed n (b + 1)
+  pub taking-miss : b < end → get_or sums b 0 ≤ 0 → Taking all end before rows₀ n₀ sums rows n (b + 1)
   taking-miss h k =
       let z : get_or before b 0 ≤ 0 = omega (arith, left b (omega arith)) in
       record {
@@ -176,9 +178,9 @@ module _ {all : List Bucket} {end : ℕ} {before buckets₀ freed₀ : List ℕ}
   taking-first = ap (take b) t.cut ∙ take_at (replicate b 0) (drop b before) b (zeros b)
 
   -- the next m are taken out
-  pub taking-group : (m : ℕ) {sums' buckets' freed' : List ℕ} {r : ℕ} → b + m ≤ end
-      → Appended (summed_from m (bucket b) sums) (sum_of sums) buckets freed n buckets' freed' r → sums' ≡ replicate (b + m) 0 ++ drop (b + m) sums
-      → Taking all end before buckets₀ freed₀ n₀ sums' buckets' freed' r (b + m)
+  pub taking-group : (m : ℕ) {sums' : List ℕ} {rows' : List FreedBucket} {r : ℕ} → b + m ≤ end
+      → Appended (summed_from m (bucket b) sums) (summed_row (sum_of sums)) rows n rows' r → sums' ≡ replicate (b + m) 0 ++ drop (b + m) sums
+      → Taking all end before rows₀ n₀ sums' rows' r (b + m)
   taking-group m h a e =
       record {
         low = h;
@@ -186,19 +188,19 @@ module _ {all : List Bucket} {end : ℕ} {before buckets₀ freed₀ : List ℕ}
         listing = pick-many t.listing (split m h) (appended-same sums before m b left a);
       }
 
-  pub taking-appends : end ≤ b → Appended all (sum_of before) buckets₀ freed₀ n₀ buckets freed n × (sums ≡ replicate end 0 ++ drop end before)
+  pub taking-appends : end ≤ b → Appended all (summed_row (sum_of before)) rows₀ n₀ rows n × (sums ≡ replicate end 0 ++ drop end before)
   taking-appends h =
       let e : b ≡ end = omega (arith, t.low) in
       (pick-appends t.listing (summed-none before (end - b) b (omega arith)), t.cut ∙ ap (λ (i : ℕ). replicate i 0 ++ drop i before) e)
 
-pub taking-lists : {all : List Bucket} {end : ℕ} {before sums buckets freed : List ℕ} {n b : ℕ} → Taking all end before [] [] 0 sums buckets freed n b → end ≤ length before
-    → end ≤ b → BucketsListed all (sum_of before) buckets freed n × (sums ≡ replicate end 0 ++ drop end before)
+pub taking-lists : {all : List Bucket} {end : ℕ} {before sums : List ℕ} {rows : List FreedBucket} {n b : ℕ} → Taking all end before [] 0 sums rows n b → end ≤ length before
+    → end ≤ b → BucketsListed all (summed_row (sum_of before)) rows n × (sums ≡ replicate end 0 ++ drop end before)
 taking-lists {end = end} {before} {b = b} t long h = (pick_ends t.listing (summed-none before (end - b) b (omega arith)), (taking-appends t long h).1)
 
 -- the next m are 0
-pub taking-skip : {all : List Bucket} {end : ℕ} {before buckets₀ freed₀ : List ℕ} {n₀ : ℕ} {sums buckets freed : List ℕ} {n b : ℕ}
-    → Taking all end before buckets₀ freed₀ n₀ sums buckets freed n b → end ≤ length before → (m : ℕ) → b + m ≤ end
-    → ((j : ℕ) → b ≤ j → j < b + m → get_or before j 0 ≡ 0) → Taking all end before buckets₀ freed₀ n₀ sums buckets freed n (b + m)
+pub taking-skip : {all : List Bucket} {end : ℕ} {before : List ℕ} {rows₀ : List FreedBucket} {n₀ : ℕ} {sums : List ℕ} {rows : List FreedBucket} {n b : ℕ}
+    → Taking all end before rows₀ n₀ sums rows n b → end ≤ length before → (m : ℕ) → b + m ≤ end
+    → ((j : ℕ) → b ≤ j → j < b + m → get_or before j 0 ≡ 0) → Taking all end before rows₀ n₀ sums rows n (b + m)
 taking-skip t long zero h z = rw (add-zero) t
 taking-skip {b = b} t long (suc m) h z =
     let u = taking-skip t long m (omega arith) (λ j l k. z j l (omega arith)) in

@@ -1,10 +1,11 @@
 -- The lent scratch: the sum of each bucket, and the buckets whose sum is not 0.
-use Rattle.std.specs.Prelude.{◌≡◌, true, ℕ, ◌+◌, ◌/◌, ◌≤◌, List, map, ◌++◌, length, get_or, take, ltb}
-use Rattle.wire.specs.Kinds.{buckets_in, bucket_in_range, buckets_from, no_bucket}
+use Rattle.std.specs.Prelude.{◌≡◌, true, ℕ, ◌+◌, ◌/◌, ◌≤◌, List, map, ◌++◌, length, get_or, take, ltb, None}
+use Rattle.wire.specs.Kinds.{bucket_in_range, buckets_from, no_bucket}
 use Rattle.wire.specs.declared.kinds.Bucket.{Bucket}
 use Rattle.calls.specs.CallList.{Freed}
 use Rattle.calls.specs.Lists.{those}
 use Rattle.calls.specs.Release.{freed_in}
+use Rattle.release_sums.specs.declared.sums.FreedBucket.{FreedBucket}
 
 -- a bucket's sum
 abbrev pub sum_of : List ℕ → Bucket → ℕ
@@ -36,14 +37,16 @@ summed_from n first sums = those (λ b. ltb 0 (sum_of sums b)) (buckets_from n f
 unfoldable pub summed_buckets : List ℕ → List Bucket
 summed_buckets sums = summed_from 65536 no_bucket sums
 
--- the first n of a table are these buckets, and the first n values are theirs
-pub record BucketsListed (bs : List Bucket) (value : Bucket → ℕ) (buckets values : List ℕ) (n : ℕ) : Type 0 where
-  pub count : n ≡ length bs
-  pub named : buckets_in (take n buckets) ≡ bs
-  pub valued : take n values ≡ map value bs
+-- a bucket with its value, whose alloc key is not looked for yet
+abbrev pub summed_row : (Bucket → ℕ) → Bucket → FreedBucket
+summed_row value b = record { bucket = b; freed = value b; place = None }
 
--- these buckets, and their values, are listed after the first n, which makes r
-pub record Appended (bs : List Bucket) (value : Bucket → ℕ) (buckets values : List ℕ) (n : ℕ) (buckets' values' : List ℕ) (r : ℕ) : Type 0 where
+-- the first n of a table are the rows of these buckets
+pub record BucketsListed {A : Type 0} (bs : List Bucket) (row : Bucket → A) (rows : List A) (n : ℕ) : Type 0 where
+  pub count : n ≡ length bs
+  pub listed : take n rows ≡ map row bs
+
+-- the rows of these buckets are listed after the first n, which makes r
+pub record Appended {A : Type 0} (bs : List Bucket) (row : Bucket → A) (rows : List A) (n : ℕ) (rows' : List A) (r : ℕ) : Type 0 where
   pub count : r ≡ n + length bs
-  pub named : buckets_in (take r buckets') ≡ buckets_in (take n buckets) ++ bs
-  pub valued : take r values' ≡ take n values ++ map value bs
+  pub listed : take r rows' ≡ take n rows ++ map row bs

@@ -16,7 +16,8 @@ pub struct Freed {
 }
 
 // The piece at a place of a list. The length of a field 66 shows the bound.
-fn read_freed(s: &[u8], at: usize) -> Freed
+#[tactic(auto, using(crate::proofs::FreedLaws::freed_read))]
+pub fn read_freed(s: &[u8], at: usize) -> Freed
     requires { at + 10 ≤ length s.now }
     ensures { freed_held result ≡ freed_of (take 10 (drop at s.now)) }
 {
@@ -35,35 +36,26 @@ pub fn freed_at(s: &[u8], requests: &[u32], i: usize) -> Freed
 }
 
 // Refusal 14 at one piece. Refusal 4 and two bytes of a field show the bounds, here and below.
+#[tactic(auto, unfolding(calls::specs::Release::freed_ok))]
 fn freed_ok(r: Freed, sectors: u64) -> bool
     requires { (0 < sectors) × (sectors < 65536) }
     ensures { result ≡ freed_ok sectors (freed_held r) }
 {
-    if r.sectors < 1 {
-        return false;
-    }
-    if 128 < r.sectors {
-        return false;
-    }
-    let first = r.first;
-    if sectors < kinds::offset_in(first, sectors) + (r.sectors as u64) {
-        return false;
-    }
-    kinds::bucket_in_range(kinds::bucket_of(first, sectors))
+    (1..=128).contains(&r.sectors)
+        && kinds::offset_in(r.first, sectors) + r.sectors as u64 <= sectors
+        && kinds::bucket_in_range(kinds::bucket_of(r.first, sectors))
 }
 
 // Refusal 14: whether every piece lies within its bucket.
+#[tactic(auto, using(crate::proofs::FreedLaws::freeds_next, crate::proofs::FreedLaws::freeds_none), unfolding(calls::specs::Lists::all_of))]
 pub fn all_freed_ok(s: &[u8], requests: &[u32], sectors: u64) -> bool
     requires { Requested s.now requests.now × ((0 < sectors) × (sectors < 65536)) }
     ensures { result ≡ all_of (freed_ok sectors) (freeds_in s.now requests.now) }
 {
-    let mut i: usize = 0;
-    while i < requests.len() {
-        let r = freed_at(s, requests, i);
-        if !freed_ok(r, sectors) {
+    for &at in requests {
+        if !freed_ok(read_freed(s, at as usize), sectors) {
             return false;
         }
-        i += 1;
     }
     true
 }
