@@ -22,7 +22,7 @@ use Rattle.calls.proofs.lists.BoolLaws.{clash}
 use Rattle.calls.proofs.freespace.BucketLaws.{is_in-those}
 use Rattle.calls.proofs.release.ReleaseLaws.{named-freed, named-range}
 use Rattle.calls.proofs.history.View.{bucket}
-use Rattle.release_sums.specs.Summing.{Sums, sum_of, summed_buckets, summed_from, BucketsListed, Appended}
+use Rattle.release_sums.specs.Summing.{Sums, sum_of, summed_buckets, summed_from, Listed, Appended}
 
 -- ---- ascending lists with the same buckets are the same
 up-below : (n : ℕ) (l : List Bucket) → Up n l → (b : Bucket) → b.0 < n → is_in l b ≡ false
@@ -126,7 +126,7 @@ module _ (sectors : ℕ) (rs : List Freed) (sums : List ℕ) (s : Sums sectors r
       up_same 0 (summed_buckets sums) (freed_buckets sectors rs)
       (up-those (λ (c : Bucket). ltb 0 (sum_of sums c)) 0 (buckets_from 65536 no_bucket) (up_from 65536 0)) (freed-up sectors rs) same_in
 
--- ---- buckets of a list are picked out, each into a row
+-- ---- elements of a list are picked out, each into a row
 -- one more is listed
 listed_more : {A : Type 0} (xs : List A) (n : ℕ) (x : A) (ys : List A) {all : List A} → n < length xs → take n xs ++ (x ∷ ys) ≡ all
     → take (n + 1) (set xs n x) ++ ys ≡ all
@@ -138,29 +138,29 @@ listed-many : {A : Type 0} (xs : List A) (n : ℕ) (xs' : List A) (r : ℕ) (ys 
 listed-many xs n xs' r ys zs h e = rw (h, append_assoc (take n xs) ys zs) e
 
 -- On the way: after the first n₀, n are listed, and `rest` is left.
-pub record Appending {A : Type 0} (all rest : List Bucket) (row : Bucket → A) (rows₀ : List A) (n₀ : ℕ) (rows : List A) (n : ℕ) : Type 0 where
+pub record Appending {A B : Type 0} (all rest : List B) (row : B → A) (rows₀ : List A) (n₀ : ℕ) (rows : List A) (n : ℕ) : Type 0 where
   pub count : n + length rest ≡ n₀ + length all
   pub listed : take n rows ++ map row rest ≡ take n₀ rows₀ ++ map row all
 
 -- the same from the first one on
-abbrev pub Picking : {A : Type 0} → List Bucket → List Bucket → (Bucket → A) → List A → ℕ → Type 0
+abbrev pub Picking : {A B : Type 0} → List B → List B → (B → A) → List A → ℕ → Type 0
 Picking all rest row rows n = Appending all rest row [] 0 rows n
 
-pub pick-starts : {A : Type 0} (all : List Bucket) (row : Bucket → A) (rows : List A) → Picking all all row rows 0
+pub pick-starts : {A B : Type 0} (all : List B) (row : B → A) (rows : List A) → Picking all all row rows 0
 pick-starts all row rows = record { count = refl; listed = refl }
 
-module _ {A : Type 0} {all rest : List Bucket} {row : Bucket → A} {rows₀ : List A} {n₀ : ℕ} {rows : List A} {n : ℕ} (p : Appending all rest row rows₀ n₀ rows n) where
-  pub pick-hit : {b : Bucket} {next : List Bucket} → rest ≡ b ∷ next → n < length rows → Appending all next row rows₀ n₀ (set rows n (row b)) (n + 1)
+module _ {A B : Type 0} {all rest : List B} {row : B → A} {rows₀ : List A} {n₀ : ℕ} {rows : List A} {n : ℕ} (p : Appending all rest row rows₀ n₀ rows n) where
+  pub pick-hit : {b : B} {next : List B} → rest ≡ b ∷ next → n < length rows → Appending all next row rows₀ n₀ (set rows n (row b)) (n + 1)
   pick-hit {b} {next} e l =
       record {
         count = omega (arith, p.count, ap length e);
         listed = listed_more rows n (row b) (map row next) l (rw e at p.listed);
       }
 
-  pub pick-miss : {next : List Bucket} → rest ≡ next → Appending all next row rows₀ n₀ rows n
+  pub pick-miss : {next : List B} → rest ≡ next → Appending all next row rows₀ n₀ rows n
   pick-miss e = record { count = omega (arith, p.count, ap length e); listed = rw e at p.listed }
 
-  pub pick-many : {bs next : List Bucket} {rows' : List A} {r : ℕ} → rest ≡ bs ++ next → Appended bs row rows n rows' r → Appending all next row rows₀ n₀ rows' r
+  pub pick-many : {bs next : List B} {rows' : List A} {r : ℕ} → rest ≡ bs ++ next → Appended bs row rows n rows' r → Appending all next row rows₀ n₀ rows' r
   pick-many {bs} {next} {rows'} {r} e a =
       record {
         count = omega (arith, p.count, ap length e, length-append bs next, a.count);
@@ -174,5 +174,5 @@ module _ {A : Type 0} {all rest : List Bucket} {row : Bucket → A} {rows₀ : L
         listed = sym (append-nil (take n rows)) ∙ (rw e at p.listed);
       }
 
-pub pick_ends : {A : Type 0} {all rest : List Bucket} {row : Bucket → A} {rows : List A} {n : ℕ} → Picking all rest row rows n → rest ≡ [] → BucketsListed all row rows n
+pub pick_ends : {A B : Type 0} {all rest : List B} {row : B → A} {rows : List A} {n : ℕ} → Picking all rest row rows n → rest ≡ [] → Listed all row rows n
 pick_ends p e = let a = pick-appends p e in record { count = omega (arith, a.count); listed = a.listed }

@@ -14,7 +14,7 @@ use Rattle.wire.specs.declared.kinds.Bucket.{Bucket}
 use Rattle.wire.proofs.OutputLaws.{drop-next}
 use Rattle.calls.specs.Lists.{those}
 use Rattle.calls.proofs.history.View.{bucket}
-use Rattle.release_sums.specs.Summing.{Marked, sum_of, summed_row, summed_buckets, summed_from, BucketsListed, Appended}
+use Rattle.release_sums.specs.Summing.{Marked, sum_of, summed_row, summed_buckets, summed_from, Listed, Appended}
 use Rattle.release_sums.specs.declared.sums.FreedBucket.{FreedBucket}
 use Rattle.release_sums.proofs.SumLaws.{clear_next}
 use Rattle.release_sums.proofs.FoundLaws.{Appending, pick-hit, pick-miss, pick-many, pick-appends, pick_ends}
@@ -194,7 +194,7 @@ module _ {all : List Bucket} {end : ℕ} {before : List ℕ} {rows₀ : List Fre
       (pick-appends t.listing (summed-none before (end - b) b (omega arith)), t.cut ∙ ap (λ (i : ℕ). replicate i 0 ++ drop i before) e)
 
 pub taking-lists : {all : List Bucket} {end : ℕ} {before sums : List ℕ} {rows : List FreedBucket} {n b : ℕ} → Taking all end before [] 0 sums rows n b → end ≤ length before
-    → end ≤ b → BucketsListed all (summed_row (sum_of before)) rows n × (sums ≡ replicate end 0 ++ drop end before)
+    → end ≤ b → Listed all (summed_row (sum_of before)) rows n × (sums ≡ replicate end 0 ++ drop end before)
 taking-lists {end = end} {before} {b = b} t long h = (pick_ends t.listing (summed-none before (end - b) b (omega arith)), (taking-appends t long h).1)
 
 -- the next m are 0

@@ -41,12 +41,12 @@ summed_buckets sums = summed_from 65536 no_bucket sums
 abbrev pub summed_row : (Bucket → ℕ) → Bucket → FreedBucket
 summed_row value b = record { bucket = b; freed = value b; place = None }
 
--- the first n of a table are the rows of these buckets
-pub record BucketsListed {A : Type 0} (bs : List Bucket) (row : Bucket → A) (rows : List A) (n : ℕ) : Type 0 where
-  pub count : n ≡ length bs
-  pub listed : take n rows ≡ map row bs
+-- the first n of a table are the rows of these
+pub record Listed {A B : Type 0} (xs : List B) (row : B → A) (rows : List A) (n : ℕ) : Type 0 where
+  pub count : n ≡ length xs
+  pub listed : take n rows ≡ map row xs
 
--- the rows of these buckets are listed after the first n, which makes r
-pub record Appended {A : Type 0} (bs : List Bucket) (row : Bucket → A) (rows : List A) (n : ℕ) (rows' : List A) (r : ℕ) : Type 0 where
-  pub count : r ≡ n + length bs
-  pub listed : take r rows' ≡ take n rows ++ map row bs
+-- the rows of these are listed after the first n, which makes r
+pub record Appended {A B : Type 0} (xs : List B) (row : B → A) (rows : List A) (n : ℕ) (rows' : List A) (r : ℕ) : Type 0 where
+  pub count : r ≡ n + length xs
+  pub listed : take r rows' ≡ take n rows ++ map row xs

@@ -4,7 +4,7 @@ ghost use Rattle.wire.specs.Kinds.{bucket_is};
 ghost use Rattle.calls.specs.Lists.{all_of};
 ghost use Rattle.calls.specs.Release.{freed_ok};
 ghost use Rattle.release_sums.specs.Freeds.{freeds_in, Requested};
-ghost use Rattle.release_sums.specs.Summing.{Cleared, Sums, Marked, sum_of, summed_row, summed_buckets, summed_from, BucketsListed, Appended};
+ghost use Rattle.release_sums.specs.Summing.{Cleared, Sums, Marked, sum_of, summed_row, summed_buckets, summed_from, Listed, Appended};
 
 use crate::requests;
 use wire::kinds;
@@ -66,7 +66,7 @@ fn take_group(sums: &mut [u32], from: usize, rows: &mut [FreedBucket], n: usize)
 // Takes out the sums that are not 0, and lists them with their buckets, ascending: how many there are. `add_up` shows the marks, and a request for each, of at least one sector, the bound.
 pub fn take_freed(sums: &mut [u32], marks: &[u8; 1024], rows: &mut [FreedBucket]) -> usize
     requires { (65536 ≤ length sums.old) × (length (summed_buckets sums.old) ≤ length rows.old) × Marked sums.old marks.now }
-    ensures { BucketsListed (summed_buckets sums.old) (summed_row (sum_of sums.old)) rows.new result × (sums.new ≡ replicate 65536 0 ++ drop 65536 sums.old) }
+    ensures { Listed (summed_buckets sums.old) (summed_row (sum_of sums.old)) rows.new result × (sums.new ≡ replicate 65536 0 ++ drop 65536 sums.old) }
 {
     let mut n: usize = 0;
     for (g, &mark) in marks.iter().enumerate() {
