@@ -5,13 +5,14 @@ use mathlib.Core.List.{List, [], ◌∷◌, ◌++◌, map}
 use mathlib.Core.Option.{some}
 use Prim.Native.Nat.{ℕ, zero, suc, ◌+◌, ◌/◌, ◌≤◌, ◌<◌}
 use native.Mathlib.Omega.{arith}
-use lib.ListN.{length, get_or, drop, length-map}
+use lib.ListN.{length, get_or, drop, drop_of_length-le}
+use Rattle.std.proofs.lemmas.List.{drop-map}
 use lib.Dec.{eqb}
 use borrow.Author.Tests.{eqb-true, eqb-false, eq-eqb, ne_eqb}
 use Rattle.wire.specs.Keys.{Key}
 use Rattle.wire.specs.Order.{cmp}
 use Rattle.wire.specs.Held.{key_in}
-use Rattle.wire.specs.Kinds.{bucket_below, buckets_in}
+use Rattle.wire.specs.Kinds.{bucket_below, bucket_in_range, no_bucket}
 use Rattle.wire.specs.Encode.{encode_field, key_field}
 use Rattle.wire.specs.Positions.{gens_at, gens_byte}
 use Rattle.wire.specs.declared.kinds.Bucket.{Bucket}
@@ -19,21 +20,22 @@ use Rattle.wire.specs.declared.bpos.Bpos.{Bpos}
 use Rattle.wire.specs.Output.{top, Wrote}
 use Rattle.wire.specs.Output.{Emitted}
 use Rattle.wire.proofs.OrderLaws.{pos-cmp}
-use Rattle.wire.proofs.OutputLaws.{Part, begin, turn, put-out}
+use Rattle.wire.proofs.OutputLaws.{Part, begin, turn, put-out, drop-next}
 use Rattle.wire.proofs.EmitLaws.{done}
 use Rattle.format.specs.Gens.{with_gen, no_gens}
-use Rattle.calls.specs.Lists.{in_order}
+use Rattle.calls.specs.Lists.{all_of, in_order}
+use Rattle.calls.proofs.lists.AllOfLaws.{all-of-drop, all-of-first}
 use Rattle.calls.specs.Generations.{gen_record, gen_key, gen_queued}
 use Rattle.calls.specs.Release.{gens_queued}
 use Rattle.calls.specs.Trees.{lookup, new_key}
 use Rattle.calls.proofs.trees.TreeLaws.{on_eq-ne}
 use Rattle.calls.proofs.release.GensLaws.{key-is}
-use Rattle.calls.proofs.history.View.{bucket}
 use Rattle.reader.specs.KeyHere.{key_here}
 use Rattle.gens.specs.Records.{record_at}
 use Rattle.change_fields.specs.FieldBytes.{keys_bytes}
-use Rattle.wire.proofs.BucketTables.{table-length, table-next, table_none}
-use Rattle.release_keys.specs.GenRecords.{GenerationsKnown, continued, NextRecord}
+use Rattle.release_keys.specs.GenRecords.{continued, NextRecord}
+use Rattle.release_keys.specs.Emptied.{emptied_row, emptied_buckets}
+use Rattle.release_keys.specs.declared.freed_buckets.Emptied.{Emptied}
 use Rattle.release_keys.specs.declared.gen_records.Queued.{Queued}
 use Rattle.change_fields.proofs.FieldLists.{fields-next, fields-none}
 use Rattle.release_keys.proofs.AllocLaws.{order-at}
@@ -73,21 +75,46 @@ module _ (k : Key) (records : List Key) (b : Bucket) (t : k.type ≡ 30) (p : k.
       rw (on_eq-ne (cmp (gens_at c) k.pos) (some k) (lookup (gens_at c) records)
       (λ e. n (ap (λ (q : Bpos). q.offset) (pos-cmp.eq-path (gens_at c) k.pos e ∙ p))))
 
--- ---- the loop
--- On its way: the buckets from index k on are left, and their records continue the last one or the tree's.
-pub record Queue (gens : List Key) (generation_of : Bucket → ℕ) (emptied out₀ out : List ℕ) (at p k : ℕ) (last : Queued) : Type 0 where
-  pub records : List Key
-  pub part : Part out₀ at (keys_bytes 14 (gens_queued generation_of gens (buckets_in emptied))) out p (keys_bytes 14 (gens_queued generation_of records (drop k (buckets_in emptied))))
-  pub continues : (j : ℕ) → k ≤ j → j < length emptied → gen_key records (bucket (get_or emptied j 0)) ≡ continued gens last (bucket (get_or emptied j 0))
-  pub ahead : (j : ℕ) → k ≤ j → j < length emptied → last.after ≤ get_or emptied j 0 / 256 + 1
+-- ---- the rows
+-- a row for an index that none has
+abbrev pub no_emptied : Emptied
+no_emptied = record { bucket = no_bucket; generation = 0 }
 
-pub queue-starts : (gens : List Key) (generation_of : Bucket → ℕ) (emptied out : List ℕ) (at : ℕ) (last : Queued) → length out ≤ top → last.after ≡ 0
-    → Queue gens generation_of emptied out out at at 0 last
-queue-starts gens generation_of emptied out at last h e =
+pub emptied-next : (rows : List Emptied) (k : ℕ) → k < length rows
+    → emptied_buckets (drop k rows) ≡ (get_or rows k no_emptied).bucket ∷ emptied_buckets (drop (k + 1) rows)
+emptied-next rows k h = ap emptied_buckets (drop-next no_emptied rows k h)
+
+pub emptied-none : (rows : List Emptied) (k : ℕ) → length rows ≤ k → emptied_buckets (drop k rows) ≡ []
+emptied-none rows k h = ap emptied_buckets (drop_of_length-le rows h)
+
+-- each is within the limit
+pub range_at : (rows : List Emptied) → all_of bucket_in_range (emptied_buckets rows) ≡ true → (k : ℕ) → k < length rows
+    → bucket_in_range (get_or rows k no_emptied).bucket ≡ true
+range_at rows o k h =
+    all-of-first bucket_in_range (all-of-drop bucket_in_range (emptied_buckets rows) k o) (drop-map (λ (e : Emptied). e.bucket) k rows ∙ emptied-next rows k h)
+
+-- the generation at an index
+pub generation-at : (generation_of : Bucket → ℕ) (rows : List Emptied) (k : ℕ) → k < length rows → rows ≡ map (emptied_row generation_of) (emptied_buckets rows)
+    → (get_or rows k no_emptied).generation ≡ generation_of (get_or rows k no_emptied).bucket
+generation-at generation_of [] k h e = absurd (omega arith)
+generation-at generation_of (n ∷ ns) zero h e = let d : n ≡ emptied_row generation_of n.bucket = cc in ap (λ (x : Emptied). x.generation) d
+generation-at generation_of (n ∷ ns) (suc k) h e = generation-at generation_of ns k (omega arith) (let d : ns ≡ map (emptied_row generation_of) (emptied_buckets ns) = cc in d)
+
+-- ---- the loop
+-- On its way: the rows from index k on are left, and their records continue the last one or the tree's.
+pub record Queue (gens : List Key) (generation_of : Bucket → ℕ) (rows : List Emptied) (out₀ out : List ℕ) (at p k : ℕ) (last : Queued) : Type 0 where
+  pub records : List Key
+  pub part : Part out₀ at (keys_bytes 14 (gens_queued generation_of gens (emptied_buckets rows))) out p (keys_bytes 14 (gens_queued generation_of records (emptied_buckets (drop k rows))))
+  pub continues : (j : ℕ) → k ≤ j → j < length rows → gen_key records (get_or rows j no_emptied).bucket ≡ continued gens last (get_or rows j no_emptied).bucket
+  pub ahead : (j : ℕ) → k ≤ j → j < length rows → last.after ≤ (get_or rows j no_emptied).bucket.0 / 256 + 1
+
+pub queue-starts : (gens : List Key) (generation_of : Bucket → ℕ) (rows : List Emptied) (out : List ℕ) (at : ℕ) (last : Queued) → length out ≤ top → last.after ≡ 0
+    → Queue gens generation_of rows out out at at 0 last
+queue-starts gens generation_of rows out at last h e =
     record {
       records = gens;
-      part = begin out at (keys_bytes 14 (gens_queued generation_of gens (buckets_in emptied))) h;
-      continues = λ j l m. rw (ne_eqb last.after (get_or emptied j 0 / 256 + 1) (λ z. omega arith));
+      part = begin out at (keys_bytes 14 (gens_queued generation_of gens (emptied_buckets rows))) h;
+      continues = λ j l m. rw (ne_eqb last.after ((get_or rows j no_emptied).bucket.0 / 256 + 1) (λ z. omega arith));
       ahead = λ j l m. omega arith;
     }
 
@@ -97,64 +124,47 @@ unfolding gens_queued
 queue-next generation_of records e =
     fields-next (key_field 14) (ap (gens_queued generation_of records) e)
 
-module _ {gens : List Key} {generation_of : Bucket → ℕ} {emptied out₀ out : List ℕ} {at p k : ℕ} {last : Queued} (q : Queue gens generation_of emptied out₀ out at p k last)
-    (o : in_order bucket_below (buckets_in emptied) ≡ true) (h : k < length emptied) where
+module _ {gens : List Key} {generation_of : Bucket → ℕ} {rows : List Emptied} {out₀ out : List ℕ} {at p k : ℕ} {last : Queued} (q : Queue gens generation_of rows out₀ out at p k last)
+    (o : in_order bucket_below (emptied_buckets rows) ≡ true) (h : k < length rows) where
+  abbrev here : Bucket
+  here = (get_or rows k no_emptied).bucket
+
   -- the key that is queued for the next bucket
-  pub queued-is : (generation : ℕ) (next : Queued) → generation ≡ generation_of (bucket (get_or emptied k 0)) → NextRecord gens last (bucket (get_or emptied k 0)) generation next
-      → key_in next.key ≡ gen_queued q.records (bucket (get_or emptied k 0)) (generation_of (bucket (get_or emptied k 0)))
+  queued-is : (generation : ℕ) (next : Queued) → generation ≡ generation_of here → NextRecord gens last here generation next
+      → key_in next.key ≡ gen_queued q.records here (generation_of here)
   unfolding gen_queued
   queued-is generation next e n = n.key ∙ rw (q.continues k (omega arith) h, e)
 
-  pub queue-turn : (generation : ℕ) (next : Queued) {m : ℕ} {zs : List ℕ} {r : ℕ} → generation ≡ generation_of (bucket (get_or emptied k 0))
-      → NextRecord gens last (bucket (get_or emptied k 0)) generation next → Wrote out p m (encode_field (key_field 14 (key_in next.key))) zs r
-      → Queue gens generation_of emptied out₀ zs at r (k + 1) next
+  pub queue-turn : (generation : ℕ) (next : Queued) {m : ℕ} {zs : List ℕ} {r : ℕ} → generation ≡ generation_of here
+      → NextRecord gens last here generation next → Wrote out p m (encode_field (key_field 14 (key_in next.key))) zs r
+      → Queue gens generation_of rows out₀ zs at r (k + 1) next
   queue-turn generation next {m} {zs} {r} e n w =
-      let b = bucket (get_or emptied k 0) in
-      let key = gen_queued q.records b (generation_of b) in
+      let key = gen_queued q.records here (generation_of here) in
       let i = queued-is generation next e n in
       record {
         records = key ∷ q.records;
-        part = turn _ q.part (queue-next generation_of q.records (table-next emptied k h)) (subst (λ (x : Key). Wrote out p m (encode_field (key_field 14 x)) zs r) i w);
-        continues = λ j l m. go j l m (eqb next.after (get_or emptied j 0 / 256 + 1)) refl;
-        ahead = λ j l m. omega (arith, n.after, order-at emptied o k j (omega arith) m);
+        part = turn _ q.part (queue-next generation_of q.records (emptied-next rows k h)) (subst (λ (x : Key). Wrote out p m (encode_field (key_field 14 x)) zs r) i w);
+        continues = λ j l m. go (get_or rows j no_emptied).bucket (q.continues j (omega arith) m) (λ d. omega (arith, d, q.ahead k (omega arith) h, order-at (λ (x : Emptied). x.bucket) rows no_emptied o k j (omega arith) m)) (eqb next.after ((get_or rows j no_emptied).bucket.0 / 256 + 1)) refl;
+        ahead = λ j l m. omega (arith, n.after, order-at (λ (x : Emptied). x.bucket) rows no_emptied o k j (omega arith) m);
       }
     where
-      go : (j : ℕ) → k + 1 ≤ j → j < length emptied → (t : Bool) → eqb next.after (get_or emptied j 0 / 256 + 1) ≡ t
-          → gen_key (gen_queued q.records (bucket (get_or emptied k 0)) (generation_of (bucket (get_or emptied k 0))) ∷ q.records) (bucket (get_or emptied j 0))
-          ≡ cond t (key_in next.key) (gen_key gens (bucket (get_or emptied j 0)))
-      go j l m true d =
-          let b = bucket (get_or emptied k 0) in
-          let c = bucket (get_or emptied j 0) in
-          let z : get_or emptied j 0 / 256 ≡ get_or emptied k 0 / 256 = omega (arith, n.after, eqb-true next.after (get_or emptied j 0 / 256 + 1) d) in
-          same-record (gen_queued q.records b (generation_of b)) q.records b (queued-type q.records b (generation_of b)) (queued-at q.records b (generation_of b)) c
+      -- a later bucket's record continues the one that is queued, or what it continued before
+      go : (c : Bucket) → gen_key q.records c ≡ continued gens last c → (last.after ≡ c.0 / 256 + 1 → c.0 / 256 ≡ here.0 / 256) → (t : Bool) → eqb next.after (c.0 / 256 + 1) ≡ t
+          → gen_key (gen_queued q.records here (generation_of here) ∷ q.records) c ≡ cond t (key_in next.key) (gen_key gens c)
+      go c f u true d =
+          let z : c.0 / 256 ≡ here.0 / 256 = omega (arith, n.after, eqb-true next.after (c.0 / 256 + 1) d) in
+          same-record (gen_queued q.records here (generation_of here)) q.records here (queued-type q.records here (generation_of here)) (queued-at q.records here (generation_of here)) c
           (ap (λ (x : ℕ). record { inode = 0; offset = x; snapshot = 0 }) z)
           ∙ sym (queued-is generation next e n)
-      go j l m false d =
-          let b = bucket (get_or emptied k 0) in
-          let c = bucket (get_or emptied j 0) in
-          let z = eqb-false next.after (get_or emptied j 0 / 256 + 1) d in
-          let y : get_or emptied j 0 / 256 ≡ get_or emptied k 0 / 256 → ⊥ = λ x. z (omega (arith, n.after)) in
-          let u : last.after ≡ get_or emptied j 0 / 256 + 1 → ⊥ = λ x. omega (arith, y, q.ahead k (omega arith) h, order-at emptied o k j (omega arith) m) in
-          other-record (gen_queued q.records b (generation_of b)) q.records b (queued-type q.records b (generation_of b)) (queued-at q.records b (generation_of b)) c y
-          ∙ q.continues j (omega arith) m
-          ∙ rw (ne_eqb last.after (get_or emptied j 0 / 256 + 1) u)
+      go c f u false d =
+          let z = eqb-false next.after (c.0 / 256 + 1) d in
+          let y : c.0 / 256 ≡ here.0 / 256 → ⊥ = λ x. z (omega (arith, n.after)) in
+          other-record (gen_queued q.records here (generation_of here)) q.records here (queued-type q.records here (generation_of here)) (queued-at q.records here (generation_of here)) c y
+          ∙ f
+          ∙ rw (ne_eqb last.after (c.0 / 256 + 1) (λ x. y (u x)))
 
--- as many generations as buckets
-pub generations-count : {generations emptied : List ℕ} → GenerationsKnown generations emptied → length generations ≡ length emptied
-generations-count {emptied = emptied} a = ap length a.are ∙ length-map (buckets_in emptied) a.generation_of ∙ table-length emptied
-
--- the generation at an index
-pub generation-at : (generations emptied : List ℕ) (generation_of : Bucket → ℕ) (k : ℕ) → k < length emptied → generations ≡ map generation_of (buckets_in emptied) → get_or generations k 0 ≡ generation_of (bucket (get_or emptied k 0))
-unfolding buckets_in
-generation-at generations emptied generation_of k h e = ap (λ (l : List ℕ). get_or l k 0) e ∙ go emptied k h
-  where
-    go : (ns : List ℕ) (k : ℕ) → k < length ns → get_or (map generation_of (buckets_in ns)) k 0 ≡ generation_of (bucket (get_or ns k 0))
-    go [] k h = absurd (omega arith)
-    go (n ∷ ns) zero h = refl
-    go (n ∷ ns) (suc k) h = go ns k (omega arith)
-
-pub queue-ends : {gens : List Key} {generation_of : Bucket → ℕ} {emptied out₀ out : List ℕ} {at p k : ℕ} {last : Queued} → Queue gens generation_of emptied out₀ out at p k last
-    → length emptied ≤ k → Emitted out₀ at (keys_bytes 14 (gens_queued generation_of gens (buckets_in emptied))) out p
+pub queue-ends : {gens : List Key} {generation_of : Bucket → ℕ} {rows : List Emptied} {out₀ out : List ℕ} {at p k : ℕ} {last : Queued} → Queue gens generation_of rows out₀ out at p k last
+    → length rows ≤ k → Emitted out₀ at (keys_bytes 14 (gens_queued generation_of gens (emptied_buckets rows))) out p
 unfolding gens_queued
-queue-ends {generation_of = generation_of} {emptied} {k = k} q h =
-    done q.part (fields-none (key_field 14) (ap (gens_queued generation_of q.records) (table_none emptied k h)))
+queue-ends {generation_of = generation_of} {rows = rows} {k = k} q h =
+    done q.part (fields-none (key_field 14) (ap (gens_queued generation_of q.records) (emptied-none rows k h)))

@@ -1,8 +1,7 @@
 pub mod PlaceLaws
 pub mod AllocLaws
 pub mod RefusalLaws
-pub mod FreedBucketLaws
+pub mod RowLaws
 pub mod KeyLaws
 pub mod GenRecordLaws
-pub mod CountLaws
 pub mod RootLaws

@@ -5,6 +5,7 @@ use mathlib.Core.List.{List, [], ◌∷◌}
 use mathlib.Core.Option.{none, some}
 use Prim.Native.Nat.{ℕ, ◌≤◌, ◌<◌}
 use native.Mathlib.Omega.{arith}
+use Rattle.std.proofs.Common.{Some, None}
 use lib.ListN.{length}
 use lib.Dec.{leb, eqb}
 use borrow.Author.Tests.{le-leb, lt-leb, eq-eqb, ne_eqb}
@@ -19,6 +20,7 @@ use Rattle.calls.specs.Refusals.{test, verdict}
 use Rattle.calls.specs.Release.{freed_in, alloc_value, dirty_at, is_emptied, bucket_refusal}
 use Rattle.calls.specs.Trees.{lookup}
 use Rattle.reader.specs.KeyHere.{key_here}
+use Rattle.release_sums.specs.declared.sums.FreedBucket.{FreedBucket}
 use Rattle.release_keys.specs.Tables.{FreedEntry}
 use Rattle.release_keys.proofs.PlaceLaws.{place-some, place_none}
 
@@ -71,12 +73,12 @@ module _ (v : Volume) (rs : List Freed) (b : Bucket) where
   unfolding bucket_refusal is_emptied
   refuses k e = rw (value-is k e, dirty-is k e, e)
 
--- at the tables
-module _ {s : List ℕ} {v : Volume} {rs : List Freed} {b : Bucket} {sum place : ℕ} (a : FreedEntry s v rs b sum place) where
-  pub table-15 : place ≡ 0 → bucket_refusal v rs b ≡ 15
-  table-15 e = refuses-15 v rs b (place_none a.key e)
+-- at a row
+module _ {s : List ℕ} {v : Volume} {rs : List Freed} {f : FreedBucket} (a : FreedEntry s v rs f) where
+  pub row-15 : f.place ≡ None → bucket_refusal v rs f.bucket ≡ 15
+  row-15 e = refuses-15 v rs f.bucket (place_none a.key e)
 
-  module _ (sectors : ℕ) (h : 0 < place) (e : v.head.bucket_sectors ≡ sectors) where
+  module _ (sectors place : ℕ) (h : f.place ≡ Some place) (e : v.head.bucket_sectors ≡ sectors) where
     abbrev bytes : ℕ
     bytes = length (key_here s place).value
 
@@ -84,26 +86,26 @@ module _ {s : List ℕ} {v : Volume} {rs : List Freed} {b : Bucket} {sum place :
     dirty = get dirty_sectors (key_here s place).value
 
     abbrev short : Bool
-    short = gen_short v.trees.gens b
+    short = gen_short v.trees.gens f.bucket
 
-    number : bucket_refusal v rs b ≡ numbered bytes dirty sectors sum short
-    number = refuses v rs b (key_here s place) (place-some a.key h).0 ∙ rw (← a.freed, e)
+    number : bucket_refusal v rs f.bucket ≡ numbered bytes dirty sectors f.freed short
+    number = refuses v rs f.bucket (key_here s place) (place-some a.key h).0 ∙ rw (← a.freed, e)
 
-    pub table-16 : bytes < 56 → bucket_refusal v rs b ≡ 16
-    table-16 l = number ∙ number-16 bytes dirty sectors sum short l
+    pub row-16 : bytes < 56 → bucket_refusal v rs f.bucket ≡ 16
+    row-16 l = number ∙ number-16 bytes dirty sectors f.freed short l
 
     module _ (l : 56 ≤ bytes) where
-      pub table-17 : sectors < dirty → bucket_refusal v rs b ≡ 17
-      table-17 m = number ∙ number-17 bytes dirty sectors sum short l m
+      pub row-17 : sectors < dirty → bucket_refusal v rs f.bucket ≡ 17
+      row-17 m = number ∙ number-17 bytes dirty sectors f.freed short l m
 
-      pub table-18 : dirty ≤ sectors → dirty < sum → bucket_refusal v rs b ≡ 18
-      table-18 m o = number ∙ number-18 bytes dirty sectors sum short l m o
+      pub row-18 : dirty ≤ sectors → dirty < f.freed → bucket_refusal v rs f.bucket ≡ 18
+      row-18 m o = number ∙ number-18 bytes dirty sectors f.freed short l m o
 
-      pub table-19 : dirty ≤ sectors → dirty ≡ sum → short ≡ true → bucket_refusal v rs b ≡ 19
-      table-19 m o q = number ∙ number-19 bytes dirty sectors sum short l m o q
+      pub row-19 : dirty ≤ sectors → dirty ≡ f.freed → short ≡ true → bucket_refusal v rs f.bucket ≡ 19
+      row-19 m o q = number ∙ number-19 bytes dirty sectors f.freed short l m o q
 
-      pub table-room : dirty ≤ sectors → dirty ≡ sum → short ≡ false → bucket_refusal v rs b ≡ 0
-      table-room m o q = number ∙ number-room bytes dirty sectors sum short l m o q
+      pub row-room : dirty ≤ sectors → dirty ≡ f.freed → short ≡ false → bucket_refusal v rs f.bucket ≡ 0
+      row-room m o q = number ∙ number-room bytes dirty sectors f.freed short l m o q
 
-      pub table_kept : dirty ≤ sectors → sum ≤ dirty → (dirty ≡ sum → ⊥) → bucket_refusal v rs b ≡ 0
-      table_kept m o q = number ∙ number-kept bytes dirty sectors sum short l m o q
+      pub row-kept : dirty ≤ sectors → f.freed ≤ dirty → (dirty ≡ f.freed → ⊥) → bucket_refusal v rs f.bucket ≡ 0
+      row-kept m o q = number ∙ number-kept bytes dirty sectors f.freed short l m o q

@@ -4,6 +4,8 @@ use Rattle.wire.specs.declared.kinds.Bucket.{Bucket}
 use Rattle.calls.specs.CallList.{Volume, Freed}
 use Rattle.calls.specs.Lists.{total}
 use Rattle.calls.specs.Release.{freed_in, dirty_at, is_emptied}
+use Rattle.release_sums.specs.declared.sums.FreedBucket.{FreedBucket}
+use Rattle.release_keys.specs.Tables.{row_dirty, row_emptied}
 use Rattle.release_keys.specs.declared.counts.Unused.{Unused}
 
 -- of a bucket: the sectors freed of it if it stays, and its unused ones if it is emptied
@@ -12,6 +14,13 @@ kept_of v rs b = cond (is_emptied v rs b) 0 (freed_in v.head.bucket_sectors rs b
 
 abbrev pub lost_of : Volume → List Freed → Bucket → ℕ
 lost_of v rs b = cond (is_emptied v rs b) (v.head.bucket_sectors - dirty_at v.trees b) 0
+
+-- the same of a row
+abbrev pub row_kept : List ℕ → FreedBucket → ℕ
+row_kept s f = cond (row_emptied s f) 0 f.freed
+
+abbrev pub row_lost : List ℕ → ℕ → FreedBucket → ℕ
+row_lost s sectors f = cond (row_emptied s f) (sectors - row_dirty s f) 0
 
 -- the two sums over a list of buckets
 pub record Unused-of (v : Volume) (rs : List Freed) (bs : List Bucket) (u : Unused) : Type 0 where

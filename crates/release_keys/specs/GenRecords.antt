@@ -1,6 +1,5 @@
 -- A generation record that is queued for an emptied bucket.
-use Rattle.std.specs.Prelude.{◌≡◌, ℕ, ◌+◌, cond, List, map, eqb}
-use Rattle.wire.specs.Kinds.{buckets_in}
+use Rattle.std.specs.Prelude.{◌≡◌, ℕ, ◌+◌, cond, List, eqb}
 use Rattle.wire.specs.Keys.{Key}
 use Rattle.wire.specs.Held.{key_in}
 use Rattle.wire.specs.Positions.{gens_at}
@@ -18,8 +17,3 @@ continued gens last b = cond (eqb last.after ((gens_at b).offset + 1)) (key_in l
 pub record NextRecord (gens : List Key) (last : Queued) (b : Bucket) (generation : ℕ) (r : Queued) : Type 0 where
   pub after : r.after ≡ (gens_at b).offset + 1
   pub key : key_in r.key ≡ with_value (continued gens last b) (with_gen b generation (continued gens last b).value)
-
--- the generations of these buckets, by some function
-pub record GenerationsKnown (generations emptied : List ℕ) : Type 0 where
-  pub generation_of : Bucket → ℕ
-  pub are : generations ≡ map generation_of (buckets_in emptied)

@@ -1,6 +1,6 @@
 pub mod Places
 pub mod Skipping
 pub mod Tables
-pub mod FreedBuckets
+pub mod Emptied
 pub mod GenRecords
 pub mod Counting

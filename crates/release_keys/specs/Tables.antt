@@ -1,63 +1,108 @@
--- The tables of a release: the place of each freed bucket's alloc key.
-use Rattle.std.specs.Prelude.{◌≡◌, true, ℕ, ◌<◌, List, map, length, get_or}
-use Rattle.wire.specs.Kinds.{no_bucket, buckets_in, bucket_in_range}
-use Rattle.wire.specs.declared.kinds.Bucket.{Bucket}
+-- The table of a release: each freed bucket with its sum and the place of its alloc key.
+use Rattle.std.specs.Prelude.{◌≡◌, true, ℕ, ◌-◌, ◌≤◌, ◌<◌, List, [], Bool, ◌++◌, map, cond, eqb, length, get_or, None, Some}
+use Rattle.wire.specs.Kinds.{no_bucket, bucket_in_range}
 use Rattle.wire.specs.Keys.{Key}
 use Rattle.wire.specs.Positions.{alloc_at}
+use Rattle.wire.specs.declared.kinds.Bucket.{Bucket}
+use Rattle.format.specs.Packing.{get}
+use Rattle.format.specs.AllocV4.{gen, dirty_sectors, with_dirty, next_gen, emptied}
 use Rattle.calls.specs.CallList.{Volume, Freed}
-use Rattle.calls.specs.Trees.{lookup}
-use Rattle.calls.specs.Refusals.{verdict}
-use Rattle.calls.specs.Release.{freed_buckets, freed_in, bucket_refusal}
+use Rattle.calls.specs.Lru.{lru_keys, lru_deletions}
+use Rattle.calls.specs.Trees.{lookup, with_value}
+use Rattle.calls.specs.Release.{freed_buckets, freed_in}
+use Rattle.reader.specs.KeyHere.{key_here, Whole}
 use Rattle.gens.specs.Records.{RecordsFound}
-use Rattle.release_keys.specs.Places.{PlaceOf}
+use Rattle.release_sums.specs.declared.sums.FreedBucket.{FreedBucket}
+use Rattle.release_keys.specs.declared.freed_buckets.Emptied.{Emptied}
+use Rattle.release_keys.specs.Places.{PlaceOf, key_placed}
+
+-- a row for an index that none has
+abbrev pub no_row : FreedBucket
+no_row = record { bucket = no_bucket; freed = 0; place = None }
+
+-- the buckets of some rows
+abbrev pub buckets_of : List FreedBucket → List Bucket
+buckets_of rows = map (λ f. f.bucket) rows
+
+-- the alloc key of a row, and how many sectors its bucket holds
+abbrev pub row_key : List ℕ → FreedBucket → Key
+row_key s f = key_placed s f.place
+
+abbrev pub row_dirty : List ℕ → FreedBucket → ℕ
+row_dirty s f = get dirty_sectors (row_key s f).value
+
+-- all that it holds is freed
+abbrev pub row_emptied : List ℕ → FreedBucket → Bool
+row_emptied s f = eqb f.freed (row_dirty s f)
+
+-- its bucket with its generation after it is emptied
+abbrev pub row_gen : List ℕ → FreedBucket → Emptied
+row_gen s f = record { bucket = f.bucket; generation = next_gen (get gen (row_key s f).value) }
+
+-- the alloc key of a row after what is freed is taken out: emptied, or with what is left
+abbrev pub freed_key : ℕ → List ℕ → FreedBucket → Key
+freed_key journal s f =
+    let value = (row_key s f).value in
+    with_value (row_key s f) (cond (row_emptied s f) (emptied journal value) (with_dirty (row_dirty s f - f.freed) value))
+
+-- the LRU keys of a row whose bucket holds so many sectors: the old one is deleted, and the new one follows unless it is emptied
+abbrev pub freed_lru : ℕ → ℕ → FreedBucket → List Key
+freed_lru sectors dirty f = lru_deletions sectors f.bucket dirty ++ cond (eqb f.freed dirty) [] (lru_keys sectors f.bucket (dirty - f.freed))
+
+-- those of the row
+abbrev pub row_lru : ℕ → List ℕ → FreedBucket → List Key
+row_lru sectors s f = freed_lru sectors (row_dirty s f) f
+
+-- a row whose alloc key's place is known
+pub record RowPlaced (s : List ℕ) (alloc : List Key) (before after : FreedBucket) : Type 0 where
+  pub bucket : after.bucket ≡ before.bucket
+  pub freed : after.freed ≡ before.freed
+  pub key : PlaceOf s after.place (lookup (alloc_at before.bucket) alloc)
 
 -- the alloc key of each bucket
-pub record PlacesOf (s buckets places : List ℕ) (alloc : List Key) : Type 0 where
-  pub count : length places ≡ length buckets
-  pub at : (i : ℕ) → i < length buckets → PlaceOf s (get_or places i 0) (lookup (alloc_at (get_or (buckets_in buckets) i no_bucket)) alloc)
+pub record PlacesOf (s : List ℕ) (alloc : List Key) (before after : List FreedBucket) : Type 0 where
+  pub count : length after ≡ length before
+  pub at : (i : ℕ) → i < length before → RowPlaced s alloc (get_or before i no_row) (get_or after i no_row)
 
--- what the tables say of a freed bucket: its sum, and the place of its alloc key
-pub record FreedEntry (s : List ℕ) (v : Volume) (rs : List Freed) (b : Bucket) (sum place : ℕ) : Type 0 where
-  pub low : bucket_in_range b ≡ true
-  pub freed : sum ≡ freed_in v.head.bucket_sectors rs b
-  pub key : PlaceOf s place (lookup (alloc_at b) v.trees.alloc)
+-- what a row says of a freed bucket: its sum, and the place of its alloc key
+pub record FreedEntry (s : List ℕ) (v : Volume) (rs : List Freed) (f : FreedBucket) : Type 0 where
+  pub low : bucket_in_range f.bucket ≡ true
+  pub freed : f.freed ≡ freed_in v.head.bucket_sectors rs f.bucket
+  pub key : PlaceOf s f.place (lookup (alloc_at f.bucket) v.trees.alloc)
 
--- the tables hold the freed buckets of a volume and its requests
-pub record FreedTables (s : List ℕ) (v : Volume) (rs : List Freed) (buckets freed places : List ℕ) : Type 0 where
-  pub named : buckets_in buckets ≡ freed_buckets v.head.bucket_sectors rs
-  pub sums : length freed ≡ length buckets
-  pub keys : length places ≡ length buckets
-  pub at : (i : ℕ) → i < length buckets → FreedEntry s v rs (get_or (buckets_in buckets) i no_bucket) (get_or freed i 0) (get_or places i 0)
+-- the rows hold the freed buckets of a volume and its requests
+pub record FreedTables (s : List ℕ) (v : Volume) (rs : List Freed) (rows : List FreedBucket) : Type 0 where
+  pub named : buckets_of rows ≡ freed_buckets v.head.bucket_sectors rs
+  pub at : (i : ℕ) → i < length rows → FreedEntry s v rs (get_or rows i no_row)
 
 -- they hold those of some volume and requests, with so many sectors to a bucket, and its generation records
-pub record FreedTablesKnown (s : List ℕ) (sectors : ℕ) (buckets freed places records : List ℕ) : Type 0 where
+pub record FreedTablesKnown (s : List ℕ) (sectors : ℕ) (rows : List FreedBucket) (records : List ℕ) : Type 0 where
   pub volume : Volume
   pub requests : List Freed
-  pub tabled : FreedTables s volume requests buckets freed places
+  pub tabled : FreedTables s volume requests rows
   pub recorded : RecordsFound s volume.trees.gens records
   pub size : volume.head.bucket_sectors ≡ sectors
 
 -- the same of one freed bucket
-pub record FreedEntryKnown (s : List ℕ) (sectors : ℕ) (b : Bucket) (sum place : ℕ) (records : List ℕ) : Type 0 where
+pub record FreedEntryKnown (s : List ℕ) (sectors : ℕ) (f : FreedBucket) (records : List ℕ) : Type 0 where
   pub volume : Volume
   pub requests : List Freed
-  pub entry : FreedEntry s volume requests b sum place
+  pub entry : FreedEntry s volume requests f
   pub recorded : RecordsFound s volume.trees.gens records
   pub size : volume.head.bucket_sectors ≡ sectors
 
--- those of some volume and requests that no bucket refuses
-pub record Unrefused (s buckets freed places : List ℕ) : Type 0 where
-  pub volume : Volume
-  pub requests : List Freed
-  pub tabled : FreedTables s volume requests buckets freed places
-  pub none-refuses : verdict (map (bucket_refusal volume requests) (freed_buckets volume.head.bucket_sectors requests)) ≡ 0
+-- a row that refusals 15, 16 and 18 passed: its alloc key is there, and the bucket holds what is freed of it
+pub record RowHeld (s : List ℕ) (f : FreedBucket) : Type 0 where
+  pub place : ℕ
+  pub is : f.place ≡ Some place
+  pub there : Whole s place
+  pub long : 56 ≤ length (key_here s place).value
+  pub held : f.freed ≤ row_dirty s f
 
--- where a bucket has so many sectors
-pub record UnrefusedIn (s : List ℕ) (sectors : ℕ) (buckets freed places : List ℕ) : Type 0 where
-  pub unrefused : Unrefused s buckets freed places
-  pub size : unrefused.volume.head.bucket_sectors ≡ sectors
+-- such rows
+abbrev pub RowsHeld : List ℕ → List FreedBucket → Type 0
+RowsHeld s rows = (i : ℕ) → i < length rows → RowHeld s (get_or rows i no_row)
 
--- where the journal has this number
-pub record UnrefusedAt (s : List ℕ) (journal : ℕ) (buckets freed places : List ℕ) : Type 0 where
-  pub unrefused : Unrefused s buckets freed places
-  pub number : unrefused.volume.head.journal ≡ journal
+-- refusal 17 passed them: no bucket holds more than it has
+abbrev pub RowsWithin : List ℕ → ℕ → List FreedBucket → Type 0
+RowsWithin s sectors rows = (i : ℕ) → i < length rows → row_dirty s (get_or rows i no_row) ≤ sectors

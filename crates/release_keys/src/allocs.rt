@@ -1,7 +1,7 @@
 // The alloc key of each freed bucket: both ascend, so one walk finds them.
-ghost use Rattle.std.specs.Prelude.{◌≡◌, true, false, ◌≤◌, ◌<◌, length, get_or, take, drop};
+ghost use Rattle.std.specs.Prelude.{◌≡◌, true, false, ◌≤◌, ◌<◌, length, get_or, drop};
 ghost use Rattle.wire.specs.Order.{pos_less};
-ghost use Rattle.wire.specs.Kinds.{bucket_below, buckets_in};
+ghost use Rattle.wire.specs.Kinds.{bucket_below};
 ghost use Rattle.calls.specs.CallList.{keys_ok};
 ghost use Rattle.calls.specs.Lists.{in_order};
 ghost use Rattle.calls.specs.Trees.{lookup};
@@ -9,11 +9,11 @@ ghost use Rattle.reader.specs.KeyHere.{keys_here};
 ghost use Rattle.reader.specs.Located.{no_key};
 ghost use Rattle.release_keys.specs.Places.{Keyed, PlaceOf};
 ghost use Rattle.release_keys.specs.Skipping.{KeysSkipped};
-ghost use Rattle.release_keys.specs.Tables.{PlacesOf};
+ghost use Rattle.release_keys.specs.Tables.{buckets_of, PlacesOf};
 
 use crate::places;
+use release_sums::sums::FreedBucket;
 use wire::bpos::Bpos;
-use wire::kinds::Bucket;
 use wire::{bpos, positions};
 
 // The first key from an index on that does not stand before a position. The walk shows the bound.
@@ -21,42 +21,36 @@ fn skip_below(s: &[u8], offsets: &[u32], from: usize, p: Bpos) -> usize
     requires { Keyed s.now offsets.now × (from ≤ length offsets.now) }
     ensures { KeysSkipped (keys_here s.now offsets.now) from p result }
 {
-    let mut i = from;
-    while i < offsets.len() {
+    for i in from..offsets.len() {
         if !bpos::pos_less(places::pos_of(s, offsets, i), p) {
             return i;
         }
-        i += 1;
     }
-    i
+    offsets.len()
 }
 
-// The place of the key at a position, which no key from an index on stands before, or 0. The layout shows that keys ascend, here and below.
-fn place_here(s: &[u8], offsets: &[u32], i: usize, p: Bpos) -> u32
+// The place of the key at a position, which no key from an index on stands before. The layout shows that keys ascend, here and below.
+fn place_here(s: &[u8], offsets: &[u32], i: usize, p: Bpos) -> Option<u32>
     requires keyed { Keyed s.now offsets.now × (keys_ok (keys_here s.now offsets.now) ≡ true) }
     requires p_value { i < length offsets.now → pos_less (get_or (keys_here s.now offsets.now) i no_key).pos p ≡ false }
     ensures { PlaceOf s.now result (lookup p (drop i (keys_here s.now offsets.now))) }
 {
-    if i < offsets.len() {
-        if bpos::pos_same(places::pos_of(s, offsets, i), p) {
-            return offsets[i];
-        }
+    if i < offsets.len() && bpos::pos_same(places::pos_of(s, offsets, i), p) {
+        return Some(offsets[i]);
     }
-    0
+    None
 }
 
-// The place of each bucket's alloc key. `take_freed` shows that buckets ascend.
-pub fn find_allocs(s: &[u8], alloc: &[u32], buckets: &[u32], places: &mut [u32])
+// Notes the place of each bucket's alloc key. `take_freed` shows that buckets ascend.
+pub fn find_allocs(s: &[u8], alloc: &[u32], rows: &mut [FreedBucket])
     requires keyed { Keyed s.now alloc.now × (keys_ok (keys_here s.now alloc.now) ≡ true) }
-    requires buckets_value { (in_order bucket_below (buckets_in buckets.now) ≡ true) × (length buckets.now ≤ length places.old) }
-    ensures { PlacesOf s.now buckets.now (take (length buckets.now) places.new) (keys_here s.now alloc.now) }
+    requires buckets_value { in_order bucket_below (buckets_of rows.old) ≡ true }
+    ensures { PlacesOf s.now (keys_here s.now alloc.now) rows.old rows.new }
 {
     let mut i: usize = 0;
-    let mut k: usize = 0;
-    while k < buckets.len() {
-        let p = positions::alloc_at(Bucket(buckets[k] as u64));
+    for row in rows.iter_mut() {
+        let p = positions::alloc_at(row.bucket);
         i = skip_below(s, alloc, i, p);
-        places[k] = place_here(s, alloc, i, p);
-        k += 1;
+        row.place = place_here(s, alloc, i, p);
     }
 }

@@ -16,12 +16,9 @@ pub fn put_backpointers(s: &[u8], requests: &[u32], out: &mut [u8], at: usize) -
     ensures { Emitted out.old at (keys_bytes 13 (map (λ x. deletion (backpointer_at x.first)) (freeds_in s.now requests.now))) out.new result }
 {
     let mut p = at;
-    let mut i: usize = 0;
-    while i < requests.len() {
-        let r = requests::freed_at(s, requests, i);
-        let first = r.first;
-        p = keys::put_deletion(out, p, 13, positions::backpointer_at(first));
-        i += 1;
+    for &place in requests {
+        let r = requests::read_freed(s, place as usize);
+        p = keys::put_deletion(out, p, 13, positions::backpointer_at(r.first));
     }
     p
 }

@@ -1,74 +1,56 @@
-// The freed buckets, each with what it held and what is freed of it.
-ghost use Rattle.std.specs.Prelude.{◌≡◌, List, ◌≤◌, ◌<◌, length, get_or};
-ghost use Rattle.wire.specs.Kinds.{no_bucket, buckets_in};
+// What the freed buckets held, and those that are emptied.
+ghost use Rattle.std.specs.Prelude.{◌≡◌, List, ◌≤◌, ◌<◌, length};
+ghost use Rattle.format.specs.Packing.{get};
+ghost use Rattle.format.specs.AllocV4.{gen, next_gen};
 ghost use Rattle.calls.specs.CallList.{Volume, Freed};
 ghost use Rattle.calls.specs.Lists.{those};
 ghost use Rattle.calls.specs.Release.{is_emptied, emptied_gen};
-ghost use Rattle.release_sums.specs.Summing.{BucketsListed};
-ghost use Rattle.release_keys.specs.FreedBuckets.{freed_bucket_of};
-ghost use Rattle.release_keys.specs.Tables.{FreedTables, Unrefused};
+ghost use Rattle.release_sums.specs.Summing.{Listed};
+ghost use Rattle.release_keys.specs.Emptied.{emptied_row};
+ghost use Rattle.release_keys.specs.Tables.{buckets_of, row_key, row_dirty, FreedTables, RowHeld, RowsHeld};
 
 use format::alloc;
 use reader::key;
+use release_sums::sums::FreedBucket;
 use wire::kinds::Bucket;
 
+// A bucket that is emptied, with its generation afterwards.
 #[derive(Clone, Copy, Drop)]
-pub struct FreedBucket {
+pub struct Emptied {
     pub bucket: Bucket,
-    pub dirty: u32,
-    pub freed: u32,
+    pub generation: u8,
 }
 
-// The freed bucket at an index of the tables. The refusals show that its alloc key is there, here and below.
-pub fn freed_bucket(
-    s: &[u8],
-    buckets: &[u32],
-    freed: &[u32],
-    places: &[u32],
-    k: usize,
-) -> FreedBucket
-    requires { Unrefused s.now buckets.now freed.now places.now × (k < length buckets.now) }
-    ensures { (v : Volume) (rs : List Freed) → FreedTables s.now v rs buckets.now freed.now places.now → result ≡ freed_bucket_of v rs (get_or (buckets_in buckets.now) k no_bucket) }
+// How many sectors a freed bucket holds. The refusals show that its alloc key is there, here and below.
+pub fn dirty_of(s: &[u8], f: FreedBucket) -> u32
+    requires { RowHeld s.now f }
+    ensures { result ≡ row_dirty s.now f }
 {
-    let place = places[k] as usize;
-    FreedBucket {
-        bucket: Bucket(buckets[k] as u64),
-        dirty: alloc::dirty_sectors(s, key::value_at(s, place)),
-        freed: freed[k],
-    }
+    alloc::dirty_sectors(s, key::value_at(s, f.place.unwrap() as usize))
 }
 
-// The generation of the bucket at an index after it is emptied.
-fn emptied_gen(s: &[u8], buckets: &[u32], freed: &[u32], places: &[u32], k: usize) -> u8
-    requires { Unrefused s.now buckets.now freed.now places.now × (k < length buckets.now) }
-    ensures { (v : Volume) (rs : List Freed) → FreedTables s.now v rs buckets.now freed.now places.now → result ≡ emptied_gen v.trees (get_or (buckets_in buckets.now) k no_bucket) }
+// The generation of a freed bucket after it is emptied.
+fn emptied_gen(s: &[u8], f: FreedBucket) -> u8
+    requires { RowHeld s.now f }
+    ensures { result ≡ next_gen (get gen (row_key s.now f).value) }
 {
-    let place = places[k] as usize;
-    alloc::next_gen(alloc::generation(s, key::value_at(s, place)))
+    alloc::next_gen(alloc::generation(s, key::value_at(s, f.place.unwrap() as usize)))
 }
 
-// The emptied buckets with their new generations: how many there are.
-pub fn find_emptied(
-    s: &[u8],
-    buckets: &[u32],
-    freed: &[u32],
-    places: &[u32],
-    emptied: &mut [u32],
-    generations: &mut [u8],
-) -> usize
-    requires { Unrefused s.now buckets.now freed.now places.now × (length buckets.now ≤ length emptied.old) × (length buckets.now ≤ length generations.old) }
-    ensures { (v : Volume) (rs : List Freed) → FreedTables s.now v rs buckets.now freed.now places.now → BucketsListed (those (is_emptied v rs) (buckets_in buckets.now)) (emptied_gen v.trees) emptied.new generations.new result }
+// Lists the emptied buckets with their new generations: how many there are.
+pub fn find_emptied(s: &[u8], rows: &[FreedBucket], emptied: &mut [Emptied]) -> usize
+    requires { RowsHeld s.now rows.now × (length rows.now ≤ length emptied.old) }
+    ensures { (v : Volume) (rs : List Freed) → FreedTables s.now v rs rows.now → Listed (those (is_emptied v rs) (buckets_of rows.now)) (emptied_row (emptied_gen v.trees)) emptied.new result }
 {
     let mut n: usize = 0;
-    let mut k: usize = 0;
-    while k < buckets.len() {
-        let f = freed_bucket(s, buckets, freed, places, k);
-        if f.freed == f.dirty {
-            emptied[n] = buckets[k];
-            generations[n] = emptied_gen(s, buckets, freed, places, k);
+    for &f in rows {
+        if f.freed == dirty_of(s, f) {
+            emptied[n] = Emptied {
+                bucket: f.bucket,
+                generation: emptied_gen(s, f),
+            };
             n += 1;
         }
-        k += 1;
     }
     n
 }

@@ -2,7 +2,7 @@
 ghost use Rattle.std.specs.Prelude.{◌≡◌, true, List, map, ℕ, ◌≤◌, ◌<◌};
 ghost use Rattle.wire.specs.Keys.{Key};
 ghost use Rattle.wire.specs.Held.{value_in, key_in};
-ghost use Rattle.wire.specs.Kinds.{bucket_below, bucket_in_range, buckets_in};
+ghost use Rattle.wire.specs.Kinds.{bucket_below, bucket_in_range};
 ghost use Rattle.wire.specs.declared.kinds.Bucket as kinds;
 ghost use Rattle.wire.specs.Positions.{gens_at};
 ghost use Rattle.wire.specs.Output.{Emitted};
@@ -13,8 +13,10 @@ ghost use Rattle.calls.specs.Release.{gens_queued};
 ghost use Rattle.calls.specs.Trees.{new_key, with_value};
 ghost use Rattle.gens.specs.Records.{Recorded, RecordsFound};
 ghost use Rattle.change_fields.specs.FieldBytes.{keys_bytes};
-ghost use Rattle.release_keys.specs.GenRecords.{GenerationsKnown, NextRecord};
+ghost use Rattle.release_keys.specs.Emptied.{emptied_row, emptied_buckets};
+ghost use Rattle.release_keys.specs.GenRecords.{NextRecord};
 
+use crate::freed_buckets::Emptied;
 use gens::records;
 use reader::key;
 use wire::keys::Bkey;
@@ -73,44 +75,31 @@ fn next_record(s: &[u8], records: &[u32], last: Queued, b: Bucket, generation: u
     requires { Recorded s.now records.now × (bucket_in_range b ≡ true) × (last.key.value.len ≤ 256) }
     ensures { (result.key.value.len ≤ 256) × ((gens : List Key) → RecordsFound s.now gens records.now → NextRecord gens last b generation result) }
 {
-    let p = positions::gens_at(b);
-    let after = p.offset + 1;
-    let key = last.key;
-    if last.after == after {
-        return Queued {
-            after,
-            key: with_generation(key, b, generation),
-        };
-    }
+    let after = positions::gens_at(b).offset + 1;
+    let key = if last.after == after {
+        last.key
+    } else {
+        old_record(s, records, b)
+    };
     Queued {
         after,
-        key: with_generation(old_record(s, records, b), b, generation),
+        key: with_generation(key, b, generation),
     }
 }
 
 // The records of all emptied buckets, which ascend.
-pub fn put_gens(
-    s: &[u8],
-    records: &[u32],
-    emptied: &[u32],
-    generations: &[u8],
-    out: &mut [u8],
-    at: usize,
-) -> usize
-    requires { Recorded s.now records.now × GenerationsKnown generations.now emptied.now × (all_of bucket_in_range (buckets_in emptied.now) ≡ true) × (in_order bucket_below (buckets_in emptied.now) ≡ true) }
-    ensures { (gens : List Key) (generation_of : kinds.Bucket → ℕ) → RecordsFound s.now gens records.now → generations.now ≡ map generation_of (buckets_in emptied.now) → Emitted out.old at (keys_bytes 14 (gens_queued generation_of gens (buckets_in emptied.now))) out.new result }
+pub fn put_gens(s: &[u8], records: &[u32], emptied: &[Emptied], out: &mut [u8], at: usize) -> usize
+    requires { Recorded s.now records.now × (all_of bucket_in_range (emptied_buckets emptied.now) ≡ true) × (in_order bucket_below (emptied_buckets emptied.now) ≡ true) }
+    ensures { (gens : List Key) (generation_of : kinds.Bucket → ℕ) → RecordsFound s.now gens records.now → emptied.now ≡ map (emptied_row generation_of) (emptied_buckets emptied.now) → Emitted out.old at (keys_bytes 14 (gens_queued generation_of gens (emptied_buckets emptied.now))) out.new result }
 {
     let mut p = at;
-    let mut k: usize = 0;
     let mut last = Queued {
         after: 0,
         key: new_record(Bucket(0)),
     };
-    while k < emptied.len() {
-        last = next_record(s, records, last, Bucket(emptied[k] as u64), generations[k]);
-        let key = last.key;
-        p = emit_key::put_key(out, p, 14, key);
-        k += 1;
+    for e in emptied {
+        last = next_record(s, records, last, e.bucket, e.generation);
+        p = emit_key::put_key(out, p, 14, last.key);
     }
     p
 }

@@ -146,9 +146,6 @@ pub record Appending {A B : Type 0} (all rest : List B) (row : B → A) (rows₀
 abbrev pub Picking : {A B : Type 0} → List B → List B → (B → A) → List A → ℕ → Type 0
 Picking all rest row rows n = Appending all rest row [] 0 rows n
 
-pub pick-starts : {A B : Type 0} (all : List B) (row : B → A) (rows : List A) → Picking all all row rows 0
-pick-starts all row rows = record { count = refl; listed = refl }
-
 module _ {A B : Type 0} {all rest : List B} {row : B → A} {rows₀ : List A} {n₀ : ℕ} {rows : List A} {n : ℕ} (p : Appending all rest row rows₀ n₀ rows n) where
   pub pick-hit : {b : B} {next : List B} → rest ≡ b ∷ next → n < length rows → Appending all next row rows₀ n₀ (set rows n (row b)) (n + 1)
   pick-hit {b} {next} e l =

@@ -8,7 +8,7 @@ use mathlib.Core.List.{List, [], ◌∷◌}
 use lib.ListN.{length, get_or, take, drop, drop_of_length-le}
 use Rattle.std.proofs.lemmas.List.{drop-map}
 use lib.Dec.{leb}
-use borrow.Author.Tests.{leb-true, ltb-true, le-leb}
+use borrow.Author.Tests.{leb-true, ltb-true}
 use Rattle.wire.specs.Numbers.{le}
 use Rattle.wire.specs.Kinds.{bucket_of, offset_in, bucket_in_range}
 use Rattle.wire.specs.declared.kinds.Bucket.{Bucket}
@@ -19,8 +19,7 @@ use Rattle.calls.specs.Lists.{all_of}
 use Rattle.calls.specs.Release.{freed_ok}
 use Rattle.calls.proofs.lists.AllOfLaws.{all-of-drop, all-of-first}
 use Rattle.calls.proofs.lists.BoolLaws.{parts}
-use Rattle.reader.specs.Located.{no_freed}
-use Rattle.release_sums.specs.Freeds.{freeds_in, Requested}
+use Rattle.release_sums.specs.Freeds.{freeds_in}
 
 -- a piece, each part read at its own place
 pub freed_read : (s : List ℕ) (at d n : ℕ) → d ≡ le 8 (drop at s) → n ≡ le 2 (drop (at + 8) s)
@@ -48,15 +47,6 @@ pub freeds_none : (s offsets : List ℕ) (i : ℕ) → length offsets ≤ i → 
 unfolding freeds_in
 freeds_none s offsets i h = rw (drop_of_length-le offsets h) refl
 
--- the same by index
-pub freeds-next : (s offsets : List ℕ) (i : ℕ) {r : Freed} → Requested s offsets → i < length offsets → r ≡ get_or (freeds_in s offsets) i no_freed
-    → drop i (freeds_in s offsets) ≡ r ∷ drop (i + 1) (freeds_in s offsets)
-freeds-next s offsets i q h e = drop-next no_freed (freeds_in s offsets) i (omega (arith, q.count)) ∙ rw e
-
--- past the last none is left
-pub freeds-none : (s offsets : List ℕ) (i : ℕ) → Requested s offsets → length offsets ≤ i → drop i (freeds_in s offsets) ≡ []
-freeds-none s offsets i q h = let l : length (freeds_in s offsets) ≤ i = omega (arith, q.count) in drop_of_length-le (freeds_in s offsets) l
-
 -- what refusal 14 shows of a piece
 pub record FreedWithin (sectors : ℕ) (r : Freed) : Type 0 where
   pub some-sectors : 1 ≤ r.sectors
@@ -77,15 +67,16 @@ within sectors r e =
       low = ltb-true (bucket_of r.first sectors).0 65536 c.1;
     }
 
--- the tests that are left for a piece of 1 to 128 sectors
-pub ok_tests : (sectors : ℕ) (r : Freed) → 1 ≤ r.sectors → r.sectors ≤ 128
-    → freed_ok sectors r ≡ (leb (offset_in r.first sectors + r.sectors) sectors && bucket_in_range (bucket_of r.first sectors))
-unfolding freed_ok
-ok_tests sectors r l m = rw (le-leb 1 r.sectors l, le-leb r.sectors 128 m)
+-- the piece that the offset at an index finds
+module _ (sectors : ℕ) (s offsets : List ℕ) {i : ℕ} {r : Freed} (ok : all_of (freed_ok sectors) (freeds_in s offsets) ≡ true) (h : i < length offsets)
+    (e : r ≡ freed_of (take 10 (drop (get_or offsets i 0) s))) where
+  pub within_at : FreedWithin sectors r
+  within_at =
+      let here = freeds-drop s offsets i ∙ freeds_here s offsets h e in
+      within sectors r (all-of-first (freed_ok sectors) (all-of-drop (freed_ok sectors) (freeds_in s offsets) i ok) here)
 
--- the bucket of the piece that the offset at an index finds
-pub bucket_at : (sectors : ℕ) (s offsets : List ℕ) {i : ℕ} {r : Freed} {b : Bucket} → all_of (freed_ok sectors) (freeds_in s offsets) ≡ true → i < length offsets
-    → r ≡ freed_of (take 10 (drop (get_or offsets i 0) s)) → b ≡ bucket_of r.first sectors → b.0 < 65536
-bucket_at sectors s offsets {i} ok h e f =
-    let here = freeds-drop s offsets i ∙ freeds_here s offsets h e in
-    omega (arith, ap (λ (x : Bucket). x.0) f, (within sectors _ (all-of-first (freed_ok sectors) (all-of-drop (freed_ok sectors) (freeds_in s offsets) i ok) here)).low)
+  pub bucket_at : {b : Bucket} → b ≡ bucket_of r.first sectors → b.0 < 65536
+  bucket_at f = omega (arith, ap (λ (x : Bucket). x.0) f, within_at.low)
+
+  pub sectors_at : r.sectors ≤ 128
+  sectors_at = within_at.few

@@ -5,8 +5,8 @@ use Prim.Native.Nat.{ℕ, zero, suc, ◌+◌, ◌-◌, ◌*◌, ◌/◌, ◌≤�
 use native.Mathlib.Nat.{zero-add, add-zero}
 use native.Mathlib.Omega.{arith}
 use mathlib.Core.List.{List, [], ◌∷◌, ◌++◌, map}
-use lib.ListN.{length, get_or, set, take, drop, replicate, length-append, length-replicate, length-drop, take-append-drop, replicate-append-replicate}
-use lib.Seq.{get_or-append-add, get_or-drop, drop-append-add, drop-drop, take_at, append_snoc}
+use lib.ListN.{length, get_or, set, take, drop, replicate, length-append, length-replicate, replicate-append-replicate}
+use lib.Seq.{get_or-append-add, get_or-drop, drop-append-add, drop-drop, append_snoc}
 use lib.Dec.{ltb}
 use borrow.Author.Tests.{lt-ltb, le-ltb}
 use Rattle.wire.specs.Kinds.{buckets_from}
@@ -100,25 +100,11 @@ cut-skip s i h k =
     ∙ sym (append_snoc (replicate i 0) 0 (drop (i + 1) s))
     ∙ ap (λ (l : List ℕ). l ++ drop (i + 1) s) (replicate-append-replicate i 1 0)
 
-pub cut-length : (s : List ℕ) (i : ℕ) → i ≤ length s → length (replicate i 0 ++ drop i s) ≡ length s
-cut-length s i h = omega (arith, length-append (replicate i 0) (drop i s), zeros i, length-drop i s)
-
 -- ---- The pass up to an end on its way: the sums below b are taken out, and those from b on are left.
 pub record Taking (all : List Bucket) (end : ℕ) (before : List ℕ) (rows₀ : List FreedBucket) (n₀ : ℕ) (sums : List ℕ) (rows : List FreedBucket) (n b : ℕ) : Type 0 where
   pub low : b ≤ end
   pub cut : sums ≡ replicate b 0 ++ drop b before
   pub listing : Appending all (summed_from (end - b) (bucket b) before) (summed_row (sum_of before)) rows₀ n₀ rows n
-
--- a group
-pub taking-starts : (s : List ℕ) (rows : List FreedBucket) (n from m : ℕ) → take from s ≡ replicate from 0
-    → Taking (summed_from m (bucket from) s) (from + m) s rows n s rows n from
-taking-starts s rows n from m e =
-    let d : from + m - from ≡ m = omega arith in
-    record {
-      low = omega arith;
-      cut = sym (take-append-drop from s) ∙ ap (λ (l : List ℕ). l ++ drop from s) e;
-      listing = rw d (record { count = refl; listed = refl });
-    }
 
 -- all of them
 pub taking-all : (s : List ℕ) (rows : List FreedBucket) → Taking (summed_buckets s) 65536 s [] 0 s rows 0 0
@@ -126,9 +112,6 @@ unfolding summed_buckets summed_from
 taking-all s rows = record { low = omega arith; cut = refl; listing = record { count = refl; listed = refl } }
 
 module _ {all : List Bucket} {end : ℕ} {before : List ℕ} {rows₀ : List FreedBucket} {n₀ : ℕ} {sums : List ℕ} {rows : List FreedBucket} {n b : ℕ} (t : Taking all end before rows₀ n₀ sums rows n b) (long : end ≤ length before) where
-  pub taking-length : length sums ≡ length before
-  taking-length = ap length t.cut ∙ cut-length before b (omega (arith, t.low))
-
   left : (j : ℕ) → b ≤ j → get_or sums j 0 ≡ get_or before j 0
   left j h = ap (λ (l : List ℕ). get_or l j 0) t.cut ∙ cut_at before b j h
 
@@ -173,9 +156,6 @@ module _ {all : List Bucket} {end : ℕ} {before : List ℕ} {rows₀ : List Fre
         length-append (summed_from m (bucket b) before) (summed_from (end - (b + m)) (bucket (b + m)) before),
         ap length (summed_same sums before m b left),
       )
-
-  pub taking-first : take b sums ≡ replicate b 0
-  taking-first = ap (take b) t.cut ∙ take_at (replicate b 0) (drop b before) b (zeros b)
 
   -- the next m are taken out
   pub taking-group : (m : ℕ) {sums' : List ℕ} {rows' : List FreedBucket} {r : ℕ} → b + m ≤ end

@@ -1,9 +1,8 @@
 // The released pieces: field 66.
-ghost use Rattle.std.specs.Prelude.{◌≡◌, true, ◌+◌, ◌<◌, ◌≤◌, length, get_or, take, drop};
+ghost use Rattle.std.specs.Prelude.{◌≡◌, ◌+◌, ◌<◌, ◌≤◌, length, take, drop};
 ghost use Rattle.calls.specs.CallList.{freed_of};
 ghost use Rattle.calls.specs.Lists.{all_of};
 ghost use Rattle.calls.specs.Release.{freed_ok};
-ghost use Rattle.reader.specs.Located.{no_freed};
 ghost use Rattle.release_sums.specs.Freeds.{freed_held, freeds_in, Requested};
 
 use wire::kinds::DeviceSector;
@@ -27,14 +26,6 @@ pub fn read_freed(s: &[u8], at: usize) -> Freed
     }
 }
 
-// The piece that the offset at an index finds. The reader shows that each offset finds one, here and below.
-pub fn freed_at(s: &[u8], requests: &[u32], i: usize) -> Freed
-    requires { Requested s.now requests.now × (i < length requests.now) }
-    ensures { freed_held result ≡ get_or (freeds_in s.now requests.now) i no_freed }
-{
-    read_freed(s, requests[i] as usize)
-}
-
 // Refusal 14 at one piece. Refusal 4 and two bytes of a field show the bounds, here and below.
 #[tactic(auto, unfolding(calls::specs::Release::freed_ok))]
 fn freed_ok(r: Freed, sectors: u64) -> bool
@@ -46,7 +37,7 @@ fn freed_ok(r: Freed, sectors: u64) -> bool
         && kinds::bucket_in_range(kinds::bucket_of(r.first, sectors))
 }
 
-// Refusal 14: whether every piece lies within its bucket.
+// Refusal 14: whether every piece lies within its bucket. The reader shows that each offset finds one.
 #[tactic(auto, using(crate::proofs::FreedLaws::freeds_next, crate::proofs::FreedLaws::freeds_none), unfolding(calls::specs::Lists::all_of))]
 pub fn all_freed_ok(s: &[u8], requests: &[u32], sectors: u64) -> bool
     requires { Requested s.now requests.now × ((0 < sectors) × (sectors < 65536)) }

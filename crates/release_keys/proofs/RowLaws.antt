@@ -1,0 +1,177 @@
+-- What the rows of the table say of the freed buckets.
+use mathlib.Core.Path.{◌≡◌, refl, sym, ap, ◌∙◌}
+use mathlib.Core.Bool.{Bool, true, false, cond}
+use mathlib.Core.List.{List, [], ◌∷◌, map, flat_map}
+use Prim.Native.Nat.{ℕ, suc, ◌+◌, ◌≤◌, ◌<◌}
+use native.Mathlib.Omega.{arith}
+use lib.ListN.{length, get_or, drop, length-map}
+use Rattle.std.proofs.Common.{Some}
+use Rattle.std.proofs.lemmas.List.{drop-map}
+use Rattle.wire.specs.Keys.{Key}
+use Rattle.wire.specs.declared.kinds.Bucket.{Bucket}
+use Rattle.wire.proofs.OutputLaws.{drop-next}
+use Rattle.format.specs.Packing.{Member, get}
+use Rattle.format.specs.AllocV4.{gen, dirty_sectors, next_gen}
+use Rattle.calls.specs.CallList.{Volume, Freed}
+use Rattle.calls.specs.Lists.{those, total}
+use Rattle.calls.specs.Refusals.{verdict}
+use Rattle.calls.specs.Release.{freed_buckets, is_emptied, bucket_refusal, released_key, released_lru, emptied_gen, dirty_at, alloc_value}
+use Rattle.calls.proofs.answers.RefusalLaws.{verdict-map-first, verdict-map-drop}
+use Rattle.calls.proofs.release.ReleaseLaws.{BucketHeld, held_of}
+use Rattle.reader.specs.KeyHere.{value_at, key_here, Whole}
+use Rattle.reader.proofs.KeyHereLaws.{value-within}
+use Rattle.release_sums.specs.declared.sums.FreedBucket.{FreedBucket}
+use Rattle.release_sums.specs.Summing.{Listed}
+use Rattle.release_sums.proofs.FoundLaws.{Picking, pick_ends}
+use Rattle.release_keys.specs.declared.freed_buckets.Emptied.{Emptied}
+use Rattle.release_keys.specs.Counting.{kept_of, lost_of, row_kept, row_lost}
+use Rattle.release_keys.specs.Emptied.{emptied_row}
+use Rattle.release_keys.specs.Tables.{no_row, buckets_of, row_key, row_dirty, row_emptied, row_gen, freed_key, row_lru, FreedEntry, FreedTables, RowHeld, RowsHeld, RowsWithin}
+use Rattle.release_keys.proofs.PlaceLaws.{place-some, place_found, placed-value, member-there}
+use Rattle.release_keys.proofs.RefusalLaws.{dirty-is}
+
+-- ---- the buckets of rows
+pub rows-next : (rows : List FreedBucket) (i : ℕ) → i < length rows → drop i rows ≡ get_or rows i no_row ∷ drop (i + 1) rows
+rows-next rows i h = drop-next no_row rows i h
+
+buckets-next : (rows : List FreedBucket) (i : ℕ) → i < length rows → drop i (buckets_of rows) ≡ (get_or rows i no_row).bucket ∷ buckets_of (drop (i + 1) rows)
+buckets-next rows i h = drop-map (λ (f : FreedBucket). f.bucket) i rows ∙ ap buckets_of (rows-next rows i h)
+
+-- ---- a row
+module _ {s : List ℕ} {v : Volume} {rs : List Freed} {f : FreedBucket} (e : FreedEntry s v rs f) where
+  value-row : (row_key s f).value ≡ alloc_value v.trees f.bucket
+  unfolding alloc_value
+  value-row = placed-value e.key
+
+  pub dirty-row : row_dirty s f ≡ dirty_at v.trees f.bucket
+  unfolding dirty_at
+  dirty-row = ap (get dirty_sectors) value-row
+
+  pub emptied-row : row_emptied s f ≡ is_emptied v rs f.bucket
+  unfolding is_emptied
+  emptied-row = rw (e.freed, dirty-row) refl
+
+  pub gen-row : row_gen s f ≡ emptied_row (emptied_gen v.trees) f.bucket
+  unfolding emptied_gen
+  gen-row = ap (λ (l : List ℕ). record { bucket = f.bucket; generation = next_gen (get gen l) }) value-row
+
+  pub kept-row : row_kept s f ≡ kept_of v rs f.bucket
+  kept-row = rw (← emptied-row, ← e.freed) refl
+
+  pub lost-row : row_lost s v.head.bucket_sectors f ≡ lost_of v rs f.bucket
+  lost-row = rw (← emptied-row, ← dirty-row) refl
+
+  pub key-row : RowHeld s f → freed_key v.head.journal s f ≡ released_key v rs f.bucket
+  unfolding released_key
+  key-row r =
+      let k = (place-some e.key r.is).0 in
+      rw (k, ← emptied-row, ← dirty-row, ← value-row, ← e.freed, r.is) refl
+
+  pub lru-row : row_lru v.head.bucket_sectors s f ≡ released_lru v rs f.bucket
+  unfolding released_lru
+  lru-row = rw (← emptied-row, ← dirty-row, ← e.freed) refl
+
+-- ---- a row whose alloc key is there
+module _ {s : List ℕ} {f : FreedBucket} (r : RowHeld s f) {at : ℕ} (e : f.place ≡ Some at) where
+  same-place : r.place ≡ at
+  same-place = let d : Some r.place ≡ Some at = sym r.is ∙ e in cc
+
+  pub row-there : Whole s at
+  row-there = rw (← same-place) r.there
+
+  pub row-long : 56 ≤ length (key_here s at).value
+  row-long = rw (← same-place) r.long
+
+  -- its value, where it starts
+  pub row-room : (p : ℕ) → p ≡ value_at at → p + 56 ≤ length s
+  row-room p d = omega (arith, row-long, value-within s at row-there)
+
+  -- a member of it
+  pub row-member : (m : Member) → m.at + m.size ≤ 56 → (p : ℕ) → p ≡ value_at at → get m (drop p s) ≡ get m (row_key s f).value
+  row-member m h p d = member-there row-there m (omega (arith, row-long)) p d ∙ rw e refl
+
+-- ---- all rows
+module _ {A : Type 0} (g : FreedBucket → A) (h : Bucket → A) where
+  pub map-rows : (rows : List FreedBucket) → ((i : ℕ) → i < length rows → g (get_or rows i no_row) ≡ h (get_or rows i no_row).bucket) → map g rows ≡ map h (buckets_of rows)
+  map-rows [] k = refl
+  map-rows (f ∷ rows) k = λ x. k 0 (omega arith) x ∷ map-rows rows (λ i l. k (suc i) (omega arith)) x
+
+  pub those-rows : (t : FreedBucket → Bool) (u : Bucket → Bool) (rows : List FreedBucket) → ((i : ℕ) → i < length rows → t (get_or rows i no_row) ≡ u (get_or rows i no_row).bucket)
+      → ((i : ℕ) → i < length rows → g (get_or rows i no_row) ≡ h (get_or rows i no_row).bucket) → map g (those t rows) ≡ map h (those u (buckets_of rows))
+  unfolding those
+  those-rows t u [] j k = refl
+  those-rows t u (f ∷ rows) j k =
+      rw (← j 0 (omega arith)) (go (t f) (k 0 (omega arith)) (those-rows t u rows (λ i l. j (suc i) (omega arith)) (λ i l. k (suc i) (omega arith))))
+    where
+      go : (b : Bool) → g f ≡ h f.bucket → map g (those t rows) ≡ map h (those u (buckets_of rows))
+          → map g (cond b (f ∷ those t rows) (those t rows)) ≡ map h (cond b (f.bucket ∷ those u (buckets_of rows)) (those u (buckets_of rows)))
+      go true p q = rw (p, q) refl
+      go false p q = q
+
+pub total-rows : (g : FreedBucket → ℕ) (h : Bucket → ℕ) (rows : List FreedBucket) → ((i : ℕ) → i < length rows → g (get_or rows i no_row) ≡ h (get_or rows i no_row).bucket)
+    → total g rows ≡ total h (buckets_of rows)
+unfolding total
+total-rows g h [] k = refl
+total-rows g h (f ∷ rows) k = rw (k 0 (omega arith), total-rows g h rows (λ i l. k (suc i) (omega arith))) refl
+
+pub flat-rows : {A : Type 0} (g : FreedBucket → List A) (h : Bucket → List A) (rows : List FreedBucket) → ((i : ℕ) → i < length rows → g (get_or rows i no_row) ≡ h (get_or rows i no_row).bucket)
+    → flat_map g rows ≡ flat_map h (buckets_of rows)
+unfolding flat_map
+flat-rows g h [] k = refl
+flat-rows g h (f ∷ rows) k = rw (k 0 (omega arith), flat-rows g h rows (λ i l. k (suc i) (omega arith))) refl
+
+-- ---- no bucket refuses
+module _ {s : List ℕ} {v : Volume} {rs : List Freed} {rows : List FreedBucket} (t : FreedTables s v rs rows)
+    (none : verdict (map (bucket_refusal v rs) (freed_buckets v.head.bucket_sectors rs)) ≡ 0) where
+  its : (i : ℕ) → i < length rows → BucketHeld v rs (get_or rows i no_row).bucket
+  its i h =
+      let e = ap (drop i) (sym t.named) ∙ buckets-next rows i h in
+      held_of v rs (get_or rows i no_row).bucket (verdict-map-first (bucket_refusal v rs) e (verdict-map-drop (bucket_refusal v rs) i _ none))
+
+  pub rows-held : RowsHeld s rows
+  rows-held i h =
+      let d = its i h in
+      let e = t.at i h in
+      let a = place_found e.key d.found in
+      record {
+        place = a.place;
+        is = a.is;
+        there = a.key.whole;
+        long = omega (arith, d.long, ap (λ (x : Key). length x.value) a.key.is);
+        held = omega (arith, d.held, e.freed, dirty-row e, dirty-is v rs (get_or rows i no_row).bucket d.key d.found);
+      }
+
+  pub rows-within : RowsWithin s v.head.bucket_sectors rows
+  rows-within i h =
+      let d = its i h in
+      let e = t.at i h in
+      omega (arith, d.small, dirty-row e, dirty-is v rs (get_or rows i no_row).bucket d.key d.found)
+
+-- ---- sums, keys and choices over the rows of a table
+module _ {s : List ℕ} {v : Volume} {rs : List Freed} {rows : List FreedBucket} (t : FreedTables s v rs rows) where
+  pub rows-verdict : {sectors : ℕ} → v.head.bucket_sectors ≡ sectors → verdict (map (bucket_refusal v rs) (buckets_of rows)) ≡ verdict (map (bucket_refusal v rs) (freed_buckets sectors rs))
+  rows-verdict e = ap (λ (l : List Bucket). verdict (map (bucket_refusal v rs) l)) (t.named ∙ ap (λ (n : ℕ). freed_buckets n rs) e)
+
+  pub keys-are : {journal : ℕ} → RowsHeld s rows → v.head.journal ≡ journal → map (freed_key journal s) rows ≡ map (released_key v rs) (freed_buckets v.head.bucket_sectors rs)
+  keys-are h e =
+      rw (← e) (map-rows (freed_key v.head.journal s) (released_key v rs) rows (λ i l. key-row (t.at i l) (h i l)) ∙ ap (map (released_key v rs)) t.named)
+
+  pub lrus-are : {sectors : ℕ} → v.head.bucket_sectors ≡ sectors → flat_map (row_lru sectors s) rows ≡ flat_map (released_lru v rs) (freed_buckets sectors rs)
+  lrus-are e =
+      rw (← e) (flat-rows (row_lru v.head.bucket_sectors s) (released_lru v rs) rows (λ i l. lru-row (t.at i l)) ∙ ap (flat_map (released_lru v rs)) t.named)
+
+  pub kept-are : total (row_kept s) rows ≡ total (kept_of v rs) (buckets_of rows)
+  kept-are = total-rows (row_kept s) (kept_of v rs) rows (λ i l. kept-row (t.at i l))
+
+  pub lost-are : {sectors : ℕ} → v.head.bucket_sectors ≡ sectors → total (row_lost s sectors) rows ≡ total (lost_of v rs) (buckets_of rows)
+  lost-are e = rw (← e) (total-rows (row_lost s v.head.bucket_sectors) (lost_of v rs) rows (λ i l. lost-row (t.at i l)))
+
+  pub listed-rows : {rest : List FreedBucket} {table : List Emptied} {n : ℕ} → Picking (those (row_emptied s) rows) rest (row_gen s) table n → rest ≡ []
+      → Listed (those (is_emptied v rs) (buckets_of rows)) (emptied_row (emptied_gen v.trees)) table n
+  listed-rows p e =
+      let l = pick_ends p e in
+      let d = those-rows (row_gen s) (emptied_row (emptied_gen v.trees)) (row_emptied s) (is_emptied v rs) rows (λ i l. emptied-row (t.at i l)) (λ i l. gen-row (t.at i l)) in
+      record {
+        count = l.count ∙ sym (length-map (those (row_emptied s) rows) (row_gen s)) ∙ ap length d ∙ length-map (those (is_emptied v rs) (buckets_of rows)) (emptied_row (emptied_gen v.trees));
+        listed = l.listed ∙ d;
+      }

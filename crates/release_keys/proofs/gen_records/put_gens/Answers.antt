@@ -1,0 +1,21 @@
+-- `gen_records::put_gens` meets its contract.
+use Rattle.std.proofs.Common.{refl, arith}
+use Rattle.release_keys.proofs.GenRecordLaws.{range_at, generation-at, queue-starts, queue-turn, queue-ends}
+use Rattle.release_keys.proofs.gen_records.put_gens.Goals as goal
+
+pub loop-e-init : goal.loop-e-init
+loop-e-init c = (c.new_record.ensures.0, λ gens generation_of r e. queue-starts gens generation_of _ _ _ _ (omega arith) refl)
+
+pub next_record-last-requires : goal.next_record-last-requires
+next_record-last-requires c = (c.requires.0, range_at c.args.emptied.now c.requires.1 c.loop-e.e-index c.loop-e-test.true, c.loop-e.invariant.0)
+
+pub loop-e-preserved : goal.loop-e-preserved
+loop-e-preserved c =
+    let n = c.next_record-last in (
+      n.ensures.0,
+      λ gens generation_of r e.
+          queue-turn (c.loop-e.invariant.1 gens generation_of r e) c.requires.2 c.loop-e-test.true _ n.result (generation-at generation_of c.args.emptied.now c.loop-e.e-index c.loop-e-test.true e) (n.ensures.1 gens r) c.put_key-p.ensures,
+    )
+
+pub returns : goal.returns
+returns c gens generation_of r e = queue-ends (c.loop-e.invariant.1 gens generation_of r e) c.loop-e-test.false
