@@ -1,20 +1,23 @@
 -- The marks of a list's buckets, one after the other.
 use mathlib.Core.Path.{◌≡◌, refl, ap, sym, ◌∙◌}
-use mathlib.Core.Bool.{Bool, true, false, not, ◌&&◌, ◌||◌, and-false, cond}
+use mathlib.Core.Bool.{Bool, true, false, not, ◌&&◌, ◌||◌, cond}
 use mathlib.Core.List.{List, [], ◌∷◌}
 use mathlib.Core.Option.{some}
-use Prim.Native.Nat.{ℕ, ◌≤◌, ◌<◌, Ordering}
+use Prim.Native.Nat.{ℕ, ◌+◌, ◌≤◌, ◌<◌, Ordering}
 use native.Mathlib.Omega.{arith}
 use lib.Dec.{leb, eqb}
 use lib.ListN.{length, get_or, drop, replicate, length-replicate, drop_of_length-le}
-use borrow.Author.Tests.{ltb-true, eqb-true, eq-eqb, ne_eqb, lt-leb, le-leb}
+use borrow.Author.Tests.{ltb-true, eqb-true, eq-eqb}
 use Rattle.wire.specs.Keys.{Key}
-use Rattle.wire.specs.Kinds.{bucket_in_range, same_bucket}
+use Rattle.wire.specs.Kinds.{bucket_in_range, same_bucket, bucket_read}
 use Rattle.wire.specs.Order.{cmp}
 use Rattle.wire.specs.Positions.{bucket_in, alloc_at}
 use Rattle.wire.specs.declared.bpos.Bpos.{Bpos}
 use Rattle.wire.specs.declared.kinds.Bucket.{Bucket}
 use Rattle.wire.proofs.OrderLaws.{pos-cmp, mk-eq, lt≢eq, gt≢eq}
+use Rattle.format.specs.AllocV4.{data_type}
+use Rattle.format.specs.Packing.{get}
+use Rattle.format.proofs.ValueLaws.{get_at}
 use Rattle.calls.specs.Lists.{all_of, any_of, from_option}
 use Rattle.calls.specs.Limits.{at_inode0}
 use Rattle.calls.specs.Freespace.{is_used}
@@ -22,6 +25,14 @@ use Rattle.calls.specs.Trees.{on_eq, lookup}
 use Rattle.calls.proofs.lists.BoolLaws.{parts as and-true}
 use Rattle.calls.proofs.trees.SortedLaws.{Chain, Sorted, chain-weak, chain-sorted}
 use Rattle.calls.proofs.trees.SortedLaws.{NoSnapshots}
+use Rattle.calls.specs.Answers.{read_volume}
+use Rattle.calls.proofs.lists.AllOfLaws.{all-of-drop, all-of-first}
+use Rattle.reader.specs.Checked.{Checked, in_range}
+use Rattle.reader.specs.KeyHere.{Whole, value_at, key_here}
+use Rattle.reader.specs.Located.{KeysAt, BucketsAt}
+use Rattle.reader.proofs.CheckedLaws.{reserved-range, range_at, alloc-range}
+use Rattle.reader.proofs.KeyHereLaws.{byte-here, keys-next}
+use Rattle.reader.proofs.NextLaws.{buckets-next}
 use Rattle.bucket_bits.specs.Bits.{marked, with_mark, in_use, used_mark, Marks}
 use Rattle.bucket_bits.proofs.BitLaws.{mark-told, mark-length, mark-none}
 
@@ -73,6 +84,10 @@ module _ {A : Type 0} (is : A → Bucket → Bool) (all : List A) where
             or-none (marked bits b) ∙ ap (λ (r : List A). marked bits b || any_of (λ a. is a b) r) (sym (drop_of_length-le all h))
             ∙ m.told b l;
       }
+
+-- the data type in the value of the key at a place
+pub type-here : (s : List ℕ) (at : ℕ) → Whole s at → 16 ≤ length (key_here s at).value → get data_type (drop (value_at at) s) ≡ get_or (key_here s at).value 14 0
+type-here s at w h = get_at data_type s (value_at at) ∙ byte-here s at w 14 (omega arith)
 
 -- the buckets in use, by the keys of which one is
 abbrev pub uses_bucket : Key → Bucket → Bool
@@ -152,25 +167,36 @@ used-any b (k ∷ ks) s z =
         let n : any_of (λ j. uses_bucket j b) ks ≡ false = none_after b ks zs (rw q s) in
         decides k b e ∙ or-none (uses_bucket k b) ∙ ap (λ (t : Bool). uses_bucket k b || t) (sym n)
 
--- what the code marks of an alloc key, by its tests
-module _ (k : Key) (bits : List ℕ) where
-  pub used-inode : (k.pos.inode ≡ 0 → ⊥) → bits ≡ used_mark k bits
-  unfolding used_mark in_use
-  used-inode n = rw (ne_eqb k.pos.inode 0 n)
-
-  pub used-short : length k.value < 16 → bits ≡ used_mark k bits
-  unfolding used_mark in_use
-  used-short h = simp (lt-leb 16 (length k.value) h, and-false)
-
-  pub used-free : get_or k.value 14 0 ≡ 0 → bits ≡ used_mark k bits
-  unfolding used_mark in_use
-  used-free e = simp (eq-eqb (get_or k.value 14 0) 0 e, and-false)
-
-  pub used-here : k.pos.inode ≡ 0 → 16 ≤ length k.value → (get_or k.value 14 0 ≡ 0 → ⊥) → with_mark bits (bucket_in k.pos) ≡ used_mark k bits
-  unfolding used_mark in_use
-  used-here i l n =
-      simp (eq-eqb k.pos.inode 0 i, le-leb 16 (length k.value) l, ne_eqb (get_or k.value 14 0) 0 n)
-
 pub used-inode-0 : (k : Key) → in_use k ≡ true → k.pos.inode ≡ 0
 unfolding in_use
 used-inode-0 k h = eqb-true k.pos.inode 0 (and-true (at_inode0 k) _ h).0
+
+-- one reserved bucket more
+module _ {s reserved : List ℕ} (t : Checked s) (f : BucketsAt s reserved (read_volume s).reserved) (i : ℕ) (h : i < length reserved) where
+  abbrev pub reserved_here : Bucket
+  reserved_here = bucket_read (drop (get_or reserved i 0) s)
+
+  pub reserved-small : bucket_in_range reserved_here ≡ true
+  reserved-small = all-of-first bucket_in_range (all-of-drop bucket_in_range _ i (reserved-range t)) (buckets-next f i h)
+
+  pub reserved-more :
+      {bits : List ℕ} → Marking (λ a b. same_bucket a b) (read_volume s).reserved (drop i (read_volume s).reserved) bits
+      → Marking (λ a b. same_bucket a b) (read_volume s).reserved (drop (i + 1) (read_volume s).reserved) (with_mark bits reserved_here)
+  reserved-more {bits} m =
+      marking-on (λ a b. same_bucket a b) _ m (buckets-next f i h) (mark-length bits reserved_here)
+      (λ b _. mark-told bits reserved_here b (omega (arith, m.size, ltb-true reserved_here.0 65536 reserved-small)))
+
+-- one key more
+module _ {s places : List ℕ} (t : Checked s) (f : KeysAt s places (read_volume s).trees.alloc) (i : ℕ) (h : i < length places) where
+  abbrev alloc_here : Key
+  alloc_here = key_here s (get_or places i 0)
+
+  pub used-ranged : in_range alloc_here ≡ true
+  used-ranged = all-of-first in_range (all-of-drop in_range _ i (alloc-range t)) (keys-next f i h)
+
+  pub used-more :
+      {bits : List ℕ} → Marking uses_bucket (read_volume s).trees.alloc (drop i (read_volume s).trees.alloc) bits
+      → Marking uses_bucket (read_volume s).trees.alloc (drop (i + 1) (read_volume s).trees.alloc) (used_mark alloc_here bits)
+  used-more {bits} m =
+      marking-on uses_bucket _ m (keys-next f i h) (used-length alloc_here bits)
+      (λ b _. used-told alloc_here bits b m.size (λ u. range_at alloc_here used-ranged (used-inode-0 alloc_here u)))

@@ -27,9 +27,13 @@ marked bits b = has_bit (b.0 % 8) (get_or bits (b.0 / 8) 0)
 unfoldable pub with_mark : List ℕ → Bucket → List ℕ
 with_mark bits b = set bits (b.0 / 8) (with_bit (b.0 % 8) (get_or bits (b.0 / 8) 0))
 
+-- an alloc value that is long enough and has a data type other than free
+abbrev pub holds_data : List ℕ → Bool
+holds_data v = leb 16 (length v) && not (eqb (get_or v 14 0) 0)
+
 -- an alloc key at inode 0 whose bucket is in use
 unfoldable pub in_use : Key → Bool
-in_use k = at_inode0 k && (leb 16 (length k.value) && not (eqb (get_or k.value 14 0) 0))
+in_use k = at_inode0 k && holds_data k.value
 
 -- the table with its bucket marked
 unfoldable pub used_mark : Key → List ℕ → List ℕ

@@ -6,21 +6,19 @@ ghost use Rattle.calls.specs.Freespace.{is_in, is_used};
 ghost use Rattle.reader.specs.KeyHere.{Whole, key_here};
 ghost use Rattle.reader.specs.Located.{KeysAt, BucketsAt};
 ghost use Rattle.reader.specs.Checked.{Checked, in_range};
-ghost use Rattle.bucket_bits.specs.Bits.{has_bit, with_bit, marked, with_mark, used_mark, Marks};
+ghost use Rattle.bucket_bits.specs.Bits.{has_bit, with_bit, marked, with_mark, holds_data, in_use, used_mark, Marks};
 
 use format::alloc;
 use reader::key;
+use wire::kinds;
 use wire::kinds::Bucket;
-use wire::{kinds, positions};
-
-const POWERS: [u8; 8] = [1, 2, 4, 8, 16, 32, 64, 128];
 
 // Whether a bit of a byte is 1. A remainder by 8 shows the bound, here and below.
 fn has_bit(x: u8, k: usize) -> bool
     requires { k < 8 }
     ensures { result ≡ has_bit k x }
 {
-    x / POWERS[k] % 2 == 1
+    x >> k & 1 == 1
 }
 
 // A byte with a bit set.
@@ -28,13 +26,11 @@ fn with_bit(x: u8, k: usize) -> u8
     requires { k < 8 }
     ensures { result ≡ with_bit k x }
 {
-    if has_bit(x, k) {
-        return x;
-    }
-    x + POWERS[k]
+    x | 1 << k
 }
 
 // Whether a bucket is marked. The limits show the bound, here and below.
+#[tactic(auto, unfolding(crate::specs::Bits::marked))]
 pub fn is_marked(bits: &[u8; 8192], b: Bucket) -> bool
     requires { bucket_in_range b ≡ true }
     ensures { result ≡ marked bits.now b }
@@ -44,6 +40,7 @@ pub fn is_marked(bits: &[u8; 8192], b: Bucket) -> bool
 }
 
 // Marks a bucket.
+#[tactic(auto, unfolding(crate::specs::Bits::with_mark))]
 fn mark(bits: &mut [u8; 8192], b: Bucket)
     requires { bucket_in_range b ≡ true }
     ensures { bits.new ≡ with_mark bits.old b }
@@ -52,22 +49,31 @@ fn mark(bits: &mut [u8; 8192], b: Bucket)
     bits[i] = with_bit(bits[i], (b.0 % 8) as usize);
 }
 
-// Marks the bucket of an alloc key, if it is in use. The reader shows that a key stands there.
+// Whether the value of the key at a place is long enough and has a data type other than free. The reader shows that a key stands there, here and below.
+fn holds_data(s: &[u8], at: usize) -> bool
+    requires { Whole s.now at }
+    ensures { result ≡ holds_data (key_here s.now at).value }
+{
+    key::value_len(s, at) >= 16 && alloc::data_type(s, key::value_at(s, at)) != 0
+}
+
+// Whether it is an alloc key at inode 0 whose bucket is in use.
+#[tactic(auto, unfolding(crate::specs::Bits::in_use))]
+fn in_use(s: &[u8], at: usize) -> bool
+    requires { Whole s.now at }
+    ensures { result ≡ in_use (key_here s.now at) }
+{
+    key::pos_at(s, at).inode == 0 && holds_data(s, at)
+}
+
+// Marks the bucket of an alloc key, if it is in use.
 fn mark_key(s: &[u8], at: usize, bits: &mut [u8; 8192])
     requires { Whole s.now at × (in_range (key_here s.now at) ≡ true) }
     ensures { bits.new ≡ used_mark (key_here s.now at) bits.old }
 {
-    let p = key::pos_at(s, at);
-    if p.inode != 0 {
-        return;
+    if in_use(s, at) {
+        mark(bits, key::bucket_at(s, at));
     }
-    if key::value_len(s, at) < 16 {
-        return;
-    }
-    if alloc::data_type(s, key::value_at(s, at)) == 0 {
-        return;
-    }
-    mark(bits, positions::bucket_in(p));
 }
 
 // Marks the reserved buckets in a table of zeros.
@@ -75,10 +81,8 @@ pub fn mark_reserved(s: &[u8], reserved: &[u32], bits: &mut [u8; 8192])
     requires { Checked s.now × BucketsAt s.now reserved.now (read_volume s.now).reserved × (bits.old ≡ replicate 8192 0) }
     ensures { Marks bits.new (is_in (read_volume s.now).reserved) }
 {
-    let mut i: usize = 0;
-    while i < reserved.len() {
-        mark(bits, kinds::read_bucket(s, reserved[i] as usize));
-        i += 1;
+    for at in reserved {
+        mark(bits, kinds::read_bucket(s, *at as usize));
     }
 }
 
@@ -87,9 +91,7 @@ pub fn mark_used(s: &[u8], alloc: &[u32], bits: &mut [u8; 8192])
     requires { Checked s.now × KeysAt s.now alloc.now (read_volume s.now).trees.alloc × (bits.old ≡ replicate 8192 0) }
     ensures { Marks bits.new (is_used (read_volume s.now).trees.alloc) }
 {
-    let mut i: usize = 0;
-    while i < alloc.len() {
-        mark_key(s, alloc[i] as usize, bits);
-        i += 1;
+    for at in alloc {
+        mark_key(s, *at as usize, bits);
     }
 }
