@@ -1,6 +1,6 @@
 -- Laws of rows: those that are left out, rows one after the other, signed arguments.
 use mathlib.Core.Path.{◌≡◌, refl, sym, ap, ◌∙◌}
-use mathlib.Core.Bool.{Bool, true, false, not}
+use mathlib.Core.Bool.{Bool, true, false, not, ◌||◌}
 use mathlib.Core.List.{List, [], ◌∷◌, ◌++◌, map}
 use Prim.Native.Nat.{ℕ, ◌<◌, ◌^◌}
 use lib.IntN.{ℤ, pos, negsuc, ◌+ℤ◌, +ℤ_idl}
@@ -8,8 +8,11 @@ use lib.Signed.{mag}
 use mir.Syntax.{w64}
 use mir.Val.{SFits, to_z, of_z}
 use borrow.Author.Tests.{ne_eqb}
+use Rattle.std.specs.List.{list_any}
 use Rattle.wire.specs.Encode.{encode}
-use Rattle.wire.specs.Output.{Emitted}
+use Rattle.wire.specs.declared.output.Output.{Output}
+use Rattle.wire.specs.Output.{Emitted, with_bytes}
+use Rattle.wire.proofs.AppendLaws.{with-with}
 use Rattle.wire.specs.Rows.{Counters, row_field}
 use Rattle.wire.proofs.EmitLaws.{emitted, and_then}
 use Rattle.wire.proofs.SignedLaws.{back}
@@ -30,6 +33,12 @@ other-bits (negsuc n) h = refl
 -- a row has a number other than 0
 abbrev pub is_other : ℤ → Bool
 is_other z = not (is_zero z)
+
+-- std's word for it
+pub any-listed : {A : Type 0} (t : A → Bool) (xs : List A) → list_any t xs ≡ any_of t xs
+unfolding any_of
+any-listed t [] = refl
+any-listed t (x ∷ xs) = ap (λ (b : Bool). t x || b) (any-listed t xs)
 
 pub counted-one : (r : Counters) → any_of is_other r.numbers ≡ true → counted_rows (r ∷ []) ≡ r ∷ []
 unfolding counted_rows
@@ -65,3 +74,12 @@ rows-and rs ts v w =
     (ap (λ l. encode (map row_field l)) (those-append (λ (r : Counters). any_of is_other r.numbers) rs ts)
     ∙ fields-append row_field (counted_rows rs) (counted_rows ts)))
     (and_then v w)
+
+pub rows-then : (o : Output) (rs ts : List Counters) → with_bytes (with_bytes o (rows_bytes rs)) (rows_bytes ts) ≡ with_bytes o (rows_bytes (rs ++ ts))
+unfolding counted_rows
+rows-then o rs ts =
+    with-with o (rows_bytes rs) (rows_bytes ts)
+    ∙ ap (with_bytes o)
+    (sym
+    (ap (λ l. encode (map row_field l)) (those-append (λ (r : Counters). any_of is_other r.numbers) rs ts)
+    ∙ fields-append row_field (counted_rows rs) (counted_rows ts)))

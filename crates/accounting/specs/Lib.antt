@@ -1,2 +1,3 @@
+pub mod DataTypes
 pub mod RowBytes
 pub mod Tally
