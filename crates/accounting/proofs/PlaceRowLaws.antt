@@ -1,10 +1,10 @@
 -- Laws of the rows of a placement.
 use mathlib.Core.Path.{◌≡◌, refl, sym, ap, ◌∙◌}
 use mathlib.Core.List.{List, [], ◌∷◌, ◌++◌, map}
-use Prim.Native.Nat.{ℕ, zero, suc, ◌+◌, ◌*◌, ◌/◌, ◌%◌, ◌^◌}
+use Prim.Native.Nat.{ℕ, zero, suc, ◌≤◌, ◌<◌, ◌+◌, ◌*◌, ◌/◌, ◌%◌, ◌^◌}
 use native.Mathlib.Omega.{arith}
 use lib.IntN.{pos, neg_ℤ, ◌+ℤ◌}
-use lib.ListN.{length, length-map}
+use lib.ListN.{length, length-map, get_or, drop, drop_of_length-le}
 use lib.Dec.{eqb}
 use Rattle.wire.specs.Keys.{Key}
 use Rattle.wire.specs.declared.kinds.Bucket.{Bucket}
@@ -16,10 +16,18 @@ use Rattle.calls.specs.Place.{place_rows}
 use Rattle.calls.specs.Accounting.{counted_rows, sectors_row, buckets_row, kind_row, extents_row, owner_row, swapped}
 use Rattle.calls.proofs.lists.ThoseLaws.{those-map}
 use Rattle.calls.proofs.lists.TotalLaws.{total-map, total-constant}
-use Rattle.accounting.specs.Tally.{tally_of, of_kind, tallies_of, counts_row, kind_counts, owner_counts}
+use Rattle.accounting.specs.Tally.{tally_of, of_kind, kinds_of, tallies_of, counts_row, kind_counts, kind_rows, owner_counts}
 use Rattle.accounting.specs.declared.tally.Tally.{Tally}
 use Rattle.accounting.specs.declared.tally.Tallies.{Tallies}
-use Rattle.wire.proofs.EncodeLaws.{words_count}
+use Rattle.std.specs.Int.{w64, swap_bytes, from_be_bytes}
+use Rattle.wire.specs.Numbers.{le_bytes}
+use Rattle.wire.specs.Output.{with_bytes}
+use Rattle.wire.specs.declared.output.Output.{Output}
+use Rattle.wire.proofs.AppendLaws.{with-none, bytes_64}
+use Rattle.wire.proofs.OutputLaws.{drop-next}
+use Rattle.wire.proofs.EncodeLaws.{words_count, encode-none}
+use Rattle.accounting.specs.RowBytes.{rows_bytes}
+use Rattle.accounting.proofs.RowLaws.{rows-then}
 use Rattle.accounting.proofs.TallyLaws.{tally-equal}
 
 -- how many words an extent's value has
@@ -64,6 +72,11 @@ pub reversed-is : (x : ℕ)
 unfolding swapped
 reversed-is x = omega arith
 
+-- the same by std's word
+pub swapped-is : (x : ℕ) → swap_bytes w64 x ≡ swapped 8 x
+unfolding swapped le_bytes
+swapped-is x = ap (from_be_bytes w64) (bytes_64 x) ∙ omega arith
+
 pub owner-inode : (y : ℕ) → 0x0800000000000000 + y / 256 ≡ (8 * 256 ^ 8 + y) / 256
 owner-inode y = omega arith
 
@@ -88,24 +101,43 @@ pub all-tally : (ps : List Placed)
 all-tally ps =
     tally-equal _ _ (sym (length-map ps (λ p. p.piece))) (sym (total-map (λ p. p.file) (λ p. p.piece) ps)) (sym (total-map (λ p. p.stored) (λ p. p.piece) ps))
 
+-- a turn of the loop over the tallies of the kinds: of the rows that are left, the first is put
+pub kind-turn :
+    (o r : Output) (ts : List Tally) (i : ℕ) (d : Tally) → i < length ts
+    → r ≡ with_bytes o (rows_bytes (counts_row (0x0402000000000000 + i * 2 ^ 48) 0 (get_or ts i d) ∷ []))
+    → with_bytes r (rows_bytes (kind_rows (i + 1 + 2) (drop (i + 1) ts))) ≡ with_bytes o (rows_bytes (kind_rows (i + 2) (drop i ts)))
+kind-turn o r ts i d h e =
+    let n : 0x0402000000000000 + i * 2 ^ 48 ≡ 0x0400000000000000 + (i + 2) * 2 ^ 48 = omega arith in
+    let k : i + 1 + 2 ≡ i + 2 + 1 = omega arith in
+    rw (e, rows-then o (counts_row (0x0402000000000000 + i * 2 ^ 48) 0 (get_or ts i d) ∷ []) (kind_rows (i + 1 + 2) (drop (i + 1) ts)), n, k, drop-next d ts i h)
+
+-- the end
+pub kind-end : (o : Output) (ts : List Tally) (i : ℕ) → length ts ≤ i → with_bytes o (rows_bytes (kind_rows (i + 2) (drop i ts))) ≡ o
+unfolding counted_rows those
+kind-end o ts i h = rw (drop_of_length-le ts h, encode-none) (with-none o)
+
 -- all rows, by the tallies
 pub place-rows : (h : Head) (bs : List Bucket) (ps : List Placed) (extents : List Key) (t : Tallies) → t ≡ tallies_of (map (λ p. p.piece) ps)
     → place_rows h bs ps extents
     ≡ counted_rows
     ((sectors_row (pos t.all.stored) ∷ buckets_row 0 (neg_ℤ (pos (length bs))) (pos 0) (pos 0)
     ∷ buckets_row 4 (pos (length bs)) (pos t.all.stored) (pos (length bs * h.bucket_sectors) +ℤ neg_ℤ (pos t.all.stored)) ∷ [])
-    ++ (kind_counts 2 t.kind_2 ∷ kind_counts 3 t.kind_3 ∷ kind_counts 4 t.kind_4 ∷ kind_counts 5 t.kind_5 ∷ [])
+    ++ kind_rows 2 t.kinds
     ++ (extents_row extents t.all.stored ∷ [])
     ++ (owner_counts h.inode t.all ∷ []))
 unfolding place_rows
 place-rows h bs ps extents t e =
     let d : total (λ p. p.piece.stored) ps ≡ t.all.stored = ap (λ (x : Tally). x.stored) (all-tally ps) ∙ ap (λ (x : Tallies). x.all.stored) (sym e) in
     let o : owner_row h.inode ps ≡ owner_counts h.inode t.all = ap (owner_counts h.inode) (all-tally ps ∙ ap (λ (x : Tallies). x.all) (sym e)) in
-    rw (
-      o,
-      kind_row_lem 2 ps ∙ ap (λ (x : Tallies). kind_counts 2 x.kind_2) (sym e),
-      kind_row_lem 3 ps ∙ ap (λ (x : Tallies). kind_counts 3 x.kind_3) (sym e),
-      kind_row_lem 4 ps ∙ ap (λ (x : Tallies). kind_counts 4 x.kind_4) (sym e),
-      kind_row_lem 5 ps ∙ ap (λ (x : Tallies). kind_counts 5 x.kind_5) (sym e),
-      d,
-    )
+    let k : kind_rows 2 t.kinds ≡ kind_rows 2 (kinds_of (map (λ p. p.piece) ps)) = ap (λ (x : Tallies). kind_rows 2 x.kinds) e in
+    rw (o, kind_row_lem 2 ps, kind_row_lem 3 ps, kind_row_lem 4 ps, kind_row_lem 5 ps, d, k)
+
+-- the rows of four tallies
+pub kinds-four : (ts : List Tally) (d : Tally) → length ts ≡ 4
+    → kind_rows 2 ts ≡ kind_counts 2 (get_or ts 0 d) ∷ kind_counts 3 (get_or ts 1 d) ∷ kind_counts 4 (get_or ts 2 d) ∷ kind_counts 5 (get_or ts 3 d) ∷ []
+kinds-four (a ∷ b ∷ c ∷ e ∷ []) d l = refl
+kinds-four [] d l = absurd (omega arith)
+kinds-four (a ∷ []) d l = absurd (omega arith)
+kinds-four (a ∷ b ∷ []) d l = absurd (omega arith)
+kinds-four (a ∷ b ∷ c ∷ []) d l = absurd (omega arith)
+kinds-four (a ∷ b ∷ c ∷ e ∷ f ∷ ts) d l = absurd (omega arith)

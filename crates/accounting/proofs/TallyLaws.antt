@@ -2,16 +2,20 @@
 use mathlib.Core.Path.{◌≡◌, refl, sym, ap, ◌∙◌}
 use mathlib.Core.Bool.{Bool, true, false, cond}
 use mathlib.Core.List.{List, [], ◌∷◌, ◌++◌}
-use Prim.Native.Nat.{ℕ, ◌+◌, ◌≤◌, ◌<◌}
+use Prim.Native.Nat.{ℕ, zero, suc, ◌+◌, ◌≤◌, ◌<◌}
 use native.Mathlib.Omega.{arith}
-use lib.ListN.{length, length-append}
+use lib.ListN.{length, length-append, get_or, set, take}
+use lib.Seq.{take-suc}
+use Rattle.std.proofs.Common.{add-one}
+use Rattle.wire.specs.Bytes.{All, none, more}
+use Rattle.calls.proofs.lists.AllLaws.{all-imp}
 use lib.Dec.{eqb}
 use borrow.Author.Tests.{eq-eqb, ne_eqb}
 use Rattle.calls.specs.Lists.{those, total}
 use Rattle.calls.specs.CallList.{Piece}
 use Rattle.calls.proofs.lists.ThoseLaws.{those-append, those-one, those-other}
 use Rattle.calls.proofs.lists.TotalLaws.{total-append}
-use Rattle.accounting.specs.Tally.{tally_of, of_kind, sum, Small}
+use Rattle.accounting.specs.Tally.{tally_of, of_kind, kinds_of, tallies_of, sum, sums, both, Small, Smalls}
 use Rattle.accounting.specs.declared.tally.Tally.{Tally}
 use Rattle.accounting.specs.declared.tally.Tallies.{Tallies}
 
@@ -20,7 +24,7 @@ use Rattle.accounting.specs.declared.tally.Tallies.{Tallies}
 pub tally-equal : (a b : Tally) → a.count ≡ b.count → a.file ≡ b.file → a.stored ≡ b.stored → a ≡ b
 tally-equal a b c f s = λ x. record { count = c x; file = f x; stored = s x }
 
-tally-append : (a b : List Piece) → tally_of (a ++ b) ≡ sum (tally_of a) (tally_of b)
+pub tally-append : (a b : List Piece) → tally_of (a ++ b) ≡ sum (tally_of a) (tally_of b)
 tally-append a b = tally-equal _ _ (length-append a b) (total-append _ a b) (total-append _ a b)
 
 sum-assoc : (a b c : Tally) → sum (sum a b) c ≡ sum a (sum b c)
@@ -47,64 +51,105 @@ pub kind-other : (kind : ℕ) (p : Piece) → (p.kind ≡ kind → ⊥) → of_k
 unfolding of_kind
 kind-other kind p e = those-other (λ p. eqb p.kind kind) p (ne_eqb p.kind kind e)
 
-pub kind-next : (kind : ℕ) {l : List Piece} {p : Piece} {rest : List Piece} → l ≡ p ∷ rest → of_kind kind l ≡ of_kind kind (p ∷ []) ++ of_kind kind rest
+kind-append : (kind : ℕ) (xs ys : List Piece) → of_kind kind (xs ++ ys) ≡ of_kind kind xs ++ of_kind kind ys
 unfolding of_kind
-kind-next kind {p = p} {rest = rest} e = ap (of_kind kind) e ∙ those-append (λ p. eqb p.kind kind) (p ∷ []) rest
+kind-append kind xs ys = those-append (λ p. eqb p.kind kind) xs ys
 
--- the pass: a tally and what is left are the tally of all
-pub record Tallying (t : Tally) (rest all : List Piece) (i : ℕ) : Type 0 where
-  pub sums : sum t (tally_of rest) ≡ tally_of all
-  pub small : Small i t
+tallies-equal : (a b : Tallies) → a.all ≡ b.all → a.kinds ≡ b.kinds → a ≡ b
+tallies-equal a b p q = λ x. record { all = p x; kinds = q x }
 
-pub tallying-first : {t : Tally} (all : List Piece) → t ≡ tally_of [] → Tallying t all all 0
+-- the tallies of some pieces and of some more
+both-append : (xs ys : List Piece) → both (tallies_of xs) (tallies_of ys) ≡ tallies_of (xs ++ ys)
+both-append xs ys =
+    let one : (kind : ℕ) → sum (tally_of (of_kind kind xs)) (tally_of (of_kind kind ys)) ≡ tally_of (of_kind kind (xs ++ ys)) =
+    λ kind. sym (ap tally_of (kind-append kind xs ys) ∙ tally-append (of_kind kind xs) (of_kind kind ys)) in
+    tallies-equal _ _ (sym (tally-append xs ys)) (λ x. one 2 x ∷ one 3 x ∷ one 4 x ∷ one 5 x ∷ [])
+
+-- the tallies of the pieces before index i, with the one there
+pub tallies-next : (ps : List Piece) (i : ℕ) (d p : Piece) (t r : Tallies) → i < length ps → p ≡ get_or ps i d → t ≡ tallies_of (take i ps)
+    → r ≡ both t (tallies_of (p ∷ [])) → r ≡ tallies_of (take (i + 1) ps)
+tallies-next ps i d p t r h e f g =
+    let s : take (i + 1) ps ≡ take i ps ++ (p ∷ []) = rw (add-one, e) (take-suc ps i d h) in
+    rw (g, f, s) (both-append (take i ps) (p ∷ []))
+
+-- a piece counts for its kind alone
+
+same-kind : (kind : ℕ) (p : Piece) (t : Tally) → p.kind ≡ kind → sum t (tally_of (p ∷ [])) ≡ sum t (tally_of (of_kind kind (p ∷ [])))
+same-kind kind p t e = rw (kind-one kind p e)
+
+other-kind : (kind : ℕ) (p : Piece) (t : Tally) → (p.kind ≡ kind → ⊥) → t ≡ sum t (tally_of (of_kind kind (p ∷ [])))
+other-kind kind p t h = rw (kind-other kind p h) (sym (sum-none t))
+
+pub kind-counts : (ts : List Tally) (k : ℕ) (p : Piece) (d : Tally) → length ts ≡ 4 → p.kind ≡ k + 2 → k < 4
+    → set ts k (sum (get_or ts k d) (tally_of (p ∷ []))) ≡ sums ts (kinds_of (p ∷ []))
+kind-counts (a ∷ b ∷ c ∷ e ∷ []) zero p d l h n =
+    λ x. same-kind 2 p a h x ∷ other-kind 3 p b (λ z. omega arith) x ∷ other-kind 4 p c (λ z. omega arith) x ∷ other-kind 5 p e (λ z. omega arith) x ∷ []
+kind-counts (a ∷ b ∷ c ∷ e ∷ []) (suc zero) p d l h n =
+    λ x. other-kind 2 p a (λ z. omega arith) x ∷ same-kind 3 p b h x ∷ other-kind 4 p c (λ z. omega arith) x ∷ other-kind 5 p e (λ z. omega arith) x ∷ []
+kind-counts (a ∷ b ∷ c ∷ e ∷ []) (suc (suc zero)) p d l h n =
+    λ x. other-kind 2 p a (λ z. omega arith) x ∷ other-kind 3 p b (λ z. omega arith) x ∷ same-kind 4 p c h x ∷ other-kind 5 p e (λ z. omega arith) x ∷ []
+kind-counts (a ∷ b ∷ c ∷ e ∷ []) (suc (suc (suc zero))) p d l h n =
+    λ x. other-kind 2 p a (λ z. omega arith) x ∷ other-kind 3 p b (λ z. omega arith) x ∷ other-kind 4 p c (λ z. omega arith) x ∷ same-kind 5 p e h x ∷ []
+kind-counts (a ∷ b ∷ c ∷ e ∷ []) (suc (suc (suc (suc k)))) p d l h n = absurd (omega arith)
+kind-counts [] k p d l h n = absurd (omega arith)
+kind-counts (a ∷ []) k p d l h n = absurd (omega arith)
+kind-counts (a ∷ b ∷ []) k p d l h n = absurd (omega arith)
+kind-counts (a ∷ b ∷ c ∷ []) k p d l h n = absurd (omega arith)
+kind-counts (a ∷ b ∷ c ∷ e ∷ f ∷ ts) k p d l h n = absurd (omega arith)
+
+pub no-kind-counts : (ts : List Tally) (p : Piece) → length ts ≡ 4 → (2 ≤ p.kind → p.kind ≤ 5 → ⊥) → ts ≡ sums ts (kinds_of (p ∷ []))
+no-kind-counts (a ∷ b ∷ c ∷ e ∷ []) p l h =
+    λ x. other-kind 2 p a (λ z. h (omega arith) (omega arith)) x ∷ other-kind 3 p b (λ z. h (omega arith) (omega arith)) x
+    ∷ other-kind 4 p c (λ z. h (omega arith) (omega arith)) x
+    ∷ other-kind 5 p e (λ z. h (omega arith) (omega arith)) x
+    ∷ []
+no-kind-counts [] p l h = absurd (omega arith)
+no-kind-counts (a ∷ []) p l h = absurd (omega arith)
+no-kind-counts (a ∷ b ∷ []) p l h = absurd (omega arith)
+no-kind-counts (a ∷ b ∷ c ∷ []) p l h = absurd (omega arith)
+no-kind-counts (a ∷ b ∷ c ∷ e ∷ f ∷ ts) p l h = absurd (omega arith)
+
+-- few pieces have small tallies
+
+small-none : Small 0 (tally_of [])
 unfolding total
-tallying-first all e =
-    record {
-      sums = rw e (tally-equal _ _ (omega arith) (omega arith) (omega arith));
-      small = rw e (record { count = omega arith; file = omega arith; stored = omega arith });
-    }
+small-none = record { count = omega arith; file = omega arith; stored = omega arith }
 
-pub tallying-next : {t r : Tally} {rest after all : List Piece} {i : ℕ} (step : List Piece) → Tallying t rest all i → rest ≡ step ++ after → r ≡ sum t (tally_of step)
-    → Small 1 (tally_of step) → Tallying r after all (i + 1)
-tallying-next {t = t} {r = r} {after = after} {i = i} step q e f s =
-    let c : r.count ≡ t.count + length step = ap (λ (x : Tally). x.count) f in
-    let g : r.file ≡ t.file + (tally_of step).file = ap (λ (x : Tally). x.file) f in
-    let h : r.stored ≡ t.stored + (tally_of step).stored = ap (λ (x : Tally). x.stored) f in
-    record {
-      sums =
-          ap (λ (x : Tally). sum x (tally_of after)) f ∙ sum-assoc t (tally_of step) (tally_of after) ∙ ap (sum t) (sym (tally-append step after))
-          ∙ ap (λ l. sum t (tally_of l)) (sym e)
-          ∙ q.sums;
-      small =
-          record {
-            count = omega (arith, q.small.count, s.count);
-            file = omega (arith, q.small.file, s.file);
-            stored = omega (arith, q.small.stored, s.stored);
-          };
-    }
-
-pub tallying-end : {t : Tally} {rest all : List Piece} {i : ℕ} → Tallying t rest all i → rest ≡ [] → t ≡ tally_of all
-tallying-end {t = t} q e = sym (sum-none t) ∙ ap (λ l. sum t (tally_of l)) (sym e) ∙ q.sums
-
-pub small_one : (p : Piece) → p.file < 65536 → p.stored < 65536 → Small 1 (tally_of (p ∷ []))
+small-one : (p : Piece) → p.file < 65536 → p.stored < 65536 → Small 1 (tally_of (p ∷ []))
 unfolding total
-small_one p f s = record { count = omega arith; file = omega arith; stored = omega arith }
+small-one p f s = record { count = omega arith; file = omega arith; stored = omega arith }
 
-pub small-kind : (kind : ℕ) (p : Piece) → p.file < 65536 → p.stored < 65536 → Small 1 (tally_of (of_kind kind (p ∷ [])))
-unfolding of_kind those total
+small-more : {m n : ℕ} {t : Tally} → m ≤ n → Small m t → Small n t
+small-more h s = record { count = omega (arith, s.count); file = omega (arith, s.file); stored = omega (arith, s.stored) }
+
+small-sum : {m n : ℕ} {t u : Tally} → Small m t → Small n u → Small (m + n) (sum t u)
+small-sum a b = record { count = omega (arith, a.count, b.count); file = omega (arith, a.file, b.file); stored = omega (arith, a.stored, b.stored) }
+
+small-kind : (kind : ℕ) (p : Piece) → p.file < 65536 → p.stored < 65536 → Small 1 (tally_of (of_kind kind (p ∷ [])))
+unfolding of_kind those
 small-kind kind p f s = go (eqb p.kind kind)
   where
     go : (b : Bool) → Small 1 (tally_of (cond b (p ∷ []) []))
-    go true = small_one p f s
-    go false = record { count = omega arith; file = omega arith; stored = omega arith }
+    go true = small-one p f s
+    go false = small-more (omega arith) small-none
 
-pub small-more : {m n : ℕ} {t : Tally} → m ≤ n → Small m t → Small n t
-small-more h s = record { count = omega (arith, s.count); file = omega (arith, s.file); stored = omega (arith, s.stored) }
+small-sums : {m n : ℕ} {ts us : List Tally} → All (Small m) ts → All (Small n) us → All (Small (m + n)) (sums ts us)
+small-sums none b = none
+small-sums (more p a) none = none
+small-sums (more p a) (more q b) = more (small-sum p q) (small-sums a b)
 
-pub kind-none : (kind : ℕ) {l : List Piece} → l ≡ [] → of_kind kind l ≡ []
+pub smalls-none : Smalls 0 (tallies_of [])
 unfolding of_kind those
-kind-none kind e = ap (of_kind kind) e
+smalls-none = record { all = small-none; kinds = more small-none (more small-none (more small-none (more small-none none))) }
 
-pub tallies-equal : (a b : Tallies) → a.all ≡ b.all → a.kind_2 ≡ b.kind_2 → a.kind_3 ≡ b.kind_3 → a.kind_4 ≡ b.kind_4
-    → a.kind_5 ≡ b.kind_5 → a ≡ b
-tallies-equal a b p q r s t = λ x. record { all = p x; kind_2 = q x; kind_3 = r x; kind_4 = s x; kind_5 = t x }
+pub smalls-more : {m n : ℕ} {t : Tallies} → m ≤ n → Smalls m t → Smalls n t
+smalls-more h s = record { all = small-more h s.all; kinds = all-imp (λ t k. small-more h k) s.kinds }
+
+pub smalls-next : {n : ℕ} {t r : Tallies} (p : Piece) → p.file < 65536 → p.stored < 65536 → Smalls n t → r ≡ both t (tallies_of (p ∷ []))
+    → Smalls (n + 1) r
+smalls-next p f s q e =
+    rw e
+    (record {
+      all = small-sum q.all (small-one p f s);
+      kinds = small-sums q.kinds (more (small-kind 2 p f s) (more (small-kind 3 p f s) (more (small-kind 4 p f s) (more (small-kind 5 p f s) none))));
+    })

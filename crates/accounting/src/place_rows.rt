@@ -1,5 +1,6 @@
 // The rows of a placement.
 ghost use Rattle.std.specs.Prelude.{◌≡◌, ℕ, ◌*◌, ◌<◌, ◌≤◌, ◌^◌, List, [], ◌∷◌, map, pos, neg_ℤ, ◌+ℤ◌, length};
+ghost use Rattle.wire.specs.Bytes.{All};
 ghost use Rattle.wire.specs.Encode.{encode};
 ghost use Rattle.wire.specs.Rows.{row_field};
 ghost use Rattle.wire.specs.declared.kinds.Bucket.{Bucket};
@@ -11,7 +12,7 @@ ghost use Rattle.calls.specs.Place.{place_rows};
 ghost use Rattle.reader.specs.Heads.{head_in};
 ghost use Rattle.wire.specs.Output.{Emitted};
 ghost use Rattle.accounting.specs.RowBytes.{rows_bytes};
-ghost use Rattle.accounting.specs.Tally.{counts_row, kind_counts, owner_counts, tallies_of, Small, Known};
+ghost use Rattle.accounting.specs.Tally.{counts_row, kind_rows, owner_counts, tallies_of, Small, Known};
 
 use crate::rows;
 use crate::tally::{Tallies, Tally};
@@ -107,13 +108,13 @@ pub fn put_owner(out: &mut [u8], at: usize, inode: u64, t: Tally) -> usize
 
 // The rows of the compression kinds.
 pub fn put_kinds(out: &mut [u8], at: usize, t: Tallies) -> usize
-    requires { Small 1024 t.kind_2 × Small 1024 t.kind_3 × Small 1024 t.kind_4 × Small 1024 t.kind_5 }
-    ensures { Emitted out.old at (rows_bytes (kind_counts 2 t.kind_2 ∷ kind_counts 3 t.kind_3 ∷ kind_counts 4 t.kind_4 ∷ kind_counts 5 t.kind_5 ∷ [])) out.new result }
+    requires { All (Small 1024) t.kinds }
+    ensures { Emitted out.old at (rows_bytes (kind_rows 2 t.kinds)) out.new result }
 {
-    let k2 = t.kind_2;
-    let k3 = t.kind_3;
-    let k4 = t.kind_4;
-    let k5 = t.kind_5;
+    let k2 = t.kinds[0];
+    let k3 = t.kinds[1];
+    let k4 = t.kinds[2];
+    let k5 = t.kinds[3];
     let p = put_counts(out, at, 0x0402000000000000, 0, k2);
     let p = put_counts(out, p, 0x0403000000000000, 0, k3);
     let p = put_counts(out, p, 0x0404000000000000, 0, k4);

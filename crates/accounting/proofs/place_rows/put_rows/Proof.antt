@@ -7,6 +7,7 @@ use Rattle.reader.specs.Heads.{head_in}
 use Rattle.accounting.specs.declared.tally.Tallies.{Tallies}
 use Rattle.wire.proofs.EmitLaws.{emitted}
 use Rattle.accounting.proofs.PlaceRowLaws.{place-rows}
+use Rattle.accounting.specs.Tally.{kind_rows}
 use Rattle.accounting.proofs.RowLaws.{rows-and}
 use borrow.Author.Rules.{rules}
 use Rattle.accounting.proofs.place_rows.put_rows.Statement.{statement}
@@ -39,8 +40,9 @@ returns c =
     let a = k0 in
     λ bs ps e t.
     let n : length ps ≡ a.args.t.all.count = sym (length-map ps (λ p. p.piece)) ∙ ap (λ (x : Tallies). x.all.count) (sym t) in
-    let w = rows-and (_ ∷ _ ∷ _ ∷ []) _ k0.put_taken_rows-p.ensures
-    (rows-and (_ ∷ _ ∷ _ ∷ _ ∷ []) _ k1.put_kinds-p.ensures (rows-and (_ ∷ []) (_ ∷ []) (k2.put_extents_row-p.ensures ps n) k3.put_owner.ensures)) in
+    let w = rows-and _ (_ ∷ [])
+    (rows-and _ (_ ∷ []) (rows-and (_ ∷ _ ∷ _ ∷ []) (kind_rows 2 a.args.t.kinds) k0.put_taken_rows-p.ensures k1.put_kinds-p.ensures) (k2.put_extents_row-p.ensures ps n))
+    k3.put_owner.ensures in
     emitted (rw (place-rows (head_in a.args.h) bs ps (map (extent_key (head_in a.args.h)) ps) a.args.t t, e)) w
 
 pub put_rows_spec : {M : Type 1} → statement M

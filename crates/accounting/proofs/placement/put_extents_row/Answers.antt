@@ -1,0 +1,8 @@
+use Rattle.reader.specs.Heads.{head_in}
+use Rattle.accounting.proofs.PlaceRowLaws.{extents-row}
+use Rattle.accounting.proofs.placement.put_extents_row.Goals as goal
+
+pub returns : goal.returns
+returns c =
+    λ ps e.
+    rw (extents-row (head_in c.args.h) c.extent_size.result c.args.t.stored ps c.extent_size.ensures.1, e) c.put_counts.ensures

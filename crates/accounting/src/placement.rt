@@ -1,0 +1,109 @@
+// The rows of a placement.
+ghost use Rattle.std.specs.Prelude.{◌≡◌, ℕ, ◌*◌, ◌<◌, ◌≤◌, ◌^◌, List, [], ◌∷◌, map, pos, neg_ℤ, ◌+ℤ◌, length};
+ghost use Rattle.wire.specs.Bytes.{All};
+ghost use Rattle.wire.specs.Encode.{encode};
+ghost use Rattle.wire.specs.Rows.{row_field};
+ghost use Rattle.wire.specs.declared.kinds.Bucket.{Bucket};
+ghost use Rattle.wire.specs.Output.{with_bytes};
+ghost use Rattle.format.specs.Entries.{extent_words};
+ghost use Rattle.calls.specs.Extents as calls;
+ghost use Rattle.calls.specs.Extents.{extent_key};
+ghost use Rattle.calls.specs.Accounting.{sectors_row, buckets_row, extents_row, swapped};
+ghost use Rattle.calls.specs.Place.{place_rows};
+ghost use Rattle.reader.specs.Heads.{head_in};
+ghost use Rattle.accounting.specs.RowBytes.{rows_bytes};
+ghost use Rattle.accounting.specs.Tally.{counts_row, kind_rows, owner_counts, tallies_of, Small, Known};
+
+use crate::counters;
+use crate::counters::DataType;
+use crate::tally::{Tallies, Tally};
+use reader::head::Head;
+use wire::output::Output;
+use wire::rows;
+
+// The row of three counts. The limit on requests shows the bounds.
+pub fn put_counts(out: &mut Output, inode: u64, offset: u64, t: Tally)
+    requires { (t.count < 2 ^ 63) × (t.file < 2 ^ 63) × (t.stored < 2 ^ 63) }
+    ensures { out.new ≡ with_bytes out.old (rows_bytes (counts_row inode offset t ∷ [])) }
+{
+    let numbers = [
+        rows::plus(t.count),
+        rows::plus(t.file),
+        rows::plus(t.stored),
+    ];
+    counters::put_counted(out, inode, offset, &numbers);
+}
+
+// The sectors stored, the buckets taken, which are free no longer, and what they have unused.
+pub fn put_taken_rows(out: &mut Output, taken: u64, sectors: u64, stored: u64)
+    requires { (taken ≤ 1024) × (sectors < 65536) × (stored < 2 ^ 62) }
+    ensures { out.new ≡ with_bytes out.old (rows_bytes (sectors_row (pos stored) ∷ buckets_row 0 (neg_ℤ (pos taken)) (pos 0) (pos 0) ∷ buckets_row 4 (pos taken) (pos stored) (pos (taken * sectors) +ℤ neg_ℤ (pos stored)) ∷ [])) }
+{
+    let unused = counters::difference(taken * sectors, stored);
+    let stored = rows::plus(stored);
+    counters::put_sectors_row(out, stored);
+    counters::put_buckets_row(out, DataType::Free, rows::minus(taken), 0, 0);
+    counters::put_buckets_row(out, DataType::User, rows::plus(taken), stored, unused);
+}
+
+// How many words an extent's value has, by the checksum option.
+pub fn extent_size(option: u8) -> u64
+    requires { option ≤ 3 }
+    ensures { (result ≤ 3) × ((kind stored file checksum word : ℕ) → length (extent_words option kind stored file checksum word) ≡ result) }
+{
+    match option {
+        0 => 1,
+        1 => 2,
+        _ => 3,
+    }
+}
+
+// The extents: their keys, 40 bytes and the value's of each, and the stored sectors.
+pub fn put_extents_row(out: &mut Output, h: Head, t: Tally)
+    requires { (h.option ≤ 3) × Small 1024 t }
+    ensures { (ps : List calls.Placed) → length ps ≡ t.count → out.new ≡ with_bytes out.old (rows_bytes (extents_row (map (extent_key (head_in h)) ps) t.stored ∷ [])) }
+{
+    let file = t.count * (40 + 8 * extent_size(h.option));
+    put_counts(out, 0x05ff_ffff_ff00_0000, 0, Tally { file, ..t });
+}
+
+// The bytes of a number, read from the other end.
+pub fn reversed(x: u64) -> u64
+    ensures { result ≡ swapped 8 x }
+{
+    x.swap_bytes()
+}
+
+// The owner: byte 8 and the inode's bytes, read from the highest across inode and offset.
+pub fn put_owner(out: &mut Output, inode: u64, t: Tally)
+    requires { Small 1024 t }
+    ensures { out.new ≡ with_bytes out.old (rows_bytes (owner_counts inode t ∷ [])) }
+{
+    let y = reversed(inode);
+    let inode = 0x0800_0000_0000_0000 + y / 256;
+    let offset = (y % 256) * 0x0100_0000_0000_0000;
+    put_counts(out, inode, offset, t);
+}
+
+// The rows of the compression kinds, from kind 2 on.
+pub fn put_kinds(out: &mut Output, kinds: &[Tally])
+    requires { All (Small 1024) kinds.now × (length kinds.now ≤ 4) }
+    ensures { out.new ≡ with_bytes out.old (rows_bytes (kind_rows 2 kinds.now)) }
+{
+    for (i, t) in kinds.iter().enumerate() {
+        let inode = 0x0402_0000_0000_0000 + i as u64 * 0x0001_0000_0000_0000;
+        put_counts(out, inode, 0, *t);
+    }
+}
+
+// All rows of a placement, by how many buckets are taken, ascending. `tally_pieces` shows what is required of the tallies.
+pub fn put_rows(out: &mut Output, taken: u64, t: &Tallies, h: Head)
+    requires taken_bound { (taken ≤ 1024) × (h.option ≤ 3) }
+    requires known { Known taken t.now }
+    ensures { (bs : List Bucket) (ps : List calls.Placed) → length bs ≡ taken → t.now ≡ tallies_of (map (λ p. p.piece) ps) → out.new ≡ with_bytes out.old (encode (map row_field (place_rows (head_in h) bs ps (map (extent_key (head_in h)) ps)))) }
+{
+    put_taken_rows(out, taken, h.bucket_sectors as u64, t.all.stored);
+    put_kinds(out, &t.kinds);
+    put_extents_row(out, h, t.all);
+    put_owner(out, h.inode, t.all);
+}
