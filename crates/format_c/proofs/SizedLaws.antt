@@ -1,46 +1,54 @@
--- A value of the right length is read, changed and put back; any other is left.
-use mathlib.Core.Path.{◌≡◌, ap, ◌∙◌}
-use Prim.Native.Nat.{ℕ, ◌+◌, ◌-◌, ◌≤◌, ◌<◌}
+-- A value of the right length is read, changed and put back; any other is left. The words of a struct are put at the front of a slice.
+use mathlib.Core.Path.{◌≡◌, refl, ap, ◌∙◌}
+use Prim.Native.Nat.{ℕ, ◌-◌, ◌*◌, ◌≤◌}
 use native.Mathlib.Omega.{arith}
-use mathlib.Core.Bool.{and-false}
-use mathlib.Core.List.{List, append-nil}
-use lib.ListN.{length, take, drop, replicate}
-use lib.Seq.{take-length, take-append_seam, drop-length}
-use borrow.Author.Tests.{le-leb, lt-leb}
+use mathlib.Core.Bool.{Bool, true, false, ◌&&◌, cond}
+use mathlib.Core.List.{List}
+use Rattle.std.proofs.Common.{Some, None}
+use lib.Dec.{leb}
+use lib.ListN.{length, take, replicate}
+use lib.Seq.{take-append_seam}
+use Rattle.std.proofs.lemmas.List.{take_all}
 use Rattle.wire.specs.Held.{padded, value_in}
-use Rattle.wire.specs.Output.{put, Wrote}
+use Rattle.wire.specs.Numbers.{words_bytes}
+use Rattle.wire.specs.Output.{cap, top, Wrote, with_bytes}
 use Rattle.wire.specs.declared.keys.Value.{Value}
-use Rattle.wire.proofs.OutputLaws.{put-eq}
+use Rattle.wire.specs.declared.output.Output.{Output}
+use Rattle.wire.proofs.EncodeLaws.{words_count}
 use Rattle.format_c.specs.Sized.{where_sized}
 
--- as many bytes as there are, put at the front, are what is left
-put_all : (bs xs : List ℕ) → length bs ≡ length xs → put xs 0 bs ≡ bs
-put_all bs xs e =
-    let n : 0 + length bs ≡ length xs = omega arith in
-    put-eq bs xs 0 (omega arith) ∙ rw (n, drop-length) (append-nil bs)
+-- the whole value is read
+whole-value : (s : List ℕ) → value_in (padded s) ≡ s
+whole-value s = take-append_seam s (replicate (256 - length s) 0)
 
--- a whole value is read
-module _ (v : List ℕ) (r : Value) (e : r ≡ padded (take (length v) (drop 0 v))) where
-  pub whole_length : r.len ≡ length v
-  whole_length = ap (λ (x : Value). x.len) e ∙ ap length (take-length v)
-
-  whole-value : value_in r ≡ v
-  whole-value = rw (e, take-length v) (take-append_seam v (replicate (256 - length v) 0))
-
-module _ (lo hi : ℕ) (f : List ℕ → List ℕ) (v : List ℕ) where
-  pub too_short_lem : length v < lo → v ≡ where_sized lo hi f v
+module _ (lo hi : ℕ) (f : List ℕ → List ℕ) (s : List ℕ) where
+  pub changed : (v r : Value) → Some v ≡ cond (leb lo (length s) && leb (length s) hi) (Some (padded s)) None → value_in r ≡ f (value_in v) → value_in r ≡ where_sized lo hi f s
   unfolding where_sized
-  too_short_lem h = rw (lt-leb lo (length v) h)
+  changed v r = go (leb lo (length s) && leb (length s) hi)
+    where
+      go : (t : Bool) → Some v ≡ cond t (Some (padded s)) None → value_in r ≡ f (value_in v) → value_in r ≡ cond t (f s) s
+      go true e c = let h : v ≡ padded s = cc in c ∙ ap (λ (u : Value). f (value_in u)) h ∙ ap f (whole-value s)
+      go false e c = cc
 
-  pub too_long : hi < length v → v ≡ where_sized lo hi f v
+  pub left_alone : cond (leb lo (length s) && leb (length s) hi) (Some (padded s)) None ≡ None → s ≡ where_sized lo hi f s
   unfolding where_sized
-  too_long h = rw (lt-leb (length v) hi h, and-false)
+  left_alone = go (leb lo (length s) && leb (length s) hi)
+    where
+      go : (t : Bool) → cond t (Some (padded s)) None ≡ None → s ≡ cond t (f s) s
+      go true e = cc
+      go false e = refl
 
-  right : lo ≤ length v → length v ≤ hi → f v ≡ where_sized lo hi f v
-  unfolding where_sized
-  right h k = rw (le-leb lo (length v) h, le-leb (length v) hi k)
+-- what is put into an output from its front, as an emitter of a struct promises it
+pub wrote_front :
+    (o : Output) (ws : List ℕ) → o.at ≡ 0 → length o.bytes.now ≤ top → length ws ≤ 8
+    → Wrote o.bytes.now 0 (8 * length ws) (words_bytes ws) (with_bytes o (words_bytes ws)).bytes.now (with_bytes o (words_bytes ws)).at
+unfolding with_bytes
+wrote_front o ws h r l =
+    let n : length (words_bytes ws) ≡ 8 * length ws = omega (arith, words_count ws) in
+    let t : take (cap - o.at) (words_bytes ws) ≡ words_bytes ws = take_all (cap - o.at) (words_bytes ws) (omega arith) in
+    record { room = r; next = omega arith; size = n; left = rw (t, h) refl }
 
-  pub put_back : (r u : Value) (ys : List ℕ) (n : ℕ) → lo ≤ length v → length v ≤ hi → r ≡ padded (take (length v) (drop 0 v))
-      → u.len ≡ r.len → value_in u ≡ f (value_in r) → Wrote v 0 u.len (value_in u) ys n → ys ≡ where_sized lo hi f v
-  put_back r u ys n h k e s c w =
-      w.left ∙ put_all (value_in u) v (w.size ∙ s ∙ whole_length v r e) ∙ c ∙ ap f (whole-value v r e) ∙ right h k
+-- it is the slice that was lent
+pub same-slice : (o : Output) (bs : List ℕ) → (with_bytes o bs).bytes.ghost_name ≡ o.bytes.ghost_name
+unfolding with_bytes
+same-slice o bs = refl

@@ -2,7 +2,9 @@
 // owes anything: a remainder brings each argument into its range.
 #![tactic(auto)]
 
-ghost use Rattle.std.specs.Prelude.{◌≡◌, ◌+◌, ◌%◌, ◌^◌};
+ghost use Rattle.std.specs.Prelude.{◌≡◌, ◌+◌, ◌*◌, ◌%◌, ◌^◌, ◌≤◌, ◌&&◌, cond, leb, length, None, Some};
+ghost use Rattle.wire.specs.Numbers.{words_bytes};
+ghost use Rattle.wire.specs.Held.{padded, value_in};
 ghost use Rattle.wire.specs.Output.{Wrote};
 ghost use Rattle.format.specs.Entries.{pointer, crc32, crc64};
 ghost use Rattle.format.specs.AllocV4.{new_alloc, emptied, discarded};
@@ -13,8 +15,38 @@ ghost use Rattle.format_c.specs.Sized.{where_sized};
 
 use format::{alloc, backpointer, entries, gens, lru};
 use wire::bpos::Bpos;
+use wire::keys;
+use wire::keys::Value;
 use wire::kinds::{Bucket, DeviceSector};
-use wire::{emit, keys};
+use wire::output::Output;
+
+// The words of a struct at the front of a slice; the result says how many bytes they are.
+fn put_struct(out: &mut [u8], words: &[u64]) -> usize
+    requires { length words.now ≤ 8 }
+    ensures { Wrote out.old 0 (8 * length words.now) (words_bytes words.now) out.new result }
+{
+    let mut front = Output::new(out);
+    front.put_words(words);
+    front.at
+}
+
+// A value that has so many bytes that it may be changed: from lo to 256.
+fn sized(value: &[u8], lo: usize) -> Option<Value>
+    ensures { result ≡ cond (leb lo (length value.now) && leb (length value.now) 256) (Some (padded value.now)) None }
+{
+    if !(lo..=256).contains(&value.len()) {
+        return None;
+    }
+    Some(keys::read_value(value, 0, value.len()))
+}
+
+// What a value became, put in its place. It has as many bytes.
+fn put_back(value: &mut [u8], v: &Value)
+    requires { (v.now.len ≡ length value.old) × (v.now.len ≤ 256) }
+    ensures { value.new ≡ value_in v.now }
+{
+    value.copy_from_slice(&v.bytes[..v.len]);
+}
 
 // struct bch_extent_ptr, of a sector below 2^44.
 #[unsafe(no_mangle)]
@@ -57,8 +89,7 @@ pub extern "C" fn format_new_alloc(
 ) -> usize
     ensures { Wrote out.old 0 64 (new_alloc journal generation dirty clock) out.new result }
 {
-    let w = alloc::new_alloc(journal, generation, dirty, clock);
-    emit::put_words(out, 0, w, 8)
+    put_struct(out, &alloc::new_alloc(journal, generation, dirty, clock))
 }
 
 // struct bch_alloc_v4 after emptying, at a journal number. A value that ends before byte 56, or has more than 256 bytes, is left alone.
@@ -66,15 +97,9 @@ pub extern "C" fn format_new_alloc(
 pub extern "C" fn format_emptied(value: &mut [u8], journal: u64)
     ensures { value.new ≡ where_sized 56 256 (emptied journal) value.old }
 {
-    let n = value.len();
-    if n < 56 {
-        return;
+    if let Some(v) = sized(value, 56) {
+        put_back(value, &alloc::emptied(v, journal));
     }
-    if 256 < n {
-        return;
-    }
-    let v = keys::read_value(value, 0, n);
-    emit::put_value(value, 0, alloc::emptied(v, journal));
 }
 
 // struct bch_alloc_v4 after discard, likewise.
@@ -82,15 +107,9 @@ pub extern "C" fn format_emptied(value: &mut [u8], journal: u64)
 pub extern "C" fn format_discarded(value: &mut [u8])
     ensures { value.new ≡ where_sized 56 256 discarded value.old }
 {
-    let n = value.len();
-    if n < 56 {
-        return;
+    if let Some(v) = sized(value, 56) {
+        put_back(value, &alloc::discarded(v));
     }
-    if 256 < n {
-        return;
-    }
-    let v = keys::read_value(value, 0, n);
-    emit::put_value(value, 0, alloc::discarded(v));
 }
 
 // struct bch_backpointer of an extent.
@@ -110,8 +129,10 @@ pub extern "C" fn format_backpointer(
         offset,
         snapshot,
     };
-    let w = backpointer::backpointer(generation, stored, extent);
-    emit::put_words(out, 0, w, 4)
+    put_struct(
+        out,
+        &backpointer::backpointer(generation, stored, extent)[..4],
+    )
 }
 
 // struct bch_bucket_gens with a bucket's generation. A value of another length than 256 bytes is left alone.
@@ -119,15 +140,9 @@ pub extern "C" fn format_backpointer(
 pub extern "C" fn format_with_gen(value: &mut [u8], bucket: u64, generation: u8)
     ensures { value.new ≡ where_sized 256 256 (with_gen (record { 0 = bucket }) generation) value.old }
 {
-    let n = value.len();
-    if n < 256 {
-        return;
+    if let Some(v) = sized(value, 256) {
+        put_back(value, &gens::with_gen(v, Bucket(bucket), generation));
     }
-    if 256 < n {
-        return;
-    }
-    let v = keys::read_value(value, 0, n);
-    emit::put_value(value, 0, gens::with_gen(v, Bucket(bucket), generation));
 }
 
 // The index of fragmentation, where a bucket has 1 to 65,535 sectors.
