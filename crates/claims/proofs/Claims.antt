@@ -6,6 +6,7 @@ use mathlib.Core.Bool.{Bool, true, false, not, ◌&&◌}
 use mathlib.Core.List.{List, [], ◌∷◌, ◌++◌, map}
 use mathlib.Core.Logic.{◌⊎◌}
 use mathlib.Core.Option.{some}
+use Rattle.std.specs.Prelude.{Result}
 use lib.ListN.{length, take, drop, get_or}
 use borrow.Fn.Kinds.{Dens, ended_of}
 use contract.Lifetimes.{Lfts}
@@ -47,7 +48,9 @@ use Rattle.calls.specs.Place.{root_missing, roots_if, place_tests, placed_of, wa
 use Rattle.calls.specs.Release.{release_tests, release_batch}
 use Rattle.calls.specs.Discard.{discard_batches}
 use Rattle.calls.specs.Apply.{apply_batch, apply_batches}
-use Rattle.calls.specs.Answers.{made, outcome, scratch_after, read_call, read_volume, next_volume, place, release, discard, apply, sorted_form, sort, generations, looked_up, generations_outcome}
+use Rattle.reader.specs.Refusals.{made_by, looked_up_by}
+use Rattle.reader.specs.declared.refusal.Refusal.{Refusal}
+use Rattle.calls.specs.Answers.{outcome, scratch_after, read_call, read_volume, next_volume, place, release, discard, apply, sorted_form, sort, generations, generations_outcome}
 use Rattle.calls.specs.ListCalls.{ListCall, answer_of}
 use Rattle.calls.specs.History.{Clean, Live, State, discarding, Step, without_requests, take_all, after, Allowed, History, start, sectors_of, Claim, GensAgree}
 use Rattle.calls.specs.Examples.{bucket, head_for, volume_for, run, used_bucket, waits_since, emptied_at, run_ends, plain, placing, releasing, slot, spot, freeing, of_batches, free_volume, held_volume, waiting, past_base, elsewhere, three_pieces, key_at, holding, gens_from, two_records, backwards, two_pieces, two_pieces_shuffled}
@@ -106,12 +109,13 @@ use Rattle.lines.proofs.program.bucket_lines.Statement as lines_s
 
 -- ---- the six calls
 -- Of each call: the function meets its contract, in every model of memory (`statement`, which the toolchain makes of the contract in
--- crates/zerglaz/src/lib.rt; the function that C calls, in crates/zerglaz_c/src/lib.rt, has the same contract and is the call of this one); its contract asks nothing of the arguments (`Asked`, what a caller must show); and what it says after the call (`Learnt`, what a caller
--- learns). There `a` are the arguments at entry, `e` the same at exit, `now` is what a reference refers to, and `r` is the number that the call answers.
+-- crates/zerglaz/src/lib.rt); its contract asks nothing of the arguments (`Asked`, what a caller must show); and what it says after the call (`Learnt`, what a caller
+-- learns). There `a` are the arguments at entry, `e` the same at exit, `now` is what a reference refers to, and `r` is what the call answers: how many bytes it wrote, or the
+-- refusal. The same of the functions that C calls, with the number that they return, is in crates/zerglaz_c/proofs/Exported.antt.
 pub zerglaz-place : {M : Type 1} → place_s.statement M
 zerglaz-place = place_m.met
 
-module _ (κs : Lfts 3) (a : Dens κs place_k.ps) (r : ℕ) (e : AtExit (ended_of 3 place_k.ps place_k.r) κs) where
+module _ (κs : Lfts 2) (a : Dens κs place_k.ps) (r : Result ℕ Refusal) (e : AtExit (ended_of 2 place_k.ps place_k.r) κs) where
   pub place-asks : place_r.Asked κs a ≡ Unit {0}
   place-asks = refl
 
@@ -119,14 +123,13 @@ module _ (κs : Lfts 3) (a : Dens κs place_k.ps) (r : ℕ) (e : AtExit (ended_o
       let list : List ℕ = a.0.now in
       let out : List ℕ = a.1.0.now in
       let out-after : List ℕ = e.1.0.now in
-      let written_after : ℕ = e.1.1.0.now in
-      place_r.Learnt κs a r e ≡ (made r written_after out-after ≡ outcome (place list (length out)) out)
+      place_r.Learnt κs a r e ≡ (made_by r out-after ≡ outcome (place list (length out)) out)
   place-says = refl
 
 pub zerglaz-release : {M : Type 1} → release_s.statement M
 zerglaz-release = release_m.met
 
-module _ (κs : Lfts 4) (a : Dens κs release_k.ps) (r : ℕ) (e : AtExit (ended_of 4 release_k.ps release_k.r) κs) where
+module _ (κs : Lfts 3) (a : Dens κs release_k.ps) (r : Result ℕ Refusal) (e : AtExit (ended_of 3 release_k.ps release_k.r) κs) where
   pub release-asks : release_r.Asked κs a ≡ Unit {0}
   release-asks = refl
 
@@ -136,15 +139,14 @@ module _ (κs : Lfts 4) (a : Dens κs release_k.ps) (r : ℕ) (e : AtExit (ended
       let scratch-left : List ℕ = e.1.0.now in
       let out : List ℕ = a.1.1.0.now in
       let out-after : List ℕ = e.1.1.0.now in
-      let written_after : ℕ = e.1.1.1.0.now in
       release_r.Learnt κs a r e
-      ≡ ((made r written_after out-after ≡ outcome (release list (length scratch) (length out)) out) × (scratch-left ≡ scratch_after scratch))
+      ≡ ((made_by r out-after ≡ outcome (release list (length scratch) (length out)) out) × (scratch-left ≡ scratch_after scratch))
   release-says = refl
 
 pub zerglaz-discard : {M : Type 1} → discard_s.statement M
 zerglaz-discard = discard_m.met
 
-module _ (κs : Lfts 3) (a : Dens κs discard_k.ps) (r : ℕ) (e : AtExit (ended_of 3 discard_k.ps discard_k.r) κs) where
+module _ (κs : Lfts 2) (a : Dens κs discard_k.ps) (r : Result ℕ Refusal) (e : AtExit (ended_of 2 discard_k.ps discard_k.r) κs) where
   pub discard-asks : discard_r.Asked κs a ≡ Unit {0}
   discard-asks = refl
 
@@ -152,14 +154,13 @@ module _ (κs : Lfts 3) (a : Dens κs discard_k.ps) (r : ℕ) (e : AtExit (ended
       let list : List ℕ = a.0.now in
       let out : List ℕ = a.1.0.now in
       let out-after : List ℕ = e.1.0.now in
-      let written_after : ℕ = e.1.1.0.now in
-      discard_r.Learnt κs a r e ≡ (made r written_after out-after ≡ outcome (discard list (length out)) out)
+      discard_r.Learnt κs a r e ≡ (made_by r out-after ≡ outcome (discard list (length out)) out)
   discard-says = refl
 
 pub zerglaz-apply : {M : Type 1} → apply_s.statement M
 zerglaz-apply = apply_m.met
 
-module _ (κs : Lfts 4) (a : Dens κs apply_k.ps) (r : ℕ) (e : AtExit (ended_of 4 apply_k.ps apply_k.r) κs) where
+module _ (κs : Lfts 3) (a : Dens κs apply_k.ps) (r : Result ℕ Refusal) (e : AtExit (ended_of 3 apply_k.ps apply_k.r) κs) where
   pub apply-asks : apply_r.Asked κs a ≡ Unit {0}
   apply-asks = refl
 
@@ -168,14 +169,13 @@ module _ (κs : Lfts 4) (a : Dens κs apply_k.ps) (r : ℕ) (e : AtExit (ended_o
       let change : List ℕ = a.1.0.now in
       let out : List ℕ = a.1.1.0.now in
       let out-after : List ℕ = e.1.1.0.now in
-      let written_after : ℕ = e.1.1.1.0.now in
-      apply_r.Learnt κs a r e ≡ (made r written_after out-after ≡ outcome (apply volume change (length out)) out)
+      apply_r.Learnt κs a r e ≡ (made_by r out-after ≡ outcome (apply volume change (length out)) out)
   apply-says = refl
 
 pub zerglaz-sort : {M : Type 1} → sort_s.statement M
 zerglaz-sort = sort_m.met
 
-module _ (κs : Lfts 3) (a : Dens κs sort_k.ps) (r : ℕ) (e : AtExit (ended_of 3 sort_k.ps sort_k.r) κs) where
+module _ (κs : Lfts 2) (a : Dens κs sort_k.ps) (r : Result ℕ Refusal) (e : AtExit (ended_of 2 sort_k.ps sort_k.r) κs) where
   pub sort-asks : sort_r.Asked κs a ≡ Unit {0}
   sort-asks = refl
 
@@ -183,14 +183,13 @@ module _ (κs : Lfts 3) (a : Dens κs sort_k.ps) (r : ℕ) (e : AtExit (ended_of
       let list : List ℕ = a.0.now in
       let out : List ℕ = a.1.0.now in
       let out-after : List ℕ = e.1.0.now in
-      let written_after : ℕ = e.1.1.0.now in
-      sort_r.Learnt κs a r e ≡ (made r written_after out-after ≡ outcome (sort list (length out)) out)
+      sort_r.Learnt κs a r e ≡ (made_by r out-after ≡ outcome (sort list (length out)) out)
   sort-says = refl
 
 pub zerglaz-generations : {M : Type 1} → generations_s.statement M
 zerglaz-generations = generations_m.met
 
-module _ (κs : Lfts 4) (a : Dens κs generations_k.ps) (r : ℕ) (e : AtExit (ended_of 4 generations_k.ps generations_k.r) κs) where
+module _ (κs : Lfts 3) (a : Dens κs generations_k.ps) (r : Result ℕ Refusal) (e : AtExit (ended_of 3 generations_k.ps generations_k.r) κs) where
   pub generations-asks : generations_r.Asked κs a ≡ Unit {0}
   generations-asks = refl
 
@@ -199,9 +198,8 @@ module _ (κs : Lfts 4) (a : Dens κs generations_k.ps) (r : ℕ) (e : AtExit (e
       let buckets : List ℕ = a.1.0.now in
       let out : List ℕ = a.1.1.0.now in
       let out-after : List ℕ = e.1.1.0.now in
-      let visited-after : ℕ = e.1.1.1.0.now in
       generations_r.Learnt κs a r e
-      ≡ (looked_up r visited-after out-after ≡ generations_outcome (generations volume (buckets_in buckets) (length out)) out)
+      ≡ (looked_up_by r out-after ≡ generations_outcome (generations volume (buckets_in buckets) (length out)) out)
   generations-says = refl
 
 -- ---- a list in any order

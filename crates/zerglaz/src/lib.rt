@@ -3,58 +3,58 @@
 
 ghost use Rattle.std.specs.Prelude.{◌≡◌, length};
 ghost use Rattle.wire.specs.Kinds.{buckets_in};
-ghost use Rattle.calls.specs.Answers.{made, outcome, scratch_after, place, release, discard, apply, sort, generations, looked_up, generations_outcome};
+ghost use Rattle.calls.specs.Answers.{outcome, scratch_after, place, release, discard, apply, sort, generations, generations_outcome};
+ghost use Rattle.reader.specs.Refusals.{made_by, looked_up_by};
 
 use apply::apply as apply_call;
 use discard::discard as discard_call;
 use generations::generations as generations_call;
 use place::place as place_call;
+use reader::refusal::Refusal;
 use release::release as release_call;
 use sort::sort as sort_call;
 
 // Chooses buckets for the pieces asked and writes the change list that places them.
-pub fn zerglaz_place(list: &[u8], out: &mut [u8], written: &mut usize) -> u32
-    ensures { made result written.new out.new ≡ outcome (place list.now (length out.old)) out.old }
+pub fn zerglaz_place(list: &[u8], out: &mut [u8]) -> Result<usize, Refusal>
+    ensures { made_by result out.new ≡ outcome (place list.now (length out.old)) out.old }
 {
-    place_call::place(list, out, written)
+    place_call::place(list, out)
 }
 
 // Writes the change list that gives the named pieces' sectors back.
-pub fn zerglaz_release(list: &[u8], scratch: &mut [u32], out: &mut [u8], written: &mut usize) -> u32
-    ensures { (made result written.new out.new ≡ outcome (release list.now (length scratch.old) (length out.old)) out.old) × (scratch.new ≡ scratch_after scratch.old) }
+pub fn zerglaz_release(list: &[u8], scratch: &mut [u32], out: &mut [u8]) -> Result<usize, Refusal>
+    ensures { (made_by result out.new ≡ outcome (release list.now (length scratch.old) (length out.old)) out.old) × (scratch.new ≡ scratch_after scratch.old) }
 {
-    release_call::release(list, scratch, out, written)
+    release_call::release(list, scratch, out)
 }
 
 // Writes the change list that frees the waiting buckets.
-pub fn zerglaz_discard(list: &[u8], out: &mut [u8], written: &mut usize) -> u32
-    ensures { made result written.new out.new ≡ outcome (discard list.now (length out.old)) out.old }
+pub fn zerglaz_discard(list: &[u8], out: &mut [u8]) -> Result<usize, Refusal>
+    ensures { made_by result out.new ≡ outcome (discard list.now (length out.old)) out.old }
 {
-    discard_call::discard(list, out, written)
+    discard_call::discard(list, out)
 }
 
 // Writes the volume that a change list makes of a volume.
-pub fn zerglaz_apply(volume: &[u8], change: &[u8], out: &mut [u8], written: &mut usize) -> u32
-    ensures { made result written.new out.new ≡ outcome (apply volume.now change.now (length out.old)) out.old }
+pub fn zerglaz_apply(volume: &[u8], change: &[u8], out: &mut [u8]) -> Result<usize, Refusal>
+    ensures { made_by result out.new ≡ outcome (apply volume.now change.now (length out.old)) out.old }
 {
-    apply_call::apply(volume, change, out, written)
+    apply_call::apply(volume, change, out)
 }
 
 // Writes the sorted form of a call list.
-pub fn zerglaz_sort(list: &[u8], out: &mut [u8], written: &mut usize) -> u32
-    ensures { made result written.new out.new ≡ outcome (sort list.now (length out.old)) out.old }
+pub fn zerglaz_sort(list: &[u8], out: &mut [u8]) -> Result<usize, Refusal>
+    ensures { made_by result out.new ≡ outcome (sort list.now (length out.old)) out.old }
 {
-    sort_call::sort(list, out, written)
+    sort_call::sort(list, out)
 }
 
 // Writes the generations of up to 1,024 ascending buckets, in one walk of a volume's tree 14, and counts the keys that it visits.
 pub fn zerglaz_generations(
     volume: &[u8],
     buckets: &[u32],
-    out: &mut [u8],
-    visited: &mut usize,
-) -> u32
-    ensures { looked_up result visited.new out.new ≡ generations_outcome (generations volume.now (buckets_in buckets.now) (length out.old)) out.old }
+    out: &mut [u8]) -> Result<usize, Refusal>
+    ensures { looked_up_by result out.new ≡ generations_outcome (generations volume.now (buckets_in buckets.now) (length out.old)) out.old }
 {
-    generations_call::generations(volume, buckets, out, visited)
+    generations_call::generations(volume, buckets, out)
 }

@@ -1,16 +1,36 @@
 // The C boundary: the exported functions, each with the promise of the call of crate zerglaz that it makes.
 #![tactic(auto)]
 
-ghost use Rattle.std.specs.Prelude.{◌≡◌, length};
+ghost use Rattle.std.specs.Prelude.{◌≡◌, List, ℕ, length};
 ghost use Rattle.wire.specs.Kinds.{buckets_in};
 ghost use Rattle.calls.specs.Answers.{made, outcome, scratch_after, place, release, discard, apply, sort, generations, looked_up, generations_outcome};
+ghost use Rattle.reader.specs.Refusals.{made_by, looked_up_by};
+
+use reader::refusal::Refusal;
+
+// What C is told of an answer: the refusal's number, or 0, and how many bytes were written or keys visited, or 0.
+fn told(answer: Result<usize, Refusal>, count: &mut usize) -> u32
+    ensures made { (output : List ℕ) → made result count.new output ≡ made_by answer output }
+    ensures looked_up { (output : List ℕ) → looked_up result count.new output ≡ looked_up_by answer output }
+{
+    match answer {
+        Ok(n) => {
+            *count = n;
+            0
+        }
+        Err(refusal) => {
+            *count = 0;
+            refusal.number()
+        }
+    }
+}
 
 // Chooses buckets for the pieces asked and writes the change list that places them.
 #[unsafe(no_mangle)]
 pub extern "C" fn zerglaz_place(list: &[u8], out: &mut [u8], written: &mut usize) -> u32
     ensures { made result written.new out.new ≡ outcome (place list.now (length out.old)) out.old }
 {
-    zerglaz::zerglaz_place(list, out, written)
+    told(zerglaz::zerglaz_place(list, out), written)
 }
 
 // Writes the change list that gives the named pieces' sectors back.
@@ -23,7 +43,7 @@ pub extern "C" fn zerglaz_release(
 ) -> u32
     ensures { (made result written.new out.new ≡ outcome (release list.now (length scratch.old) (length out.old)) out.old) × (scratch.new ≡ scratch_after scratch.old) }
 {
-    zerglaz::zerglaz_release(list, scratch, out, written)
+    told(zerglaz::zerglaz_release(list, scratch, out), written)
 }
 
 // Writes the change list that frees the waiting buckets.
@@ -31,7 +51,7 @@ pub extern "C" fn zerglaz_release(
 pub extern "C" fn zerglaz_discard(list: &[u8], out: &mut [u8], written: &mut usize) -> u32
     ensures { made result written.new out.new ≡ outcome (discard list.now (length out.old)) out.old }
 {
-    zerglaz::zerglaz_discard(list, out, written)
+    told(zerglaz::zerglaz_discard(list, out), written)
 }
 
 // Writes the volume that a change list makes of a volume.
@@ -44,7 +64,7 @@ pub extern "C" fn zerglaz_apply(
 ) -> u32
     ensures { made result written.new out.new ≡ outcome (apply volume.now change.now (length out.old)) out.old }
 {
-    zerglaz::zerglaz_apply(volume, change, out, written)
+    told(zerglaz::zerglaz_apply(volume, change, out), written)
 }
 
 // Writes the sorted form of a call list.
@@ -52,7 +72,7 @@ pub extern "C" fn zerglaz_apply(
 pub extern "C" fn zerglaz_sort(list: &[u8], out: &mut [u8], written: &mut usize) -> u32
     ensures { made result written.new out.new ≡ outcome (sort list.now (length out.old)) out.old }
 {
-    zerglaz::zerglaz_sort(list, out, written)
+    told(zerglaz::zerglaz_sort(list, out), written)
 }
 
 // Writes the generations of up to 1,024 ascending buckets, in one walk of a volume's tree 14, and counts the keys that it visits.
@@ -65,5 +85,5 @@ pub extern "C" fn zerglaz_generations(
 ) -> u32
     ensures { looked_up result visited.new out.new ≡ generations_outcome (generations volume.now (buckets_in buckets.now) (length out.old)) out.old }
 {
-    zerglaz::zerglaz_generations(volume, buckets, out, visited)
+    told(zerglaz::zerglaz_generations(volume, buckets, out), visited)
 }
