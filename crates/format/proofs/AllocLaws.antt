@@ -7,7 +7,7 @@ use Rattle.wire.proofs.NumberLaws.{bytes-at, le-at, le-byte}
 use Rattle.format.specs.Packing.{pack, unpack, Member, get, store}
 use Rattle.format.specs.AllocV4.{alloc_v4, journal_seq, flags, gen, oldest_gen, data_type, stripe_redundancy, dirty_sectors, cached_sectors, io_time_read, io_time_write, stripe, nr_external_backpointers, journal_seq_empty, stripe_sectors, pad, flags_word, flags_of, user_flags, new_alloc, with_dirty, next_gen, emptied_flags, emptied, discarded_flags, discarded}
 use Rattle.format.proofs.Decoded.{flags-decode, pack-below}
-use Rattle.format.proofs.FlagLaws.{discard-is}
+use Rattle.format.proofs.FlagLaws.{discard-sum}
 use Rattle.format.proofs.StructLaws.{stores-length, stores-kept, members-after, store-here, store_kept, store_length, read-alloc, read_whole, struct-length}
 
 -- "flags hexadecimal 23"
@@ -166,7 +166,7 @@ module _ (v : List ℕ) where
         let b9 = bytes-at r 9 in
         let b10 = bytes-at r 10 in
         let b11 = bytes-at r 11 in
-        let y = discard-is (get flags v) (omega arith) in
+        let y = discard-sum (get flags v) (omega arith) in
         let p : get flags v % 2 ≡ get_or v 8 0 % 2 = omega arith in
         let d0 = digit (discarded_flags (get flags v)) (get_or v 8 0 - get_or v 8 0 % 2) (get_or v 9 0 + 256 * (get_or v 10 0 + 256 * get_or v 11 0)) (omega arith) (omega arith) in
         let d1 = digit (discarded_flags (get flags v) / 256) (get_or v 9 0) (get_or v 10 0 + 256 * get_or v 11 0) b9 d0.1 in

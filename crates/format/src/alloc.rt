@@ -10,6 +10,7 @@ use wire::keys::Value;
 use wire::{emit, le};
 
 // The generation of the alloc value at a place of a list. The value's length shows the bound, here and below.
+#[tactic(auto, using(crate::proofs::ValueLaws::get_at))]
 pub fn generation(s: &[u8], at: usize) -> u8
     requires { at + 13 ≤ length s.now }
     ensures { result ≡ get gen (drop at s.now) }
@@ -18,6 +19,7 @@ pub fn generation(s: &[u8], at: usize) -> u8
 }
 
 // Its data type.
+#[tactic(auto, using(crate::proofs::ValueLaws::get_at))]
 pub fn data_type(s: &[u8], at: usize) -> u8
     requires { at + 15 ≤ length s.now }
     ensures { result ≡ get data_type (drop at s.now) }
@@ -26,6 +28,7 @@ pub fn data_type(s: &[u8], at: usize) -> u8
 }
 
 // Its dirty sectors.
+#[tactic(auto, using(crate::proofs::ValueLaws::get_at))]
 pub fn dirty_sectors(s: &[u8], at: usize) -> u32
     requires { at + 20 ≤ length s.now }
     ensures { result ≡ get dirty_sectors (drop at s.now) }
@@ -34,6 +37,7 @@ pub fn dirty_sectors(s: &[u8], at: usize) -> u32
 }
 
 // Its write clock.
+#[tactic(auto, using(crate::proofs::ValueLaws::get_at))]
 pub fn write_time(s: &[u8], at: usize) -> u64
     requires { at + 40 ≤ length s.now }
     ensures { result ≡ get io_time_write (drop at s.now) }
@@ -69,6 +73,7 @@ fn with_le(v: Value, at: usize, n: usize, x: u64) -> Value
 }
 
 // The value after a part is freed: another dirty count. Refusal 16 shows the length, here and below.
+#[tactic(auto, unfolding(crate::specs::AllocV4::with_dirty, crate::specs::Packing::store))]
 pub fn with_dirty(v: Value, dirty: u32) -> Value
     requires { (56 ≤ v.len) × (v.len ≤ 256) }
     ensures { (result.len ≡ v.len) × (value_in result ≡ with_dirty dirty (value_in v)) }
@@ -77,17 +82,18 @@ pub fn with_dirty(v: Value, dirty: u32) -> Value
 }
 
 // The generation after this one.
+#[tactic(auto, unfolding(crate::specs::AllocV4::next_gen))]
 pub fn next_gen(generation: u8) -> u8
     ensures { result ≡ next_gen generation }
 {
-    std::num::wrapping_add_u8(generation, 1)
+    generation.wrapping_add(1)
 }
 
 // The flags of an emptied bucket: the low byte without bit 1.
 fn emptied_flags(x: u32) -> u32
     ensures { result ≡ emptied_flags x }
 {
-    x % 256 - x / 2 % 2 * 2
+    x & 0xfd
 }
 
 // The value after emptying, at a journal number.
@@ -111,7 +117,7 @@ pub fn emptied(v: Value, journal: u64) -> Value
 fn discarded_flags(x: u32) -> u32
     ensures { result ≡ discarded_flags x }
 {
-    x - x % 2
+    x & !1
 }
 
 // The value after discard.

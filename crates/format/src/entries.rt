@@ -14,6 +14,7 @@ pub struct Words {
 }
 
 // The pointer word. A bucket below 65,536 of fewer than 65,536 sectors shows the bound.
+#[tactic(auto, unfolding(crate::specs::Entries::pointer, crate::specs::Packing::pack))]
 pub fn pointer(d: DeviceSector, generation: u8) -> u64
     requires { sector_number d < 2 ^ 44 }
     ensures { result ≡ pointer d generation }
@@ -46,10 +47,7 @@ pub fn csum_type(option: u8) -> u64
     requires { option ≤ 3 }
     ensures { result ≡ csum_type_of option }
 {
-    if option == 0 {
-        return 0;
-    }
-    option as u64 + 4
+    if option == 0 { 0 } else { option as u64 + 4 }
 }
 
 // An extent's value: by option, the checksum entry and then the pointer.
@@ -64,15 +62,13 @@ pub fn extent_words(
     requires { (option ≤ 3) × ((1 ≤ stored) × (stored ≤ 128)) × ((1 ≤ file) × (file ≤ 128)) × (kind < 16) }
     ensures { (result.n ≤ 3) × (take result.n result.w ≡ extent_words option kind stored file checksum word) }
 {
-    if option == 0 {
-        return Words {
+    let t = csum_type(option);
+    match option {
+        0 => Words {
             w: [word, 0, 0, 0, 0, 0, 0, 0],
             n: 1,
-        };
-    }
-    let t = csum_type(option);
-    if option == 1 {
-        return Words {
+        },
+        1 => Words {
             w: [
                 crc32(stored, file, t, kind, checksum),
                 word,
@@ -84,10 +80,10 @@ pub fn extent_words(
                 0,
             ],
             n: 2,
-        };
-    }
-    Words {
-        w: [crc64(stored, file, t, kind), checksum, word, 0, 0, 0, 0, 0],
-        n: 3,
+        },
+        _ => Words {
+            w: [crc64(stored, file, t, kind), checksum, word, 0, 0, 0, 0, 0],
+            n: 3,
+        },
     }
 }

@@ -20,6 +20,7 @@ pub fn with_gen(v: Value, b: Bucket, generation: u8) -> Value
 }
 
 // A record that is started.
+#[tactic(auto, unfolding(crate::specs::Gens::no_gens))]
 pub fn no_gens() -> Value
     ensures { (result.len ≡ 256) × (value_in result ≡ no_gens) }
 {

@@ -1,24 +1,30 @@
 -- How many buckets of runs are free, by the reserved buckets below their ends.
-use mathlib.Core.Path.{◌≡◌, refl, ap, sym, ◌∙◌, subst⁻¹}
+use mathlib.Core.Path.{◌≡◌, refl, ap, sym, ◌∙◌}
 use mathlib.Core.Bool.{Bool, true, false, not, ◌||◌, cond}
 use mathlib.Core.List.{List, [], ◌∷◌}
 use Prim.Native.Nat.{ℕ, zero, suc, ◌+◌, ◌-◌, ◌≤◌, ◌<◌}
 use native.Mathlib.Nat.{add-zero}
 use native.Mathlib.Omega.{arith}
 use lib.Dec.{eqb}
-use lib.ListN.{length, drop, drop_of_length-le}
+use lib.ListN.{length, get_or, drop, drop_of_length-le}
 use borrow.Author.Tests.{lt-ltb, le-ltb, ltb-true, ltb-false, eqb-true, eqb-false, ne_eqb}
+use Rattle.std.specs.Prelude.{Option, None, Some}
 use Rattle.wire.specs.Keys.{Key}
 use Rattle.wire.specs.Kinds.{bucket_below, same_bucket, next_bucket, buckets_from, buckets_up_to, no_bucket}
 use Rattle.wire.specs.declared.kinds.Bucket.{Bucket}
 use Rattle.calls.specs.Lists.{any_of, those, total, one as ind}
 use Rattle.calls.specs.Limits.{is_run}
-use Rattle.calls.specs.Freespace.{is_in, runs_of, start_of, end_of, buckets_of, free_count}
-use Rattle.reader.specs.Checked.{end_in_range}
+use Rattle.calls.specs.Freespace.{is_in, runs_of, buckets_of, free_count}
+use Rattle.calls.specs.Answers.{read_volume}
+use Rattle.calls.proofs.lists.AllOfLaws.{all-of-drop, all-of-first}
+use Rattle.reader.specs.Checked.{Checked, end_in_range}
+use Rattle.reader.specs.KeyHere.{key_here}
+use Rattle.reader.specs.Located.{KeysAt}
+use Rattle.reader.proofs.CheckedLaws.{run-range}
+use Rattle.reader.proofs.KeyHereLaws.{keys-next}
 use Rattle.freespace.specs.Runs.{run_in, count_below}
 use Rattle.freespace.specs.declared.runs.Run.{Run}
-use Rattle.freespace.proofs.RunLaws.{Rising, run_if, is_some, meets, run_end}
-use Rattle.freespace.proofs.WalkLaws.{up-to-none}
+use Rattle.freespace.proofs.RunLaws.{Rising, rising, meets, run-here, run_end, run_buckets, run-buckets, run_none}
 
 length-those : {A : Type 0} (t : A → Bool) (x : A) (xs : List A) → length (those t (x ∷ xs)) ≡ ind (t x) + length (those t xs)
 unfolding those
@@ -159,22 +165,18 @@ module _ (bs : List Bucket) (r : Rising 0 bs) where
 
 -- ---- all runs
 -- the free buckets of a run
-abbrev free_in : List Bucket → Run → ℕ
-free_in bs r = length (those (λ x. not (is_in bs x)) (buckets_up_to r.start r.end))
+abbrev free_in : List Bucket → Option Run → ℕ
+free_in bs x = length (those (λ b. not (is_in bs b)) (run_buckets x))
 
 free-cons : (bs : List Bucket) (k : Key) (ks : List Key) → free_count (is_in bs) (runs_of (k ∷ ks)) ≡ free_in bs (run_in k) + free_count (is_in bs) (runs_of ks)
-unfolding free_count runs_of those total run_in buckets_of buckets_from
-free-cons bs k ks = go (is_run k)
+unfolding free_count runs_of those total
+free-cons bs k ks = go (is_run k) refl
   where
-    go : (t : Bool)
-        → total (λ j. length (those (λ b. not (is_in bs b)) (buckets_up_to (start_of j) (end_of j)))) (cond t (k ∷ those is_run ks) (those is_run ks))
-        ≡ free_in bs (run_if t k) + total (λ j. length (those (λ b. not (is_in bs b)) (buckets_up_to (start_of j) (end_of j)))) (those is_run ks)
-    go true = refl
-    go false = omega arith
-
-free-empty : (bs : List Bucket) (r : Run) → is_some r ≡ false → free_in bs r ≡ 0
-unfolding those
-free-empty bs r e = ap (λ (l : List Bucket). length (those (λ x. not (is_in bs x)) l)) (up-to-none r.start r.end (ltb-false r.start.0 r.end.0 e))
+    go : (t : Bool) → is_run k ≡ t
+        → total (λ j. length (those (λ b. not (is_in bs b)) (buckets_of j))) (cond t (k ∷ those is_run ks) (those is_run ks))
+        ≡ free_in bs (run_in k) + total (λ j. length (those (λ b. not (is_in bs b)) (buckets_of j))) (those is_run ks)
+    go true e = rw (run-buckets k e)
+    go false e = rw (run_none k e) (omega arith)
 
 -- the count so far: with the free buckets of the keys from an index on, it is all; and those keys start no run below `last`
 pub record FreeCounting (ks : List Key) (bs : List Bucket) (free j i : ℕ) : Type 0 where
@@ -216,68 +218,67 @@ module _ {ks : List Key} {bs : List Bucket} {free j i : ℕ} (c : FreeCounting k
     met = ap (meets c.last) (sym f) ∙ c.apart
 
     -- a key that covers nothing
-    counting-skip : is_some (run_in k) ≡ false → FreeCounting ks bs free j (i + 1)
-    unfolding meets
-    counting-skip e =
+    pub counting-past : run_in k ≡ None → FreeCounting ks bs free j (i + 1)
+    unfolding meets those
+    counting-past e =
         record {
           last = c.last;
           small = c.small;
           most = c.most;
           below = c.below;
           apart = rw e at met;
-          sum = omega (arith, c.sum, here, free-empty bs (run_in k) e);
+          sum = omega (arith, c.sum, rw e at here);
         }
 
     -- a run, with the reserved buckets below its start and its end
-    module _ (e : is_some (run_in k) ≡ true) where
-      abbrev s : Bucket
-      s = (run_in k).start
-
-      abbrev n : Bucket
-      n = (run_in k).end
-
-      parted : (bucket_below s c.last ≡ false) × (meets n (drop (i + 1) ks) ≡ false)
+    module _ {x : Run} (e : run_in k ≡ Some x) where
+      parted : (bucket_below x.start c.last ≡ false) × (meets x.end (drop (i + 1) ks) ≡ false)
       unfolding meets
-      parted = or-both (bucket_below s c.last) (rw e at met)
+      parted = or-both (bucket_below x.start c.last) (rw e at met)
         where
           or-both : (t : Bool) {u : Bool} → t || u ≡ false → (t ≡ false) × (u ≡ false)
           or-both true h = let w : ◌≡◌ {A = ℕ} 0 1 = cc in absurd (omega arith)
           or-both false h = (refl, h)
 
-      ordered : (c.last.0 ≤ s.0) × (s.0 < n.0)
-      ordered = (ltb-false s.0 c.last.0 parted.0, ltb-true s.0 n.0 e)
+      ordered : (c.last.0 ≤ x.start.0) × (x.start.0 < x.end.0)
+      ordered = (ltb-false x.start.0 c.last.0 parted.0, (run-here k x e).some)
 
-      more : (end_in_range k ≡ true) → RunCounted ks bs free j i (run_in k)
-      more l =
+      pub counting-on : (end_in_range k ≡ true) → RunCounted ks bs free j i x
+      counting-on l =
           let h = ordered in
-          let w = free-run bs r s n (omega arith) in
-          let m = count-mono s n bs (omega arith) in
+          let w = free-run bs r x.start x.end (omega arith) in
+          let m = count-mono x.start x.end bs (omega arith) in
+          let small = run_end k x e l in
           record {
             order = omega arith;
-            small = run_end k l;
-            start = omega (arith, c.below, count-mono c.last s bs h.0);
+            small = small;
+            start = omega (arith, c.below, count-mono c.last x.start bs h.0);
             end = m;
             fits = omega arith;
-            room = omega (arith, c.most, run_end k l);
+            room = omega (arith, c.most);
             on =
                 λ free' j' p q.
                 record {
-                  last = n;
-                  small = run_end k l;
+                  last = x.end;
+                  small = small;
                   most = omega (arith, c.most);
                   below = q;
                   apart = parted.1;
-                  sum = omega (arith, c.sum, here);
+                  sum = omega (arith, c.sum, rw e at here);
                 };
           }
 
-    -- a run as the code holds it
-    pub counting-on : (x : Run) → x ≡ run_in k → is_some x ≡ true → end_in_range k ≡ true → RunCounted ks bs free j i x
-    counting-on x q e l = subst⁻¹ (RunCounted ks bs free j i) q (more (ap is_some (sym q) ∙ e) l)
+-- the run of a turn
+module _
+    {s runs : List ℕ} (t : Checked s) (f : KeysAt s runs (read_volume s).trees.freespace) (i : ℕ) (h : i < length runs) {free j : ℕ}
+    (c : FreeCounting (read_volume s).trees.freespace (read_volume s).reserved free j i) where
+  abbrev run_here : Option Run
+  run_here = run_in (key_here s (get_or runs i 0))
 
-    pub counting-past : (x : Run) → x ≡ run_in k → is_some x ≡ false → FreeCounting ks bs free j (i + 1)
-    counting-past x q e = counting-skip (ap is_some (sym q) ∙ e)
+  pub turn-past : run_here ≡ None → FreeCounting (read_volume s).trees.freespace (read_volume s).reserved free j (i + 1)
+  turn-past e = counting-past c (rising _ t.reserved) _ (keys-next f i h) e
 
--- the same of equal values, as the loop has them
-pub counting-at : {ks : List Key} {bs : List Bucket} {free j i free' j' : ℕ} → free' ≡ free → j' ≡ j → FreeCounting ks bs free j i → FreeCounting ks bs free' j' i
-counting-at e f c = rw (e, f) c
+  pub turn-on : {x : Run} → run_here ≡ Some x → RunCounted (read_volume s).trees.freespace (read_volume s).reserved free j i x
+  turn-on e =
+      counting-on c (rising _ t.reserved) _ (keys-next f i h) e
+      (all-of-first end_in_range (all-of-drop end_in_range _ i (run-range t)) (keys-next f i h))

@@ -7,23 +7,27 @@ use Prim.Native.Nat.{ℕ, suc, ◌≤◌, ◌<◌}
 use native.Mathlib.Omega.{arith}
 use lib.Dec.{ltb, eqb}
 use lib.ListN.{length, drop, drop_of_length-le}
-use borrow.Author.Tests.{leb-true, lt-ltb, le-ltb, ltb-true, ltb-false, eqb-true, eqb-false, eq-eqb, ne_eqb}
+use borrow.Author.Tests.{leb-true, lt-ltb, le-ltb, ltb-true, ltb-false, eqb-true, eqb-false}
 use Rattle.wire.specs.Keys.{Key}
 use Rattle.wire.specs.Order.{cmp, pos_less}
-use Rattle.wire.specs.Kinds.{bucket_below, run_start, began_before, no_bucket}
+use Rattle.wire.specs.Kinds.{bucket_below, buckets_up_to, no_bucket}
 use Rattle.wire.specs.declared.bpos.Bpos.{Bpos}
 use Rattle.wire.specs.declared.kinds.Bucket.{Bucket}
 use Rattle.wire.proofs.OrderLaws.{cmp-less, offset-more, snapshot-less}
+use Rattle.std.specs.Prelude.{Option, None, Some}
+use Rattle.std.specs.Ordering.{is_lt, nat_cmp}
+use Rattle.std.proofs.lemmas.Bool.Decides.{nat_tests}
 use Rattle.calls.specs.Lists.{all_of, any_of, those, in_order}
 use Rattle.calls.specs.Limits.{is_run, is_set, at_inode0}
-use Rattle.calls.specs.Freespace.{runs_of, start_of, end_of, overlap, overlaps}
+use Rattle.calls.specs.Freespace.{runs_of, start_of, end_of, buckets_of, overlap, overlaps}
 use Rattle.calls.proofs.lists.BoolLaws.{parts as and-true}
 use Rattle.calls.proofs.trees.SortedLaws.{Chain, Sorted, chain-weak, chain-sorted}
 use Rattle.calls.proofs.trees.SortedLaws.{NoSnapshots}
 use Rattle.calls.proofs.lists.AllOfLaws.{any-of-fails}
 use Rattle.reader.specs.Checked.{end_in_range}
-use Rattle.freespace.specs.Runs.{began_early, run_in}
+use Rattle.freespace.specs.Runs.{run_in}
 use Rattle.freespace.specs.declared.runs.Run.{Run}
+use Rattle.freespace.proofs.WalkLaws.{up-to-none}
 use Rattle.reader.proofs.CheckedLaws.{end-at}
 
 -- buckets ascend strictly, from a number on
@@ -93,17 +97,18 @@ ends-rise (x ∷ xs) c n =
     go false e y n g = g
 
 -- ---- overlap, in one pass
-abbrev pub run_if : Bool → Key → Run
-run_if t k = cond t (record { start = start_of k; end = end_of k }) (record { start = no_bucket; end = no_bucket })
+abbrev run_if : Bool → Bool → Key → Option Run
+run_if t u k = cond (t && u) (Some (record { start = start_of k; end = end_of k })) None
 
-abbrev pub is_some : Run → Bool
-is_some r = bucket_below r.start r.end
+-- what is made of a run, and what where there is none
+abbrev pub by_run : {A : Type 0} → A → (Run → A) → Option Run → A
+by_run a f None = a
+by_run a f (Some r) = f r
 
--- a run starts below the end of the last one before it that is not empty
+-- a run starts below the end of the last one before it
 unfoldable pub meets : Bucket → List Key → Bool
 meets last [] = false
-meets last (k ∷ ks) =
-    cond (is_some (run_in k)) (bucket_below (run_in k).start last || meets (run_in k).end ks) (meets last ks)
+meets last (k ∷ ks) = by_run (meets last ks) (λ r. bucket_below r.start last || meets r.end ks) (run_in k)
 
 -- a run that is not empty starts below a bucket
 abbrev starts_below : Bucket → Key → Bool
@@ -155,13 +160,13 @@ meets-overlaps last (k ∷ ks) r = go (is_run k) r (λ a s. meets-overlaps a ks 
   where
     go : (t : Bool) → Rising last.0 (map end_of (cond t (k ∷ those is_run ks) (those is_run ks)))
         → ((a : Bucket) → Rising a.0 (map end_of (those is_run ks)) → meets a ks ≡ any_of (starts_below a) (those is_run ks) || overlaps (those is_run ks))
-        → cond (is_some (run_if t k)) (bucket_below (run_if t k).start last || meets (run_if t k).end ks) (meets last ks)
+        → by_run (meets last ks) (λ r. bucket_below r.start last || meets r.end ks) (run_if t (bucket_below (start_of k) (end_of k)) k)
         ≡ any_of (starts_below last) (cond t (k ∷ those is_run ks) (those is_run ks)) || overlaps (cond t (k ∷ those is_run ks) (those is_run ks))
     go false q ih = ih last q
     go true q ih = split (bucket_below (start_of k) (end_of k)) refl
       where
         split : (u : Bool) → bucket_below (start_of k) (end_of k) ≡ u
-            → cond u (bucket_below (start_of k) last || meets (end_of k) ks) (meets last ks)
+            → by_run (meets last ks) (λ r. bucket_below r.start last || meets r.end ks) (run_if true u k)
             ≡ ((u && bucket_below (start_of k) last) || any_of (starts_below last) (those is_run ks)) || (any_of (overlap k) (those is_run ks) || overlaps (those is_run ks))
         split true e =
             let x = overlap-after k (those is_run ks) e q.1 in
@@ -178,57 +183,68 @@ starts_none ks = any-of-fails (starts_below no_bucket) ks (λ k. rw (le-ltb (sta
 pub meets-all : (ks : List Key) → Sorted ks → NoSnapshots ks → meets no_bucket ks ≡ overlaps (runs_of ks)
 meets-all ks c n = meets-overlaps no_bucket ks (ends-rise ks c n) ∙ ap (λ (t : Bool). t || overlaps (runs_of ks)) (starts_none (runs_of ks))
 
+-- what the order of two buckets says of their numbers
+pub less-number : (a b : ℕ) → is_lt (nat_cmp a b) ≡ true → a < b
+less-number a b h = grind (arith, nat_tests)
+
+pub least-number : (a b : ℕ) → is_lt (nat_cmp a b) ≡ false → b ≤ a
+least-number a b h = grind (arith, nat_tests)
+
 -- one key of the pass
 module _ (last : Bucket) {k : Key} {ks rest : List Key} (f : ks ≡ k ∷ rest) where
-  pub meets-skip : is_some (run_in k) ≡ false → meets last rest ≡ meets last ks
+  pub meets-skip : run_in k ≡ None → meets last rest ≡ meets last ks
   unfolding meets
   meets-skip e = sym (ap (meets last) f ∙ rw e)
 
-  module _ (e : is_some (run_in k) ≡ true) where
-    pub meets-stop : bucket_below (run_in k).start last ≡ true → meets last ks ≡ true
+  module _ {x : Run} (e : run_in k ≡ Some x) where
+    pub meets-stop : x.start.0 < last.0 → meets last ks ≡ true
     unfolding meets
-    meets-stop h = ap (meets last) f ∙ rw (e, h)
+    meets-stop h = ap (meets last) f ∙ rw (e, lt-ltb x.start.0 last.0 h)
 
-    pub meets_on : bucket_below (run_in k).start last ≡ false → meets (run_in k).end rest ≡ meets last ks
+    pub meets_on : last.0 ≤ x.start.0 → meets x.end rest ≡ meets last ks
     unfolding meets
-    meets_on h = sym (ap (meets last) f ∙ rw (e, h))
+    meets_on h = sym (ap (meets last) f ∙ rw (e, le-ltb x.start.0 last.0 h))
 
 pub meets-none : (last : Bucket) (ks : List Key) (i : ℕ) → length ks ≤ i → meets last (drop i ks) ≡ false
 unfolding meets
 meets-none last ks i h = ap (meets last) (drop_of_length-le ks h)
 
--- the run that the code holds
-pub run_none : (k : Key) → is_run k ≡ false → ◌≡◌ {A = Run} (record { start = no_bucket; end = no_bucket }) (run_in k)
-unfolding run_in
-run_none k e = rw e
+-- the run that a key is
+pub record RunHere (k : Key) (x : Run) : Type 0 where
+  pub is : is_run k ≡ true
+  pub start : x.start ≡ start_of k
+  pub end : x.end ≡ end_of k
+  pub some : x.start.0 < x.end.0
 
-pub run-some :
-    (k : Key) {start end : Bucket} {size : ℕ} → is_run k ≡ true → end ≡ end_of k → size ≡ k.size → start ≡ run_start end size
-    → ◌≡◌ {A = Run} (record { start = start; end = end }) (run_in k)
+pub run-here : (k : Key) (x : Run) → run_in k ≡ Some x → RunHere k x
 unfolding run_in
-run-some k r e f g = rw (r, g, e, f)
+run-here k x = go (is_run k) refl (bucket_below (start_of k) (end_of k)) refl
+  where
+    go : (t : Bool) → is_run k ≡ t → (u : Bool) → bucket_below (start_of k) (end_of k) ≡ u → run_if t u k ≡ Some x → RunHere k x
+    go true e true f h =
+        let r : ◌≡◌ {A = Run} (record { start = start_of k; end = end_of k }) x = cc in
+        let s = ap (λ (y : Run). y.start) r in
+        let n = ap (λ (y : Run). y.end) r in
+        record { is = e; start = sym s; end = sym n; some = rw (← s, ← n) (ltb-true (start_of k).0 (end_of k).0 f) }
+    go true e false f h = absurd (let w : ◌≡◌ {A = ℕ} 0 1 = cc in omega arith)
+    go false e u f h = absurd (let w : ◌≡◌ {A = ℕ} 0 1 = cc in omega arith)
 
 -- its end is within the limit of a run's
-pub run_end : (k : Key) → end_in_range k ≡ true → (run_in k).end.0 ≤ 65536
-unfolding run_in
-run_end k h = go (is_run k) refl
+pub run_end : (k : Key) (x : Run) → run_in k ≡ Some x → end_in_range k ≡ true → x.end.0 ≤ 65536
+run_end k x e h = let r = run-here k x e in rw r.end (leb-true k.pos.offset 65536 (end-at k h r.is))
+
+-- the buckets of a run
+abbrev pub run_buckets : Option Run → List Bucket
+run_buckets x = by_run [] (λ r. buckets_up_to r.start r.end) x
+
+pub run-buckets : (k : Key) → is_run k ≡ true → run_buckets (run_in k) ≡ buckets_of k
+unfolding run_in buckets_of
+run-buckets k e = rw e (go (bucket_below (start_of k) (end_of k)) refl)
   where
-    go : (t : Bool) → is_run k ≡ t → (run_if t k).end.0 ≤ 65536
-    go true f = leb-true k.pos.offset 65536 (end-at k h f)
-    go false f = omega arith
+    go : (u : Bool) → bucket_below (start_of k) (end_of k) ≡ u → run_buckets (run_if true u k) ≡ buckets_up_to (start_of k) (end_of k)
+    go true f = refl
+    go false f = sym (up-to-none (start_of k) (end_of k) (ltb-false (start_of k).0 (end_of k).0 f))
 
--- a run, and one begun before bucket 0, as the code tests them
-module _ (k : Key) where
-  pub run-not : (k.type ≡ 25 → ⊥) → is_run k ≡ false
-  run-not n = rw (ne_eqb k.type 25 n)
-
-  pub run-else : k.type ≡ 25 → is_run k ≡ eqb k.pos.inode 0
-  run-else e = rw (eq-eqb k.type 25 e)
-
-  pub early-not : is_run k ≡ false → began_early k ≡ false
-  unfolding began_early
-  early-not e = rw e
-
-  pub early-else : is_run k ≡ true → began_early k ≡ began_before (end_of k) k.size
-  unfolding began_early
-  early-else e = rw e
+pub run_none : (k : Key) → is_run k ≡ false → run_in k ≡ None
+unfolding run_in
+run_none k e = rw e

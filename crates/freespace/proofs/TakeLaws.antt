@@ -7,8 +7,9 @@ use native.Mathlib.Numerals.{add-one}
 use native.Mathlib.Omega.{arith}
 use lib.ListN.{length, take, drop, length-append, length-drop, drop_of_length-le}
 use lib.Seq.{length-take-le}
+use Rattle.std.specs.Prelude.{Option, None, Some}
 use Rattle.wire.specs.Keys.{Key}
-use Rattle.wire.specs.Kinds.{buckets_from, buckets_up_to, began_before, buckets_in}
+use Rattle.wire.specs.Kinds.{buckets_up_to, began_before, buckets_in}
 use Rattle.wire.specs.declared.kinds.Bucket.{Bucket}
 use Rattle.calls.specs.Lists.{those}
 use Rattle.calls.specs.Limits.{is_run}
@@ -17,11 +18,11 @@ use Rattle.calls.specs.Freespace.{end_of, buckets_of, runs_of, Passed, pass, sho
 use Rattle.bucket_bits.specs.Bits.{marked, Marks}
 use Rattle.reader.specs.Checked.{end_in_range}
 use Rattle.freespace.specs.Runs.{began_early, run_in}
-use Rattle.freespace.specs.Walks.{stopped, unwalked, key_walk, left_of, key_queue, queue_of, WalkIs}
+use Rattle.freespace.specs.Walks.{stopped, unwalked, thirteen, key_walk, left_of, key_queue, queue_of, WalkEnded, WalkIs}
 use Rattle.freespace.specs.declared.runs.Run.{Run}
 use Rattle.freespace.specs.declared.take.Walked.{Walked}
-use Rattle.freespace.proofs.RunLaws.{run_if, run_end}
-use Rattle.freespace.proofs.WalkLaws.{pass-none, pass-left, pass-sum, pass-agree, thirteen, WalkEnded}
+use Rattle.freespace.proofs.RunLaws.{run_end, run_buckets, run-buckets, run_none}
+use Rattle.freespace.proofs.WalkLaws.{pass-none, pass-left, pass-sum, pass-agree}
 
 -- ---- what the walk makes of one key
 module _ (R U : Bucket → Bool) (k : Key) where
@@ -39,24 +40,25 @@ module _ (R U : Bucket → Bool) (k : Key) where
       })
       (record { taken = []; queue = []; refusal = 0 })
 
-  -- by the run that the code walks, which is empty where the key is no run
-  abbrev pass_if : ℕ → Run → Passed
-  pass_if n x = pass R U n (buckets_up_to x.start x.end)
+  -- by the run that the code walks, or none
+  abbrev pass_if : ℕ → Option Run → Passed
+  pass_if n x = pass R U n (run_buckets x)
 
   key-is : (n : ℕ) → began_early k ≡ false
       → key_walk R U n k ≡ record { taken = (pass_if n (run_in k)).taken; queue = key_queue k (pass_if n (run_in k)).left; refusal = thirteen (pass_if n (run_in k)).used 0 }
-  unfolding key_walk began_early run_in buckets_of buckets_from
-  key-is n = go (is_run k)
+  unfolding key_walk began_early
+  key-is n = go (is_run k) refl
     where
-      go : (t : Bool) → t && began ≡ false
+      go : (t : Bool) → is_run k ≡ t → t && began ≡ false
           → key_if n t
           ≡ record {
-            taken = (pass_if n (run_if t k)).taken;
-            queue = cond t (shortened k (pass_if n (run_if t k)).left ∷ []) [];
-            refusal = thirteen (pass_if n (run_if t k)).used 0;
+            taken = (pass_if n (run_in k)).taken;
+            queue = cond t (shortened k (pass_if n (run_in k)).left ∷ []) [];
+            refusal = thirteen (pass_if n (run_in k)).used 0;
           }
-      go true e = rw e
-      go false e = ap (λ (x : Passed). record { taken = x.taken; queue = []; refusal = thirteen x.used 0 }) (sym (pass-none R U n))
+      go true f e = rw (e, run-buckets k f)
+      go false f e =
+          rw (run_none k f) (ap (λ (x : Passed). record { taken = x.taken; queue = []; refusal = thirteen x.used 0 }) (sym (pass-none R U n)))
 
   -- refusal 12, 13, or another
   abbrev refusal_by : Bool → Bool → ℕ → ℕ
@@ -133,23 +135,14 @@ module _ (R U : Bucket → Bool) (k : Key) (n : ℕ) (from : Walked) (before aft
       go false d = let w : ◌≡◌ {A = ℕ} 0 1 = cc in absurd (omega arith)
 
   -- another key
-  module _
-      (M N : List ℕ) (m : Marks M R) (u : Marks N U) (end : end_in_range k ≡ true) (inside : began_early k ≡ false) (most : from.count ≤ n)
-      (x : Run) (f : x ≡ run_in k) where
+  module _ (inside : began_early k ≡ false) (most : from.count ≤ n) where
     abbrev p : Passed
     p = pass_if R U k (n - from.count) (run_in k)
 
-    same-pass : pass (marked M) (marked N) (n - from.count) (buckets_up_to x.start x.end) ≡ p
-    same-pass =
-        ap (λ (y : Run). pass (marked M) (marked N) (n - from.count) (buckets_up_to y.start y.end)) f
-        ∙ pass-agree (marked M) (marked N) R U m.told u.told (n - from.count) (run_in k).start (run_in k).end (run_end k end)
-
-    pub key-walked : (r : Walked)
-        → WalkEnded (pass (marked M) (marked N) (n - from.count) (buckets_up_to x.start x.end)) from.count before after r.refusal r.count r.left
-        → r.passed ≡ from.passed + 1 → WalkIs n (k ∷ []) (key_walk R U (n - from.count) k) from before after r
+    pub key-walked : (r : Walked) → WalkEnded p from.count before after r.refusal r.count r.left → r.passed ≡ from.passed + 1
+        → WalkIs n (k ∷ []) (key_walk R U (n - from.count) k) from before after r
     unfolding queue_of
-    key-walked r g h =
-        let e : WalkEnded p from.count before after r.refusal r.count r.left = rw same-pass at g in
+    key-walked r e h =
         let w = sym (key-is R U k (n - from.count) inside) in
         record {
           refusal = e.used ∙ ap (λ (y : calls.Walked). y.refusal) w;
@@ -163,10 +156,38 @@ module _ (R U : Bucket → Bool) (k : Key) (n : ℕ) (from : Walked) (before aft
                 short =
                     λ l.
                     e.rest
-                    ∙ pass-left R U (n - from.count) (buckets_up_to (run_in k).start (run_in k).end)
-                    (λ y. omega (arith, most, l, y, e.many, pass-sum R U (n - from.count) (buckets_up_to (run_in k).start (run_in k).end)));
+                    ∙ pass-left R U (n - from.count) (run_buckets (run_in k))
+                    (λ y. omega (arith, most, l, y, e.many, pass-sum R U (n - from.count) (run_buckets (run_in k))));
               };
         }
+
+    -- a run, by the tables
+    pub key-run :
+        {M N : List ℕ} {x : Run} → run_in k ≡ Some x → end_in_range k ≡ true → Marks M R → Marks N U → (r : Walked)
+        → WalkEnded (pass (marked M) (marked N) (n - from.count) (buckets_up_to x.start x.end)) from.count before after r.refusal r.count r.left
+        → r.passed ≡ from.passed + 1 → WalkIs n (k ∷ []) (key_walk R U (n - from.count) k) from before after r
+    key-run {M} {N} {x} f end m u r e =
+        let s : pass (marked M) (marked N) (n - from.count) (buckets_up_to x.start x.end) ≡ p =
+        pass-agree (marked M) (marked N) R U m.told u.told (n - from.count) x.start x.end (run_end k x f end)
+        ∙ sym (ap (pass_if R U k (n - from.count)) f) in
+        key-walked r (rw s at e)
+
+-- a key with no bucket
+pub key-alone :
+    (R U : Bucket → Bool) (k : Key) (n : ℕ) (from : Walked) (table : List ℕ) → began_early k ≡ false → from.count ≤ n → run_in k ≡ None
+    → WalkIs n (k ∷ []) (key_walk R U (n - from.count) k) from table table
+    (record { refusal = 0; count = from.count; passed = from.passed + 1; left = 0 })
+key-alone R U k n from table inside most f =
+    let s : pass_if R U k (n - from.count) (run_in k) ≡ record { taken = []; left = 0; need = n - from.count; used = false } =
+    ap (pass_if R U k (n - from.count)) f ∙ pass-none R U (n - from.count) in
+    key-walked R U k n from table table inside most _
+    (record {
+      taken = sym (append-nil (buckets_in (take from.count table))) ∙ ap (λ (x : Passed). buckets_in (take from.count table) ++ x.taken) (sym s);
+      many = omega (arith, ap (λ (x : Passed). length x.taken) s);
+      rest = ap (λ (x : Passed). x.left) (sym s);
+      used = ap (λ (x : Passed). thirteen x.used 0) (sym s);
+    })
+    refl
 
 -- ---- the keys queued, one key more
 no-left : (j : ℕ) → left_of j 0 ≡ 0

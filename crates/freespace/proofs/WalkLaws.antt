@@ -12,6 +12,7 @@ use Rattle.wire.specs.declared.kinds.Bucket.{Bucket}
 use lib.Dec.{leb}
 use borrow.Author.Tests.{lt-ltb, leb-true, leb-false}
 use Rattle.calls.specs.Freespace.{Passed, pass}
+use Rattle.freespace.specs.Walks.{thirteen, WalkEnded}
 
 -- the buckets of a run from one on
 pub up-to-next : (b end : Bucket) → b.0 < end.0 → buckets_up_to b end ≡ b ∷ buckets_up_to (next_bucket b) end
@@ -96,10 +97,6 @@ module _ (R U S W : Bucket → Bool) (r : (b : Bucket) → bucket_in_range b ≡
           let l = leb-false start.0 end.0 e in
           rw (up-to-none start end (omega arith)) (pass-none R U need ∙ sym (pass-none S W need))
 
--- refusal 13 where a used bucket was met, else another number
-abbrev pub thirteen : Bool → ℕ → ℕ
-thirteen used other = cond used 13 other
-
 thirteen-or : (a b : Bool) (n : ℕ) → thirteen b (thirteen a n) ≡ thirteen (a || b) n
 thirteen-or true true n = refl
 thirteen-or true false n = refl
@@ -113,13 +110,6 @@ pub record Ahead (R U : Bucket → Bool) (p : Passed) (n from : ℕ) (before : L
   pub many : count + length (pass R U (n - count) (buckets_up_to b end)).taken ≡ from + length p.taken
   pub left : (pass R U (n - count) (buckets_up_to b end)).left ≡ p.left
   pub used : thirteen (pass R U (n - count) (buckets_up_to b end)).used refusal ≡ thirteen p.used 0
-
--- what the walk of a run gives
-pub record WalkEnded (p : Passed) (from : ℕ) (before after : List ℕ) (refusal count left : ℕ) : Type 0 where
-  pub taken : buckets_in (take count after) ≡ buckets_in (take from before) ++ p.taken
-  pub many : count ≡ from + length p.taken
-  pub rest : left ≡ p.left
-  pub used : refusal ≡ thirteen p.used 0
 
 module _ (R U : Bucket → Bool) {p : Passed} {n from : ℕ} {before : List ℕ} {end b : Bucket} {count refusal : ℕ} {table : List ℕ} (a : Ahead R U p n from before end b count refusal table) where
   abbrev rest : Passed
@@ -182,20 +172,6 @@ module _ (R U : Bucket → Bool) {p : Passed} {n from : ℕ} {before : List ℕ}
 
   pub ahead-done : end.0 ≤ b.0 → WalkEnded p from before table refusal count 0
   ahead-done h = ended 0 (ap (pass R U (n - count)) (up-to-none b end h) ∙ pass-none R U (n - count))
-
--- the first bucket of a run
-pub ahead-start :
-    (R U : Bucket → Bool) (n from : ℕ) (before : List ℕ) (end b : Bucket) → from ≤ n
-    → Ahead R U (pass R U (n - from) (buckets_up_to b end)) n from before end b from 0 before
-ahead-start R U n from before end b h =
-    record { most = h; size = refl; taken = refl; many = refl; left = refl; used = refl }
-
--- the same of equal values, as the loop has them
-pub ahead-at :
-    {R U : Bucket → Bool} {p : Passed} {n from : ℕ} {before : List ℕ} {end b c : Bucket} {count many refusal met : ℕ} {table next : List ℕ}
-    → c ≡ b → many ≡ count → met ≡ refusal → next ≡ table → Ahead R U p n from before end b count refusal table
-    → Ahead R U p n from before end c many met next
-ahead-at e f g h a = rw (e, f, g, h) a
 
 -- the refusal after one bucket more
 pub met-one : (n : ℕ) {t : Bool} → t ≡ true → 13 ≡ thirteen t n

@@ -1,7 +1,7 @@
 -- A run as the code holds it, and the reserved buckets below one.
-use Rattle.std.specs.Prelude.{ℕ, Bool, ◌&&◌, cond, List, length}
+use Rattle.std.specs.Prelude.{ℕ, Bool, ◌&&◌, cond, Option, None, Some, List, length}
 use Rattle.wire.specs.Keys.{Key}
-use Rattle.wire.specs.Kinds.{bucket_below, began_before, no_bucket}
+use Rattle.wire.specs.Kinds.{bucket_below, began_before}
 use Rattle.wire.specs.declared.kinds.Bucket.{Bucket}
 use Rattle.calls.specs.Lists.{those}
 use Rattle.calls.specs.Limits.{is_run}
@@ -12,10 +12,10 @@ use Rattle.freespace.specs.declared.runs.Run.{Run}
 unfoldable pub began_early : Key → Bool
 began_early k = is_run k && began_before (end_of k) k.size
 
--- the buckets that a key covers: none where it is no run
-unfoldable pub run_in : Key → Run
+-- the buckets that a key covers: none where it is no run, or an empty one
+unfoldable pub run_in : Key → Option Run
 run_in k =
-    cond (is_run k) (record { start = start_of k; end = end_of k }) (record { start = no_bucket; end = no_bucket })
+    cond (is_run k && bucket_below (start_of k) (end_of k)) (Some (record { start = start_of k; end = end_of k })) None
 
 -- how many of a list's buckets are below one
 unfoldable pub count_below : Bucket → List Bucket → ℕ

@@ -28,6 +28,17 @@ pub record Walkable (s : List ℕ) (at : ℕ) (reserved used : List ℕ) (n : �
   pub room : n ≤ length table
   pub few : from.passed < 2 ^ 63
 
+-- refusal 13 where a used bucket was met, else another number
+abbrev pub thirteen : Bool → ℕ → ℕ
+thirteen used other = cond used 13 other
+
+-- what the walk of a run's buckets gives
+pub record WalkEnded (p : calls.Passed) (from : ℕ) (before after : List ℕ) (refusal count left : ℕ) : Type 0 where
+  pub taken : buckets_in (take count after) ≡ buckets_in (take from before) ++ p.taken
+  pub many : count ≡ from + length p.taken
+  pub rest : left ≡ p.left
+  pub used : refusal ≡ thirteen p.used 0
+
 -- what the walk makes of one key: nothing where it is no run
 unfoldable pub key_walk : (Bucket → Bool) → (Bucket → Bool) → ℕ → Key → calls.Walked
 key_walk reserved used need k =

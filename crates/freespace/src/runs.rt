@@ -24,38 +24,30 @@ pub fn is_run(s: &[u8], at: usize) -> bool
     requires { Whole s.now at }
     ensures { result ≡ is_run (key_here s.now at) }
 {
-    if key::type_at(s, at) != 25 {
-        return false;
-    }
-    key::pos_at(s, at).inode == 0
+    key::type_at(s, at) == 25 && key::pos_at(s, at).inode == 0
 }
 
 // Whether it is one that began before bucket 0.
+#[tactic(auto, unfolding(crate::specs::Runs::began_early))]
 pub fn began_early(s: &[u8], at: usize) -> bool
     requires { Whole s.now at }
     ensures { result ≡ began_early (key_here s.now at) }
 {
-    if !is_run(s, at) {
-        return false;
-    }
-    kinds::began_before(key::bucket_at(s, at), key::size_at(s, at))
+    is_run(s, at) && kinds::began_before(key::bucket_at(s, at), key::size_at(s, at))
 }
 
-// The run at a place, or none where the key there is no run.
-pub fn run_of(s: &[u8], at: usize) -> Run
+// The run at a place: none where the key there is no run, or an empty one.
+#[tactic(auto, unfolding(crate::specs::Runs::run_in))]
+pub fn run_of(s: &[u8], at: usize) -> Option<Run>
     requires { Whole s.now at }
     ensures { result ≡ run_in (key_here s.now at) }
 {
-    if !is_run(s, at) {
-        return Run {
-            start: Bucket(0),
-            end: Bucket(0),
-        };
-    }
     let end = key::bucket_at(s, at);
-    Run {
-        start: kinds::run_start(end, key::size_at(s, at)),
-        end,
+    let start = kinds::run_start(end, key::size_at(s, at));
+    if is_run(s, at) && start < end {
+        Some(Run { start, end })
+    } else {
+        None
     }
 }
 
@@ -65,18 +57,13 @@ pub fn overlaps(s: &[u8], runs: &[u32]) -> bool
     ensures { result ≡ overlaps (runs_of (read_volume s.now).trees.freespace) }
 {
     let mut last = Bucket(0);
-    let mut i: usize = 0;
-    while i < runs.len() {
-        let r = run_of(s, runs[i] as usize);
-        let start = r.start;
-        let end = r.end;
-        if kinds::bucket_below(start, end) {
-            if kinds::bucket_below(start, last) {
+    for at in runs {
+        if let Some(run) = run_of(s, *at as usize) {
+            if run.start < last {
                 return true;
             }
-            last = end;
+            last = run.end;
         }
-        i += 1;
     }
     false
 }
@@ -86,14 +73,12 @@ fn reserved_below(s: &[u8], reserved: &[u32], from: usize, b: Bucket) -> usize
     requires { Checked s.now × BucketsAt s.now reserved.now (read_volume s.now).reserved × (from ≤ count_below b (read_volume s.now).reserved) }
     ensures { result ≡ count_below b (read_volume s.now).reserved }
 {
-    let mut i = from;
-    while i < reserved.len() {
-        if !kinds::bucket_below(kinds::read_bucket(s, reserved[i] as usize), b) {
+    for i in from..reserved.len() {
+        if kinds::read_bucket(s, reserved[i] as usize) >= b {
             return i;
         }
-        i += 1;
     }
-    i
+    reserved.len()
 }
 
 // How many unreserved buckets the runs have: their sizes, less the reserved buckets in them. Refusal 10 shows that no two overlap.
@@ -102,18 +87,13 @@ pub fn free_count(s: &[u8], runs: &[u32], reserved: &[u32]) -> u64
     ensures { result ≡ free_count (is_in (read_volume s.now).reserved) (runs_of (read_volume s.now).trees.freespace) }
 {
     let mut free: u64 = 0;
-    let mut j: usize = 0;
-    let mut i: usize = 0;
-    while i < runs.len() {
-        let r = run_of(s, runs[i] as usize);
-        let start = r.start;
-        let end = r.end;
-        if kinds::bucket_below(start, end) {
-            let from = reserved_below(s, reserved, j, start);
-            j = reserved_below(s, reserved, from, end);
-            free += kinds::buckets_between(start, end) as u64 - (j - from) as u64;
+    let mut below: usize = 0;
+    for at in runs {
+        if let Some(run) = run_of(s, *at as usize) {
+            let from = reserved_below(s, reserved, below, run.start);
+            below = reserved_below(s, reserved, from, run.end);
+            free += kinds::buckets_between(run.start, run.end) as u64 - (below - from) as u64;
         }
-        i += 1;
     }
     free
 }

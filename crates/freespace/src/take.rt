@@ -1,17 +1,19 @@
 // The walk over the runs of free buckets: refusals 12 and 13, the buckets taken and the keys queued.
-ghost use Rattle.std.specs.Prelude.{◌≡◌, false, [], ◌∷◌, ◌-◌, ◌≤◌, length, take};
+ghost use Rattle.std.specs.Prelude.{◌≡◌, [], ◌∷◌, ◌+◌, ◌-◌, ◌≤◌, ◌<◌, ◌^◌, length, take};
+ghost use Rattle.wire.specs.Kinds.{buckets_up_to};
 ghost use Rattle.calls.specs.Answers.{read_volume};
-ghost use Rattle.calls.specs.Freespace.{is_in, is_used, runs_of, walk};
+ghost use Rattle.calls.specs.Freespace.{is_in, is_used, runs_of, pass, walk};
 ghost use Rattle.reader.specs.KeyHere.{key_here};
 ghost use Rattle.reader.specs.Located.{KeysAt, BucketsAt};
-ghost use Rattle.bucket_bits.specs.Bits.{Tables};
+ghost use Rattle.bucket_bits.specs.Bits.{marked, Tables};
 ghost use Rattle.reader.specs.Checked.{Checked};
-ghost use Rattle.freespace.specs.Runs.{began_early};
-ghost use Rattle.freespace.specs.Walks.{Walkable, key_walk, unwalked, stopped, WalkIs};
+ghost use Rattle.freespace.specs.Walks.{Walkable, key_walk, unwalked, stopped, WalkEnded, WalkIs};
 
 use crate::runs;
+use crate::runs::Run;
 use bucket_bits::marks;
 use wire::kinds;
+use wire::kinds::Bucket;
 
 // What the walk makes, so far or in the end.
 #[derive(Clone, Copy, Drop)]
@@ -38,28 +40,26 @@ pub fn stopped(refusal: u32) -> Walked
     }
 }
 
-// Walks the run at a place, which began at bucket 0 or later, until n buckets are taken.
+// Walks a run until n buckets are taken. `walk_key` shows what is asked.
 fn walk_run(
-    s: &[u8],
-    at: usize,
+    run: Run,
     reserved: &[u8; 8192],
     used: &[u8; 8192],
     n: usize,
     from: Walked,
     taken: &mut [u64],
 ) -> Walked
-    requires { Walkable s.now at reserved.now used.now n from taken.old × (began_early (key_here s.now at) ≡ false) }
-    ensures { WalkIs n (key_here s.now at ∷ []) (key_walk (is_in (read_volume s.now).reserved) (is_used (read_volume s.now).trees.alloc) (n - from.count) (key_here s.now at)) from taken.old taken.new result }
+    requires { (run.end.0 ≤ 65536) × (from.count ≤ n) × (n ≤ length taken.old) × (from.passed < 2 ^ 63) }
+    ensures walked { WalkEnded (pass (marked reserved.now) (marked used.now) (n - from.count) (buckets_up_to run.start run.end)) from.count taken.old taken.new result.refusal result.count result.left }
+    ensures passed { result.passed ≡ from.passed + 1 }
 {
-    let r = runs::run_of(s, at);
-    let end = r.end;
     let passed = from.passed + 1;
-    let mut b = r.start;
     let mut count = from.count;
     let mut refusal: u32 = 0;
-    while kinds::bucket_below(b, end) {
+    for number in run.start.0..run.end.0 {
+        let b = Bucket(number);
         if count == n {
-            let left = kinds::buckets_between(b, end);
+            let left = kinds::buckets_between(b, run.end);
             return Walked {
                 refusal,
                 count,
@@ -71,10 +71,9 @@ fn walk_run(
             if marks::is_marked(used, b) {
                 refusal = 13;
             }
-            taken[count] = b.0;
+            taken[count] = number;
             count += 1;
         }
-        b = kinds::next_bucket(b);
     }
     Walked {
         refusal,
@@ -84,7 +83,7 @@ fn walk_run(
     }
 }
 
-// Walks one key, if it is a run. `take_buckets` shows what is asked, here and above.
+// Walks one key, if it is a run. `take_buckets` shows what is asked.
 fn walk_key(
     s: &[u8],
     at: usize,
@@ -100,7 +99,15 @@ fn walk_key(
     if runs::began_early(s, at) {
         return stopped(12);
     }
-    walk_run(s, at, reserved, used, n, from, taken)
+    match runs::run_of(s, at) {
+        Some(run) => walk_run(run, reserved, used, n, from, taken),
+        None => Walked {
+            refusal: 0,
+            count: from.count,
+            passed: from.passed + 1,
+            left: 0,
+        },
+    }
 }
 
 // Takes n buckets from the runs, in their order. Refusals 2 and 3, the reader, the lent table, `mark_reserved` and `mark_used` show the rest.
@@ -116,12 +123,11 @@ pub fn take_buckets(
     ensures { WalkIs n (take result.passed (read_volume s.now).trees.freespace) (walk (is_in (read_volume s.now).reserved) (is_used (read_volume s.now).trees.alloc) n (runs_of (read_volume s.now).trees.freespace)) unwalked taken.old taken.new result }
 {
     let mut w = stopped(0);
-    while w.passed < runs.len() {
+    for at in runs {
         if w.count == n {
             return w;
         }
-        let i = w.passed;
-        w = walk_key(s, runs[i] as usize, reserved, used, n, w, taken);
+        w = walk_key(s, *at as usize, reserved, used, n, w, taken);
         if w.refusal != 0 {
             return w;
         }

@@ -1,12 +1,11 @@
 -- What a queue of keys makes of sorted keys, as the code goes about it: the queue's last key at each position, in order, some at a time.
-use Rattle.std.specs.Prelude.{Bool, true, false, cond, List, [], ◌∷◌, ◌++◌, eqb}
+use Rattle.std.specs.Prelude.{Bool, cond, List, [], ◌∷◌, ◌++◌, eqb}
 use Rattle.wire.specs.Keys.{Key}
 use Rattle.wire.specs.Order.{cmp, pos_less}
 use Rattle.wire.specs.declared.bpos.Bpos.{Bpos}
 use Rattle.calls.specs.Lists.{in_order}
 use Rattle.calls.specs.Trees.{on_eq, upsert}
-use Rattle.sorting.specs.declared.bound.Bound.{Bound}
-use Rattle.sorting.specs.Bounds.{over, under}
+use Rattle.sorting.specs.Bounds.{Bound, upper, over, under}
 
 -- keys ascend strictly
 unfoldable pub ascending : List Key → Bool
@@ -43,24 +42,14 @@ skip_at p (x ∷ xs) = on_eq (cmp p x.pos) xs (x ∷ xs)
 unfoldable pub shown : Key → List Key
 shown k = cond (eqb k.type 0) [] (k ∷ [])
 
--- those below a position, and all
-abbrev pub up_to : Bpos → Bound
-up_to p = record { any = true; pos = p }
-
-abbrev pub all : Bpos → Bound
-all p = record { any = false; pos = p }
-
-abbrev pub unbounded : Bound
-unbounded = all (record { inode = 0; offset = 0; snapshot = 0 })
-
 -- what sorted keys g of a queue make of the front of sorted keys, and what is left after the last of them
 unfoldable pub front : List Key → List Key → List Key
 front [] l = []
-front (k ∷ g) l = below (up_to k.pos) l ++ (shown k ++ front g (skip_at k.pos (beyond (up_to k.pos) l)))
+front (k ∷ g) l = below (upper k.pos) l ++ (shown k ++ front g (skip_at k.pos (beyond (upper k.pos) l)))
 
 unfoldable pub back : List Key → List Key → List Key
 back [] l = l
-back (k ∷ g) l = back g (skip_at k.pos (beyond (up_to k.pos) l))
+back (k ∷ g) l = back g (skip_at k.pos (beyond (upper k.pos) l))
 
 -- what one queued key makes of those gathered so far
 unfoldable pub considered : Bound → Key → List Key → List Key

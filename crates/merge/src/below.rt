@@ -1,108 +1,139 @@
-// The volume's keys of a section, by their places: those below a limit are written, and one at a position is passed.
-ghost use Rattle.std.specs.Prelude.{◌≡◌, ◌+◌, ◌≤◌, ◌<◌, length, get_or};
+// The keys of a section in the volume, by their places: those below a limit are written, and one at a position is passed.
+ghost use Rattle.std.specs.Prelude.{◌≡◌, ◌+◌, ◌≤◌, ◌<◌, ℕ, length, get_or};
 ghost use Rattle.wire.specs.Bytes.{All};
-ghost use Rattle.merge.specs.Queues.{below, beyond};
+ghost use Rattle.sorting.specs.EntryPlaces.{entries_at};
+ghost use Rattle.merge.specs.Queues.{below, beyond, skip_at};
 ghost use Rattle.merge.specs.Counts.{StandsWithin};
-ghost use Rattle.merge.specs.Merging.{keys_from, Stretched, PositionSkipped, Put};
+ghost use Rattle.merge.specs.Merging.{Left, left_in, Stretched, Put, Counted};
 
 use crate::limits;
 use sorting::bound::Bound;
 use sorting::{bound, entries};
+use std::marker::Model;
 use wire::bpos::Bpos;
-use wire::{bpos, emit, fields};
+use wire::output::Output;
+use wire::{bpos, fields};
 
-// A place in the output, an index into the table of the volume's keys, and how many keys were written so far, as `limits` counts.
-#[derive(Clone, Copy, Drop)]
-pub struct Cursor {
-    pub p: usize,
-    pub at: usize,
-    pub count: usize,
-}
-
-// Neighbouring fields of the volume: the index after their last, where that one ends, and the count up to it.
+// Neighbouring fields of the volume: how many they are, where the last of them ends, and the count up to it.
 #[derive(Clone, Copy, Drop)]
 pub struct Stretch {
-    pub next: usize,
+    pub n: usize,
     pub end: usize,
     pub count: usize,
 }
 
-// The volume's keys from an index on that stand side by side from a place on, as far as they are below the limit. The table shows that they are keys, and refusal 3 that each is within its limits.
+// What is left of the keys of a section, by their places in the volume, and how many keys were written so far, as `limits` counts.
+#[derive(Drop)]
+pub struct Rest<'a> {
+    section: u8,
+    vol: &'a [u8],
+    keys: &'a [u32],
+    count: usize,
+}
+
+// It is seen as the keys themselves. Each is within its limits.
+impl<'a> Model for Rest<'a> {
+    ghost Value = { Left };
+
+    ghost view = { λ r. left_in r.section r.vol.now r.keys.now r.count };
+
+    ghost invariant = { λ r. All (StandsWithin r.section r.vol.now) r.keys.now };
+}
+
+// Keys that stand side by side from a place on, as far as they are below the limit. The table shows that they are keys, and refusal 3 that each is within its limits.
 fn pass_below(
     vol: &[u8],
     keys: &[u32],
-    i: usize,
     start: usize,
     counted: usize,
     section: u8,
     lim: Bound,
 ) -> Stretch
-    requires { All (StandsWithin section vol.now) keys.now × (i < length keys.now) × (start + 3 ≡ get_or keys.now i 0) }
-    ensures { Stretched section vol.now keys.now i start counted lim result }
+    requires { All (StandsWithin section vol.now) keys.now × (0 < length keys.now) × (start + 3 ≡ get_or keys.now 0 0) }
+    ensures { Stretched section vol.now keys.now start counted lim result }
 {
-    let mut next = i;
     let mut end = start;
     let mut count = counted;
-    while next < keys.len() {
-        let o = keys[next] as usize;
-        if o != end + 3 {
-            return Stretch { next, end, count };
-        }
-        let x = entries::pos_at(vol, o, section);
-        if !bound::is_under(lim, x) {
-            return Stretch { next, end, count };
+    for n in 0..keys.len() {
+        let o = keys[n] as usize;
+        if o != end + 3 || !bound::is_under(lim, entries::pos_at(vol, o, section)) {
+            return Stretch { n, end, count };
         }
         count = limits::add_within(count);
         end = o + fields::len_at(vol, o);
-        next += 1;
     }
-    Stretch { next, end, count }
+    Stretch {
+        n: keys.len(),
+        end,
+        count,
+    }
 }
 
-// The volume's keys below the limit, neighbours as one stretch.
-pub fn put_below(
-    out: &mut [u8],
-    vol: &[u8],
-    keys: &[u32],
-    from: Cursor,
-    section: u8,
-    lim: Bound,
-) -> Cursor
-    requires { All (StandsWithin section vol.now) keys.now × (from.at ≤ length keys.now) }
-    ensures { Put section out.old vol.now keys.now from (below lim (keys_from section vol.now keys.now from.at)) (beyond lim (keys_from section vol.now keys.now from.at)) out.new result }
-{
-    let mut at = from;
-    while at.at < keys.len() {
-        let i = at.at;
-        let start = keys[i] as usize - 3;
-        let s = pass_below(vol, keys, i, start, at.count, section, lim);
-        if s.next == i {
-            return at;
+impl<'a> Rest<'a> {
+    // All keys of a section, by the table of the volume.
+    pub fn new(section: u8, vol: &'a [u8], keys: &'a [u32]) -> Rest<'a>
+        requires { All (StandsWithin section vol.now) keys.now }
+        ensures { result ≡ left_in section vol.now keys.now 0 }
+    {
+        Rest {
+            section,
+            vol,
+            keys,
+            count: 0,
         }
-        let p = emit::put_bytes(out, at.p, vol, start, s.end - start);
-        at = Cursor {
-            p,
-            at: s.next,
-            count: s.count,
-        };
     }
-    at
-}
 
-// Past the volume's next key, if it is at pos.
-pub fn skip_at(vol: &[u8], keys: &[u32], at: usize, section: u8, pos: Bpos) -> usize
-    requires { All (StandsWithin section vol.now) keys.now × (at ≤ length keys.now) }
-    ensures { PositionSkipped section vol.now keys.now at pos result }
-{
-    if keys.len() <= at {
-        return at;
+    // The section.
+    pub fn section(&self) -> u8
+        ensures { result ≡ self.now.section }
+    {
+        self.section
     }
-    let x = entries::pos_at(vol, keys[at] as usize, section);
-    if bpos::pos_less(pos, x) {
-        return at;
+
+    // How many keys were written.
+    pub fn count(&self) -> usize
+        ensures { result ≡ self.now.count }
+    {
+        self.count
     }
-    if bpos::pos_less(x, pos) {
-        return at;
+
+    // Writes the keys below the limit, neighbours as one stretch.
+    pub fn put_below(&mut self, out: &mut Output, lim: Bound)
+        ensures { Put out.old self.old (below lim self.old.keys) (beyond lim self.old.keys) out.new self.new }
+    {
+        while let [first, ..] = self.keys {
+            let start = *first as usize - 3;
+            let s = pass_below(self.vol, self.keys, start, self.count, self.section, lim);
+            if s.n == 0 {
+                return;
+            }
+            out.put_slice(&self.vol[start..s.end]);
+            self.keys = &self.keys[s.n..];
+            self.count = s.count;
+        }
     }
-    at + 1
+
+    // Passes the next key, if it is at pos.
+    pub fn skip_at(&mut self, pos: Bpos)
+        ensures { self.new ≡ record self.old { keys = skip_at pos self.old.keys } }
+    {
+        let [first, others @ ..] = self.keys else {
+            return;
+        };
+        if bpos::pos_same(
+            pos,
+            entries::pos_at(self.vol, *first as usize, self.section),
+        ) {
+            self.keys = others;
+        }
+    }
+
+    // Counts a queued key, unless it is a deletion.
+    pub fn add_shown(&mut self, ty: u8, pos: Bpos)
+        ensures { Counted self.old ty pos self.new }
+    {
+        if ty != 0 {
+            self.count = limits::add(self.count, self.section, ty, pos);
+        }
+    }
 }

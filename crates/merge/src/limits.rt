@@ -6,53 +6,35 @@ use wire::bpos::Bpos;
 use wire::{kinds, positions};
 
 // Whether a key of a section is within FORMAT.md's limits.
+#[tactic(auto, unfolding(crate::specs::Counts::key_fits))]
 fn key_fits(section: u8, ty: u8, pos: Bpos) -> bool
     ensures { result ≡ key_fits section ty pos }
 {
     let b = positions::bucket_in(pos);
-    if section == 64 {
-        return kinds::bucket_in_range(b);
+    match section {
+        64 => kinds::bucket_in_range(b),
+        4 => pos.inode != 0 || kinds::bucket_in_range(b),
+        12 => ty != 25 || kinds::bucket_in_range(b),
+        11 => ty != 25 || pos.inode != 0 || kinds::run_end_in_range(b),
+        _ => true,
     }
-    if section == 4 {
-        if pos.inode != 0 {
-            return true;
-        }
-        return kinds::bucket_in_range(b);
-    }
-    if section == 12 {
-        if ty != 25 {
-            return true;
-        }
-        return kinds::bucket_in_range(b);
-    }
-    if section != 11 {
-        return true;
-    }
-    if ty != 25 {
-        return true;
-    }
-    if pos.inode != 0 {
-        return true;
-    }
-    kinds::run_end_in_range(b)
 }
 
 // One key more that is within its limits, counted up to 4,097.
 pub fn add_within(count: usize) -> usize
     ensures { min result 4097 ≡ min (count + 1) 4097 }
 {
-    if 4096 < count {
-        return count;
-    }
-    count + 1
+    count.min(4096) + 1
 }
 
 // One key more, counted up to 4,097.
+#[tactic(auto, unfolding(crate::specs::Counts::count_of))]
 pub fn add(count: usize, section: u8, ty: u8, pos: Bpos) -> usize
     ensures { min result 4097 ≡ min (count + count_of section ty pos) 4097 }
 {
     if key_fits(section, ty, pos) {
-        return add_within(count);
+        add_within(count)
+    } else {
+        4097
     }
-    4097
 }

@@ -1,6 +1,6 @@
 -- Refusals 4 to 13, one after the other, and what they tell where none is met.
-use mathlib.Core.Path.{◌≡◌, ap, sym, ◌∙◌}
-use mathlib.Core.Bool.{Bool, true, false, not, ◌&&◌, ◌||◌}
+use mathlib.Core.Path.{◌≡◌, refl, ap, sym, ◌∙◌}
+use mathlib.Core.Bool.{Bool, true, false, not, ◌&&◌, ◌||◌, cond}
 use mathlib.Core.List.{List, [], ◌∷◌}
 use Prim.Native.Nat.{ℕ, ◌≤◌, ◌<◌}
 use native.Mathlib.Omega.{arith}
@@ -8,7 +8,6 @@ use lib.Dec.{leb, eqb}
 use lib.ListN.{take}
 use borrow.Author.Tests.{eqb-false, leb-true, not-true}
 use Rattle.calls.specs.Lists.{all_of}
-use Rattle.calls.specs.CallList as calls
 use Rattle.calls.specs.CallList.{CallList}
 use Rattle.calls.specs.Freespace.{is_in, runs_of, overlaps, free_count, wanted}
 use Rattle.calls.specs.Pieces.{buckets_needed, kind_listed, block_of, divides, piece_sized}
@@ -18,36 +17,37 @@ use Rattle.calls.proofs.answers.RefusalLaws.{verdict-ok, verdict-front, verdict-
 use Rattle.reader.specs.Heads.{head_in}
 use Rattle.reader.specs.declared.head.Head.{Head}
 
--- ---- 4 to 9: the tests from one on, by the head that the code holds
+-- ---- 4 to 9
+-- the first of six tests that fails
+six-tests : (a b c d e f : Bool) → verdict (test 4 a ∷ test 5 b ∷ test 6 c ∷ test 7 d ∷ test 8 e ∷ test 9 f ∷ [])
+    ≡ cond a (cond b (cond c (cond d (cond e (cond f 0 9) 8) 7) 6) 5) 4
+unfolding verdict
+six-tests false b c d e f = refl
+six-tests true false c d e f = refl
+six-tests true true false d e f = refl
+six-tests true true true false e f = refl
+six-tests true true true true false f = refl
+six-tests true true true true true false = refl
+six-tests true true true true true true = refl
+
+-- which of refusals 4 to 9 is met, by the head that the code holds
+abbrev pub first_refusal : CallList → Head → ℕ
+first_refusal c h =
+    let block = block_of h.block_sectors in
+    cond (not (eqb h.bucket_sectors 0))
+    (cond (leb h.option 3)
+    (cond (all_of kind_listed c.pieces)
+    (cond (not (eqb h.option 0) || all_of (λ p. eqb p.kind 0) c.pieces)
+    (cond (divides block h.bucket_sectors && divides block 128)
+    (cond (all_of (piece_sized h.bucket_sectors block) c.pieces) 0 9) 8) 7) 6) 5) 4
+
+pub first_tests : (c : CallList) (h : Head) → head_in h ≡ c.volume.head → verdict (take 6 (place_tests c)) ≡ first_refusal c h
+unfolding place_tests
+first_tests c h e = rw (← e) (six-tests _ _ _ _ _ _)
+
 module _ (c : CallList) (h : Head) where
   abbrev block : ℕ
   block = block_of h.block_sectors
-
-  abbrev pub from-9 : List ℕ
-  from-9 = test 9 (all_of (piece_sized h.bucket_sectors block) c.pieces) ∷ []
-
-  abbrev pub from-8 : List ℕ
-  from-8 = test 8 (divides block h.bucket_sectors && divides block 128) ∷ from-9
-
-  abbrev pub from-7 : List ℕ
-  from-7 = test 7 (not (eqb h.option 0) || all_of (λ p. eqb p.kind 0) c.pieces) ∷ from-8
-
-  abbrev pub from-6 : List ℕ
-  from-6 = test 6 (all_of kind_listed c.pieces) ∷ from-7
-
-  abbrev pub from-5 : List ℕ
-  from-5 = test 5 (leb h.option 3) ∷ from-6
-
-  abbrev pub from-4 : List ℕ
-  from-4 = test 4 (not (eqb h.bucket_sectors 0)) ∷ from-5
-
-  pub first-tests : head_in h ≡ c.volume.head → verdict (take 6 (place_tests c)) ≡ verdict from-4
-  unfolding place_tests
-  first-tests e =
-      let b : c.volume.head.bucket_sectors ≡ h.bucket_sectors = ap (λ (x : calls.Head). x.bucket_sectors) (sym e) in
-      let k : c.volume.head.block_sectors ≡ h.block_sectors = ap (λ (x : calls.Head). x.block_sectors) (sym e) in
-      let o : c.volume.head.option ≡ h.option = ap (λ (x : calls.Head). x.option) (sym e) in
-      rw (b, k, o)
 
   -- what they tell where none is met
   pub record Asked : Type 0 where
@@ -57,8 +57,10 @@ module _ (c : CallList) (h : Head) where
     pub sizes : all_of (piece_sized h.bucket_sectors block) c.pieces ≡ true
 
   pub asked : head_in h ≡ c.volume.head → verdict (take 6 (place_tests c)) ≡ 0 → Asked
+  unfolding place_tests
   asked e z =
-      let t4 = verdict-ok _ _ (sym (first-tests e) ∙ z) in
+      let q = rw (← e) at z in
+      let t4 = verdict-ok _ _ q in
       let t5 = verdict-ok _ _ t4.1 in
       let t6 = verdict-ok _ _ t5.1 in
       let t7 = verdict-ok _ _ t6.1 in

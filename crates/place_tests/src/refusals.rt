@@ -17,6 +17,7 @@ use next_fit::needed;
 use reader::head::Head;
 
 // Refusals 4 to 9, of what is asked: the first of them, or 0. The reader shows where the pieces stand.
+#[tactic(auto, unfolding(calls::specs::Pieces::block_of))]
 fn refuse_requests(s: &[u8], h: Head, pieces: &[u32]) -> u32
     requires { PiecesAt s.now pieces.now (read_call s.now).pieces × (head_in h ≡ (read_volume s.now).head) }
     ensures { result ≡ verdict (take 6 (place_tests (read_call s.now))) }
@@ -44,6 +45,7 @@ fn refuse_requests(s: &[u8], h: Head, pieces: &[u32]) -> u32
 }
 
 // Refusal 11: whether enough buckets are free for the n that are needed. Refusals 2, 3 and 10, the reader and 1,024 pieces show what is asked.
+#[tactic(auto, unfolding(calls::specs::Freespace::wanted))]
 fn enough_free(s: &[u8], reserve: u32, runs: &[u32], reserved: &[u32], n: usize) -> bool
     requires { Checked s.now × KeysAt s.now runs.now (read_volume s.now).trees.freespace × BucketsAt s.now reserved.now (read_volume s.now).reserved × (overlaps (runs_of (read_volume s.now).trees.freespace) ≡ false) × (n ≤ 1024) }
     ensures { result ≡ leb (wanted n reserve) (free_count (is_in (read_volume s.now).reserved) (runs_of (read_volume s.now).trees.freespace)) }

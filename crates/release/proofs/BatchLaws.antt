@@ -5,12 +5,13 @@ use mathlib.Core.List.{List, [], ◌∷◌, ◌++◌, map, flat_map, append-nil}
 use Prim.Native.Nat.{ℕ, zero, suc, ◌≤◌, ◌<◌}
 use native.Mathlib.Omega.{arith}
 use lib.IntN.{pos, neg_ℤ, ◌+ℤ◌}
-use lib.ListN.{length, get_or}
+use lib.ListN.{length, get_or, length-map}
+use Rattle.std.proofs.Common.{None}
 use lib.Dec.{eqb}
 use borrow.Author.Tests.{eq-eqb, lt-ltb}
 use Rattle.wire.specs.Encode.{encode, encode_field}
 use Rattle.wire.specs.Rows.{row_field}
-use Rattle.wire.specs.Kinds.{bucket_below, buckets_in, bucket_in_range}
+use Rattle.wire.specs.Kinds.{bucket_below, bucket_in_range, same_bucket}
 use Rattle.wire.specs.Positions.{backpointer_at}
 use Rattle.wire.specs.declared.kinds.Bucket.{Bucket}
 use Rattle.wire.proofs.EncodeLaws.{encode-append, encode_one}
@@ -30,14 +31,16 @@ use Rattle.calls.proofs.lists.BoolLaws.{parts}
 use Rattle.calls.proofs.freespace.BucketLaws.{is_in-those, map-in, all_in}
 use Rattle.calls.proofs.release.ReleaseFits.{named-few}
 use Rattle.calls.proofs.release.ReleaseLaws.{named-range}
-use Rattle.calls.proofs.history.View.{bucket}
 use Rattle.release_sums.specs.Freeds.{freeds_in, PiecesBounded}
-use Rattle.release_sums.specs.Summing.{Sums, sum_of, summed_buckets, BucketsListed}
+use Rattle.release_sums.specs.Summing.{Sums, sum_of, summed_row, summed_buckets, Listed}
 use Rattle.release_sums.proofs.FoundLaws.{freed-up, found-freed}
 use Rattle.release_keys.specs.Counting.{kept_of, lost_of}
 use Rattle.change_fields.specs.FieldBytes.{keys_bytes, roots_bytes}
-use Rattle.release_keys.specs.Tables.{Unrefused, UnrefusedIn, UnrefusedAt}
-use Rattle.wire.proofs.BucketTables.{table-length}
+use Rattle.release_sums.specs.declared.sums.FreedBucket.{FreedBucket}
+use Rattle.release_keys.specs.Emptied.{emptied_row, emptied_buckets}
+use Rattle.release_keys.specs.declared.freed_buckets.Emptied.{Emptied}
+use Rattle.release_keys.specs.Tables.{no_row, buckets_of, RowsHeld, RowsWithin}
+use Rattle.release_keys.proofs.RowLaws.{rows-held, rows-within}
 use Rattle.release.specs.Outcomes.{BatchTables}
 
 -- ---- the batch
@@ -68,87 +71,109 @@ module _ (v : Volume) (rs : List Freed) where
   unfolding release_rows unused_change
   rows_are emptied n freed kept lost a b c d = rw (a, b, c, d)
 
--- ---- the emptied buckets
-pub in-at : (ns : List ℕ) (j : ℕ) → j < length ns → is_in (buckets_in ns) (bucket (get_or ns j 0)) ≡ true
-unfolding is_in any_of buckets_in
+-- ---- the rows
+-- a row's bucket is one of those of the rows
+pub in-at : (rows : List FreedBucket) (j : ℕ) → j < length rows → is_in (buckets_of rows) (get_or rows j no_row).bucket ≡ true
+unfolding is_in any_of
 in-at [] j h = absurd (omega arith)
-in-at (n ∷ ns) zero h = rw (eq-eqb n n refl)
-in-at (n ∷ ns) (suc j) h = go (eqb n (get_or ns j 0)) (in-at ns j (omega arith))
+in-at (f ∷ rows) zero h = rw (eq-eqb f.bucket.0 f.bucket.0 refl)
+in-at (f ∷ rows) (suc j) h = go (same_bucket f.bucket (get_or rows j no_row).bucket) (in-at rows j (omega arith))
   where
-    go : (t : Bool) → is_in (buckets_in ns) (bucket (get_or ns j 0)) ≡ true → (t || is_in (buckets_in ns) (bucket (get_or ns j 0))) ≡ true
+    go : (t : Bool) → is_in (buckets_of rows) (get_or rows j no_row).bucket ≡ true → (t || is_in (buckets_of rows) (get_or rows j no_row).bucket) ≡ true
     go true h = refl
     go false h = h
 
-module _ {s : List ℕ} {h : Head} {requests buckets freed places records emptied generations : List ℕ} (d : BatchTables s h requests buckets freed places records emptied generations) where
+pub emptied-named : (generation : Bucket → ℕ) (bs : List Bucket) → emptied_buckets (map (emptied_row generation) bs) ≡ bs
+emptied-named generation [] = refl
+emptied-named generation (b ∷ bs) = λ x. b ∷ emptied-named generation bs x
+
+module _ {s : List ℕ} {h : Head} {requests : List ℕ} {rows : List FreedBucket} {records : List ℕ} {emptied : List Emptied} (d : BatchTables s h requests rows records emptied) where
   abbrev rs : List Freed
   rs = freeds_in s requests
 
   pub sectors-are : d.tables.volume.head.bucket_sectors ≡ h.bucket_sectors
   sectors-are = ap (λ (x : Head). x.bucket_sectors) d.tables.head
 
-  abbrev tables-pass : Unrefused s buckets freed places
-  tables-pass = record { volume = d.tables.volume; requests = rs; tabled = d.tables.tabled; none-refuses = d.none-refuses }
+  pub batch-held : RowsHeld s rows
+  batch-held = rows-held d.tables.tabled d.none-refuses
 
-  pub tables-in : UnrefusedIn s h.bucket_sectors buckets freed places
-  tables-in = record { unrefused = tables-pass; size = sectors-are }
-
-  pub tables-at : UnrefusedAt s h.journal buckets freed places
-  tables-at = record { unrefused = tables-pass; number = ap (λ (x : Head). x.journal) d.tables.head }
+  pub batch-within : RowsWithin s h.bucket_sectors rows
+  batch-within = rw (← sectors-are) (rows-within d.tables.tabled d.none-refuses)
 
   pub tables-bounded : h.bucket_sectors < 65536 → PiecesBounded s requests
-  tables-bounded l = record { size = h.bucket_sectors; some-sectors = d.tables.summed.some-sectors; small = l; ok = d.tables.summed.checked }
+  tables-bounded l = record { size = h.bucket_sectors; some-sectors = d.tables.passed.some-sectors; small = l; ok = d.tables.passed.checked }
 
-  pub tables-few : length buckets ≤ 1024
+  pub tables-few : length rows ≤ 1024
   tables-few =
       omega (
         arith,
-        table-length buckets,
-        ap length d.tables.summed.named,
-        named-few h.bucket_sectors rs,
-        d.tables.summed.requested.count,
-        d.tables.summed.few,
+        length-map rows (λ (f : FreedBucket). f.bucket),
+        ap length d.tables.tabled.named,
+        named-few d.tables.volume.head.bucket_sectors rs,
+        d.tables.passed.requested.count,
+        d.tables.passed.few,
       )
+
+  chosen-buckets : emptied_buckets emptied ≡ those (is_emptied d.tables.volume rs) (buckets_of rows)
+  chosen-buckets = ap emptied_buckets d.chosen ∙ emptied-named (emptied_gen d.tables.volume.trees) (those (is_emptied d.tables.volume rs) (buckets_of rows))
+
+  -- each with its generation
+  pub generations-are : emptied ≡ map (emptied_row (emptied_gen d.tables.volume.trees)) (emptied_buckets emptied)
+  generations-are = d.chosen ∙ ap (map (emptied_row (emptied_gen d.tables.volume.trees))) (sym chosen-buckets)
+
+  -- as many as their buckets
+  pub emptied-count : length emptied ≡ length (emptied_buckets emptied)
+  emptied-count = sym (length-map emptied (λ (e : Emptied). e.bucket))
 
   pub emptied-few : length emptied ≤ 1024
   emptied-few =
       omega (
         arith,
-        table-length emptied,
-        table-length buckets,
-        ap length d.chosen,
-        those-length (is_emptied d.tables.volume rs) (buckets_in buckets),
+        emptied-count,
+        ap length chosen-buckets,
+        those-length (is_emptied d.tables.volume rs) (buckets_of rows),
+        length-map rows (λ (f : FreedBucket). f.bucket),
         tables-few,
       )
 
   -- as the tree's part of the batch has them
-  pub emptied-are : buckets_in emptied ≡ those (is_emptied d.tables.volume rs) (freed_buckets d.tables.volume.head.bucket_sectors rs)
-  emptied-are = d.chosen ∙ ap (those (is_emptied d.tables.volume rs)) d.tables.tabled.named
+  pub emptied-are : emptied_buckets emptied ≡ those (is_emptied d.tables.volume rs) (freed_buckets d.tables.volume.head.bucket_sectors rs)
+  emptied-are = chosen-buckets ∙ ap (those (is_emptied d.tables.volume rs)) d.tables.tabled.named
 
-  pub emptied-up : in_order bucket_below (buckets_in emptied) ≡ true
+  pub emptied-up : in_order bucket_below (emptied_buckets emptied) ≡ true
   emptied-up =
       rw emptied-are
       (up-order 0 (those (is_emptied d.tables.volume rs) (freed_buckets d.tables.volume.head.bucket_sectors rs))
       (up-those (is_emptied d.tables.volume rs) 0 (freed_buckets d.tables.volume.head.bucket_sectors rs) (freed-up d.tables.volume.head.bucket_sectors rs)))
 
-  pub emptied-low : all_of bucket_in_range (buckets_in emptied) ≡ true
+  pub emptied-low : all_of bucket_in_range (emptied_buckets emptied) ≡ true
   emptied-low =
-      let e = d.chosen ∙ ap (those (is_emptied d.tables.volume rs)) d.tables.summed.named in
-      all_in bucket_in_range (buckets_in emptied)
+      let n = d.tables.volume.head.bucket_sectors in
+      let ok : all_of (freed_ok n) rs ≡ true = rw sectors-are d.tables.passed.checked in
+      all_in bucket_in_range (emptied_buckets emptied)
       (λ b i.
-      let m = sym (is_in-those (is_emptied d.tables.volume rs) (freed_buckets h.bucket_sectors rs) b) ∙ sym (ap (λ (x : List Bucket). is_in x b) e) ∙ i in
-      lt-ltb b.0 65536 (named-range h.bucket_sectors rs d.tables.summed.checked b (parts (is_emptied d.tables.volume rs b) (is_in (freed_buckets h.bucket_sectors rs) b) m).1))
+      let m = sym (is_in-those (is_emptied d.tables.volume rs) (freed_buckets n rs) b) ∙ sym (ap (λ (x : List Bucket). is_in x b) emptied-are) ∙ i in
+      lt-ltb b.0 65536 (named-range n rs ok b (parts (is_emptied d.tables.volume rs b) (is_in (freed_buckets n rs) b) m).1))
 
 -- ---- the requests, listed
-pub listed-freed : {sectors : ℕ} {rs : List Freed} {sums buckets freed : List ℕ} {n : ℕ} → Sums sectors rs sums → all_of (freed_ok sectors) rs ≡ true
-    → BucketsListed (summed_buckets sums) (sum_of sums) buckets freed n → BucketsListed (freed_buckets sectors rs) (freed_in sectors rs) buckets freed n
+-- a row's sum
+with-sum : (f g : Bucket → ℕ) (bs : List Bucket) → map f bs ≡ map g bs → map (summed_row f) bs ≡ map (summed_row g) bs
+with-sum f g [] e = refl
+with-sum f g (b ∷ bs) e =
+    let h : f b ≡ g b = cc in
+    let t : map f bs ≡ map g bs = cc in
+    λ x. record { bucket = b; freed = h x; place = None } ∷ with-sum f g bs t x
+
+pub listed-freed : {sectors : ℕ} {rs : List Freed} {sums : List ℕ} {rows : List FreedBucket} {n : ℕ} → Sums sectors rs sums → all_of (freed_ok sectors) rs ≡ true
+    → Listed (summed_buckets sums) (summed_row (sum_of sums)) rows n → Listed (freed_buckets sectors rs) (summed_row (freed_in sectors rs)) rows n
 listed-freed {sectors} {rs} {sums} s ok l =
     let e = found-freed sectors rs sums s ok in
     record {
       count = l.count ∙ ap length e;
-      named = l.named ∙ e;
-      valued =
-          l.valued ∙ ap (map (sum_of sums)) e
-          ∙ map-in (sum_of sums) (freed_in sectors rs) (freed_buckets sectors rs) (λ b m. s.at b (lt-ltb b.0 65536 (named-range sectors rs ok b m)));
+      listed =
+          l.listed ∙ ap (map (summed_row (sum_of sums))) e
+          ∙ with-sum (sum_of sums) (freed_in sectors rs) (freed_buckets sectors rs)
+          (map-in (sum_of sums) (freed_in sectors rs) (freed_buckets sectors rs) (λ b m. s.at b (lt-ltb b.0 65536 (named-range sectors rs ok b m))));
     }
 
 -- ---- the change list
@@ -157,6 +182,6 @@ unfolding change_bytes change_fields
 one_batch b = ap encode (append-nil (batch_fields b))
 
 -- no more are picked than there are
-pub listed-short : (t : Bucket → Bool) (bs : List ℕ) {value : Bucket → ℕ} {buckets freed : List ℕ} {n : ℕ} → BucketsListed (those t (buckets_in bs)) value buckets freed n
-    → n ≤ length bs
-listed-short t bs l = omega (arith, l.count, those-length t (buckets_in bs), table-length bs)
+pub listed-short : (t : Bucket → Bool) (rows : List FreedBucket) {A : Type 0} {row : Bucket → A} {table : List A} {n : ℕ} → Listed (those t (buckets_of rows)) row table n
+    → n ≤ length rows
+listed-short t rows l = omega (arith, l.count, those-length t (buckets_of rows), length-map rows (λ (f : FreedBucket). f.bucket))

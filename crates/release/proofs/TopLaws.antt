@@ -6,7 +6,7 @@ use Prim.Native.Nat.{ℕ, zero, suc, ◌≤◌, ◌<◌}
 use native.Mathlib.Omega.{arith}
 use lib.ListN.{length, get_or, take, drop, replicate, length-map}
 use borrow.Author.Tests.{eq-eqb, ne_eqb, lt-ltb}
-use Rattle.wire.specs.Kinds.{bucket_below, buckets_in}
+use Rattle.wire.specs.Kinds.{bucket_below}
 use Rattle.wire.specs.declared.kinds.Bucket.{Bucket}
 use Rattle.calls.specs.Answers.{Answer, answer, made, outcome}
 use Rattle.calls.specs.CallList.{Head, Volume, Freed}
@@ -20,70 +20,95 @@ use Rattle.calls.proofs.release.ReleaseFits.{named-few}
 use Rattle.calls.proofs.release.ReleaseLaws.{named-range}
 use Rattle.calls.proofs.history.View.{bucket}
 use Rattle.release_sums.specs.Freeds.{freeds_in, Requested}
-use Rattle.release_sums.specs.Summing.{Cleared, BucketsListed}
+use Rattle.release_sums.specs.Summing.{Cleared, Listed, summed_row}
 use Rattle.release_sums.proofs.FoundLaws.{freed-up}
-use Rattle.release_keys.specs.Tables.{PlacesOf, FreedTables, Unrefused}
-use Rattle.release_keys.proofs.GenRecordLaws.{generation-at}
-use Rattle.wire.proofs.BucketTables.{table_at, table-length}
+use Rattle.release_sums.specs.declared.sums.FreedBucket.{FreedBucket}
+use Rattle.release_keys.specs.Emptied.{emptied_row}
+use Rattle.release_keys.specs.declared.freed_buckets.Emptied.{Emptied}
+use Rattle.release_keys.specs.Tables.{no_row, buckets_of, PlacesOf, FreedTables, RowsHeld}
+use Rattle.release_keys.proofs.RowLaws.{rows-held}
 use Rattle.release.specs.Outcomes.{Summed, VolumeTables, BatchTables, bucket_tests}
 use Rattle.release.proofs.BatchLaws.{in-at}
 
 -- ---- the freed buckets, listed
-pub summed-made : {s : List ℕ} {sectors : ℕ} {requests buckets freed : List ℕ} {n : ℕ} → Requested s requests → length requests ≤ 1024 → 0 < sectors
+pub summed-made : {s : List ℕ} {sectors : ℕ} {requests : List ℕ} {rows : List FreedBucket} {n : ℕ} → Requested s requests → length requests ≤ 1024 → 0 < sectors
     → all_of (freed_ok sectors) (freeds_in s requests) ≡ true
-    → BucketsListed (freed_buckets sectors (freeds_in s requests)) (freed_in sectors (freeds_in s requests)) buckets freed n
-    → Summed s sectors requests (take n buckets) (take n freed)
-summed-made {s} {sectors} {requests} q f h ok l =
-    record {
-      requested = q;
-      few = f;
-      some-sectors = h;
-      checked = ok;
-      named = l.named;
-      sums = l.valued;
-    }
+    → Listed (freed_buckets sectors (freeds_in s requests)) (summed_row (freed_in sectors (freeds_in s requests))) rows n
+    → Summed s sectors requests (take n rows)
+summed-made q f h ok l = record { passed = record { requested = q; few = f; some-sectors = h; checked = ok }; listed = l.listed }
 
-module _ {s : List ℕ} {sectors : ℕ} {requests buckets freed : List ℕ} (m : Summed s sectors requests buckets freed) where
+-- each row's bucket, and its sum
+summed-named : (value : Bucket → ℕ) (bs : List Bucket) → buckets_of (map (summed_row value) bs) ≡ bs
+summed-named value [] = refl
+summed-named value (b ∷ bs) = λ x. b ∷ summed-named value bs x
+
+summed-at : (value : Bucket → ℕ) (bs : List Bucket) (i : ℕ) → i < length bs
+    → (get_or (map (summed_row value) bs) i no_row).freed ≡ value (get_or (map (summed_row value) bs) i no_row).bucket
+summed-at value [] i h = absurd (omega arith)
+summed-at value (b ∷ bs) zero h = refl
+summed-at value (b ∷ bs) (suc i) h = summed-at value bs i (omega arith)
+
+-- rows whose keys are placed have the buckets that they had
+placed-named : (before after : List FreedBucket) → length after ≡ length before
+    → ((i : ℕ) → i < length before → (get_or after i no_row).bucket ≡ (get_or before i no_row).bucket) → buckets_of after ≡ buckets_of before
+placed-named [] [] e h = refl
+placed-named [] (g ∷ after) e h = absurd (omega arith)
+placed-named (f ∷ before) [] e h = absurd (omega arith)
+placed-named (f ∷ before) (g ∷ after) e h = λ x. h 0 (omega arith) x ∷ placed-named before after (omega arith) (λ i l. h (suc i) (omega arith)) x
+
+module _ {s : List ℕ} {sectors : ℕ} {requests : List ℕ} {rows : List FreedBucket} (m : Summed s sectors requests rows) where
   abbrev pieces : List Freed
   pieces = freeds_in s requests
 
-  pub summed-few : length buckets ≤ 1024
-  summed-few =
-      omega (arith, table-length buckets, ap length m.named, named-few sectors pieces, m.requested.count, m.few)
+  named : buckets_of rows ≡ freed_buckets sectors pieces
+  named = ap buckets_of m.listed ∙ summed-named (freed_in sectors pieces) (freed_buckets sectors pieces)
 
-  pub summed-up : in_order bucket_below (buckets_in buckets) ≡ true
-  summed-up = rw m.named (up-order 0 (freed_buckets sectors pieces) (freed-up sectors pieces))
+  pub summed-up : in_order bucket_below (buckets_of rows) ≡ true
+  summed-up = rw named (up-order 0 (freed_buckets sectors pieces) (freed-up sectors pieces))
 
-  -- the tables
-  pub tables-made : {places : List ℕ} (v : Volume) → v.head.bucket_sectors ≡ sectors → PlacesOf s buckets places v.trees.alloc → FreedTables s v pieces buckets freed places
-  tables-made v e p =
-      let a : freed ≡ map (freed_in sectors pieces) (buckets_in buckets) = m.sums ∙ ap (map (freed_in sectors pieces)) (sym m.named) in
+  sums : (i : ℕ) → i < length rows → (get_or rows i no_row).freed ≡ freed_in sectors pieces (get_or rows i no_row).bucket
+  sums i h =
+      rw m.listed (summed-at (freed_in sectors pieces) (freed_buckets sectors pieces) i (omega (arith, ap length m.listed, length-map (freed_buckets sectors pieces) (summed_row (freed_in sectors pieces)))))
+
+  -- the table
+  pub tables-made : {after : List FreedBucket} (v : Volume) → v.head.bucket_sectors ≡ sectors → PlacesOf s v.trees.alloc rows after → FreedTables s v pieces after
+  tables-made {after} v e p =
       record {
-        named = m.named ∙ ap (λ (n : ℕ). freed_buckets n pieces) (sym e);
-        sums = ap length a ∙ length-map (buckets_in buckets) (freed_in sectors pieces) ∙ table-length buckets;
-        keys = p.count;
-        at = λ i h.
-            rw (table_at buckets i)
-            (record {
-              low = lt-ltb (get_or buckets i 0) 65536 (named-range sectors pieces m.checked (bucket (get_or buckets i 0)) (ap (λ (l : List Bucket). is_in l (bucket (get_or buckets i 0))) (sym m.named) ∙ in-at buckets i h));
-              freed = generation-at freed buckets (freed_in sectors pieces) i h a ∙ ap (λ (n : ℕ). freed_in n pieces (bucket (get_or buckets i 0))) (sym e);
-              key = rw (table_at buckets i) at (p.at i h);
-            });
+        named = placed-named rows after p.count (λ i h. (p.at i h).bucket) ∙ named ∙ ap (λ (n : ℕ). freed_buckets n pieces) (sym e);
+        at = λ i l.
+            let h : i < length rows = omega (arith, p.count) in
+            let q = p.at i h in
+            let b = (get_or rows i no_row).bucket in
+            record {
+              low = rw q.bucket (lt-ltb b.0 65536 (named-range sectors pieces m.passed.checked b (ap (λ (l : List Bucket). is_in l b) (sym named) ∙ in-at rows i h)));
+              freed = q.freed ∙ sums i h ∙ rw (e, q.bucket) refl;
+              key = rw q.bucket q.key;
+            };
       }
 
 -- ---- refusals 15 to 19, and what follows
-module _ {s : List ℕ} {h : Head} {requests buckets freed places records : List ℕ} (d : VolumeTables s h requests buckets freed places records) {r : ℕ}
+module _ {s : List ℕ} {h : Head} {requests : List ℕ} {rows : List FreedBucket} {records : List ℕ} (d : VolumeTables s h requests rows records) {r : ℕ}
     (e : r ≡ verdict (map (bucket_refusal d.volume (freeds_in s requests)) (freed_buckets h.bucket_sectors (freeds_in s requests)))) where
   pub same : verdict (map (bucket_refusal d.volume (freeds_in s requests)) (freed_buckets d.volume.head.bucket_sectors (freeds_in s requests))) ≡ r
   same = ap (λ (x : Head). verdict (map (bucket_refusal d.volume (freeds_in s requests)) (freed_buckets x.bucket_sectors (freeds_in s requests)))) d.head ∙ sym e
 
-  pub volume-pass : r ≡ 0 → Unrefused s buckets freed places
-  volume-pass z = record { volume = d.volume; requests = freeds_in s requests; tabled = d.tabled; none-refuses = same ∙ z }
+  pub volume-pass : r ≡ 0 → RowsHeld s rows
+  volume-pass z = rows-held d.tabled (same ∙ z)
 
-  abbrev pub batch-tables : {emptied generations : List ℕ} {m : ℕ} → r ≡ 0 → BucketsListed (those (is_emptied d.volume (freeds_in s requests)) (buckets_in buckets)) (emptied_gen d.volume.trees) emptied generations m
-      → BatchTables s h requests buckets freed places records (take m emptied) (take m generations)
-  batch-tables {emptied} {generations} {m} z l =
-      record { tables = d; none-refuses = same ∙ z; chosen = l.named; generations-are = l.valued ∙ ap (map (emptied_gen d.volume.trees)) (sym l.named) }
+  pub volume-few : length rows ≤ 1024
+  volume-few =
+      omega (
+        arith,
+        length-map rows (λ (f : FreedBucket). f.bucket),
+        ap length d.tabled.named,
+        named-few d.volume.head.bucket_sectors (freeds_in s requests),
+        d.passed.requested.count,
+        d.passed.few,
+      )
+
+  abbrev pub batch-tables : {emptied : List Emptied} {m : ℕ} → r ≡ 0 → Listed (those (is_emptied d.volume (freeds_in s requests)) (buckets_of rows)) (emptied_row (emptied_gen d.volume.trees)) emptied m
+      → BatchTables s h requests rows records (take m emptied)
+  batch-tables z l = record { tables = d; none-refuses = same ∙ z; chosen = l.listed }
 
   pub tables-stop : (bytes : List ℕ) (room : ℕ) (out : List ℕ) {written : ℕ} → (r ≡ 0 → ⊥) → written ≡ 0
       → made r written out ≡ outcome (answer (bucket_tests d.volume (freeds_in s requests)) bytes room) out

@@ -1,0 +1,24 @@
+use Rattle.std.proofs.Common.{sym, ◌∙◌}
+use Rattle.freespace.proofs.RunLaws.{run_end}
+use Rattle.freespace.proofs.TakeLaws.{key-began, key-run, key-alone}
+use Rattle.freespace.proofs.take.walk_key.Goals as goal
+
+pub returns-then-began_early : goal.returns-then-began_early
+returns-then-began_early c =
+    key-began _ _ _ _ c.args.from _ _ _ c.stopped.ensures (sym c.began_early.ensures ∙ c.if-began_early.true)
+
+pub walk_run-requires : goal.walk_run-requires
+walk_run-requires c =
+    (run_end _ _ (sym c.run_of.ensures ∙ c.in-Some.is) c.requires.end, c.requires.most, c.requires.room, c.requires.few)
+
+pub returns-in-Some : goal.returns-in-Some
+returns-in-Some c =
+    let q = c.requires in
+    key-run _ _ _ _ c.args.from _ _ (sym c.began_early.ensures ∙ c.if-began_early.false) q.most
+    (sym c.run_of.ensures ∙ c.in-Some.is) q.end q.tables.reserved-told q.tables.used-told _
+    c.walk_run.ensures.walked c.walk_run.ensures.passed
+
+pub returns-in-None : goal.returns-in-None
+returns-in-None c =
+    key-alone _ _ _ _ c.args.from _ (sym c.began_early.ensures ∙ c.if-began_early.false) c.requires.most
+    (sym c.run_of.ensures ∙ c.in-None.is)

@@ -1,0 +1,11 @@
+use Rattle.std.proofs.Common.{◌-◌}
+use Rattle.wire.specs.Kinds.{bucket_is, buckets_up_to}
+use Rattle.calls.specs.Freespace.{pass}
+use Rattle.bucket_bits.specs.Bits.{marked}
+use Rattle.freespace.proofs.WalkLaws.{Ahead}
+use Rattle.freespace.proofs.take.walk_run.Given as goal
+
+abbrev pub invariant-loop-number : goal.invariant-loop-number
+invariant-loop-number l =
+    let all = pass (marked l.reserved) (marked l.used) (l.n - l.fn.from.count) (buckets_up_to l.run.start l.run.end) in
+    Ahead (marked l.reserved) (marked l.used) all l.n l.fn.from.count l.fn.taken l.run.end (bucket_is l.number) l.count l.refusal l.taken
