@@ -27,16 +27,9 @@ tally-equal a b c f s = λ x. record { count = c x; file = f x; stored = s x }
 pub tally-append : (a b : List Piece) → tally_of (a ++ b) ≡ sum (tally_of a) (tally_of b)
 tally-append a b = tally-equal _ _ (length-append a b) (total-append _ a b) (total-append _ a b)
 
-sum-assoc : (a b c : Tally) → sum (sum a b) c ≡ sum a (sum b c)
-sum-assoc a b c = tally-equal _ _ (omega arith) (omega arith) (omega arith)
-
 pub sum-none : (a : Tally) → sum a (tally_of []) ≡ a
 unfolding total
 sum-none a = tally-equal _ _ (omega arith) (omega arith) (omega arith)
-
-pub tally-none : ◌≡◌ {A = Tally} (record { count = 0; file = 0; stored = 0 }) (tally_of [])
-unfolding total
-tally-none = refl
 
 pub tally-one : (t : Tally) (p : Piece)
     → ◌≡◌ {A = Tally} (record { count = t.count + 1; file = t.file + p.file; stored = t.stored + p.stored }) (sum t (tally_of (p ∷ [])))

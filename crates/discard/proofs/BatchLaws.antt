@@ -1,25 +1,25 @@
 -- Batches of a size: the next one, and what is left.
-use Prim.Native.Nat.{ℕ, zero, suc, ◌+◌, ◌-◌, ◌≤◌, ◌<◌}
-use mathlib.Core.Path.{◌≡◌, refl, sym, ap, ◌∙◌}
-use mathlib.Core.List.{List, [], ◌∷◌, ◌++◌, map}
-use mathlib.Core.Bool.{Bool, true, false}
-use lib.Dec.{leb}
-use borrow.Author.Tests.{leb-true, leb-false}
+use Prim.Native.Nat.{ℕ, zero, suc, ◌≤◌, ◌<◌, min}
+use mathlib.Core.Path.{◌≡◌, refl, sym, ap, ◌∙◌, subst}
+use mathlib.Core.Logic.{inl, inr}
+use mathlib.Core.List.{List, [], ◌∷◌, ◌++◌, map, append-nil}
 use native.Mathlib.Omega.{arith}
-use lib.ListN.{length, take, drop, length-drop, drop_of_length-le}
-use lib.Seq.{take_all, drop-drop}
+use lib.ListN.{length, take, drop, length-append, length-drop, drop_of_length-le}
+use lib.Seq.{take_all, take-append_seam, drop-append_seam}
+use Rattle.std.proofs.lemmas.Bool.{cases_lt}
+use Rattle.std.proofs.lemmas.List.{nil_from_length}
 use Rattle.wire.specs.Bytes.{All}
 use Rattle.wire.specs.Encode.{encode}
-use Rattle.wire.specs.Output.{top, Wrote, Emitted}
+use Rattle.wire.specs.Output.{with_bytes}
+use Rattle.wire.specs.declared.output.Output.{Output}
 use Rattle.wire.proofs.NumberLaws.{all_take, all_drop}
-use Rattle.wire.proofs.OutputLaws.{Part, begin, turn}
-use Rattle.wire.proofs.EmitLaws.{done}
+use Rattle.wire.proofs.AppendLaws.{with-none, with-with}
 use Rattle.wire.proofs.EncodeLaws.{encode-none, encode-append}
 use Rattle.calls.specs.ChangeList.{Batch, batch_fields, change_fields, change_bytes}
 use Rattle.calls.specs.Discard.{chunks, discard_batch}
 use Rattle.reader.specs.KeyHere.{keys_here}
 use Rattle.need_discard.specs.Chosen.{need_trees}
-use Rattle.discard.specs.Emitted.{batch_bytes, changes_from, batch_end}
+use Rattle.discard.specs.Emitted.{batch_bytes, changes_from}
 
 -- chunks, however many are allowed
 module _ {A : Type 0} (size : ℕ) (h : 0 < size) where
@@ -52,50 +52,40 @@ change-none : change_bytes [] ≡ []
 unfolding change_bytes change_fields
 change-none = encode-none
 
--- the batch at place a, as the code cuts it
-module _ {A : Type 0} (xs : List A) (a size : ℕ) where
-  cut-take : take (batch_end a (length xs) size - a) (drop a xs) ≡ take size (drop a xs)
-  cut-take = go (leb size (length xs - a)) refl
-    where
-      go : (t : Bool) → leb size (length xs - a) ≡ t → take (batch_end a (length xs) size - a) (drop a xs) ≡ take size (drop a xs)
-      go true e = let n : batch_end a (length xs) size - a ≡ size = omega (arith, leb-true size (length xs - a) e) in rw n
-      go false e =
-          let l = leb-false size (length xs - a) e in
-          let d = length-drop a xs in
-          take_all (batch_end a (length xs) size - a) (drop a xs) (omega arith) ∙ sym (take_all size (drop a xs) (omega arith))
+-- the batch that comes next, and what is left: the code's parts are those of `chunks`
+module _ {A : Type 0} (size : ℕ) (all part rest : List A) (e : all ≡ part ++ rest) (n : length part ≡ min size (length all)) where
+  cut : (take size all ≡ part) × (drop size all ≡ rest)
+  cut =
+      elim (cases_lt (length all) size) [
+        | inl short ↦
+            let none : rest ≡ [] = nil_from_length rest (omega (arith, ap length e, length-append part rest)) in
+            (take_all size all (omega arith) ∙ e ∙ rw (none, append-nil), drop_of_length-le all {i = size} (omega arith) ∙ sym none)
+        | inr long ↦
+            let m : length part ≡ size = omega arith in (
+              ap (take size) e ∙ ap (λ (k : ℕ). take k (part ++ rest)) (sym m) ∙ take-append_seam part rest,
+              ap (drop size) e ∙ ap (λ (k : ℕ). drop k (part ++ rest)) (sym m) ∙ drop-append_seam part rest,
+            )
+      ]
 
-  cut-drop : drop (batch_end a (length xs) size) xs ≡ drop size (drop a xs)
-  cut-drop = rw (drop-drop size a xs) (go (leb size (length xs - a)) refl)
-    where
-      go : (t : Bool) → leb size (length xs - a) ≡ t → drop (batch_end a (length xs) size) xs ≡ drop (a + size) xs
-      go true e = let n : batch_end a (length xs) size ≡ a + size = omega (arith, leb-true size (length xs - a) e) in rw n
-      go false e =
-          let l = leb-false size (length xs - a) e in
-          drop_of_length-le xs {i = batch_end a (length xs) size} (omega arith) ∙ sym (drop_of_length-le xs {i = a + size} (omega arith))
+  pub part-all : {P : A → Type 0} → All P all → All P part
+  part-all {P} r = subst (All P) cut.0 (all_take size r)
 
--- a loop over batches: what is left are those from place a on
-abbrev pub Batches : List ℕ → List ℕ → ℕ → List ℕ → List ℕ → ℕ → List ℕ → ℕ → ℕ → Type 0
-Batches s needs size os xs at ys p a = Part xs at (changes_from s needs size os) ys p (changes_from s needs size (drop a os))
+  pub rest-all : {P : A → Type 0} → All P all → All P rest
+  rest-all {P} r = subst (All P) cut.1 (all_drop size r)
 
-module _ (s needs : List ℕ) (size : ℕ) (os : List ℕ) {xs : List ℕ} {at : ℕ} where
-  pub batches-none : length xs ≤ top → Batches s needs size os xs at xs at 0
-  batches-none h = begin xs at (changes_from s needs size os) h
+-- a turn of the loop over batches: of those that are left, the next one is put
+pub batch-turn :
+    (s needs : List ℕ) (size : ℕ) (all part rest : List ℕ) (o q : Output) → 0 < size → 0 < length all → all ≡ part ++ rest
+    → length part ≡ min size (length all) → q ≡ with_bytes o (batch_bytes s needs part)
+    → with_bytes q (changes_from s needs size rest) ≡ with_bytes o (changes_from s needs size all)
+batch-turn s needs size all part rest o q h l e n w =
+    let c : changes_from s needs size all ≡ batch_bytes s needs (take size all) ++ changes_from s needs size (drop size all) =
+    ap (λ (l : List (List ℕ)). change_bytes (map (λ part. discard_batch (need_trees s needs) (keys_here s part)) l)) (chunks-next size h all l)
+    ∙ change-next _ _ in
+    let k = cut size all part rest e n in
+    rw (w, with-with o (batch_bytes s needs part) (changes_from s needs size rest), c, k.0, k.1)
 
-  pub batches-more : {ys : List ℕ} {p m : ℕ} {zs : List ℕ} {r : ℕ} (a : ℕ) {e : ℕ} → Batches s needs size os xs at ys p a → 0 < size
-      → a < length os → e ≡ batch_end a (length os) size → Wrote ys p m (batch_bytes s needs (take (e - a) (drop a os))) zs r
-      → Batches s needs size os xs at zs r e
-  batches-more a {e} q h l n w =
-      let d = length-drop a os in
-      let c : changes_from s needs size (drop a os) ≡ batch_bytes s needs (take size (drop a os)) ++ changes_from s needs size (drop size (drop a os)) =
-      ap (λ (l : List (List ℕ)). change_bytes (map (λ part. discard_batch (need_trees s needs) (keys_here s part)) l)) (chunks-next size h (drop a os) (omega arith))
-      ∙ change-next _ _ in
-      turn (changes_from s needs size (drop e os)) q (rw (n, cut-take os a size, cut-drop os a size) c) w
-
-  pub batches-all : {ys : List ℕ} {p : ℕ} (a : ℕ) → Batches s needs size os xs at ys p a → length os ≤ a
-      → Emitted xs at (changes_from s needs size os) ys p
-  unfolding chunks
-  batches-all a q h = done q (rw (drop_of_length-le os {i = a} h) change-none)
-
--- the offsets of a batch
-pub part-all : {P : ℕ → Type 0} {os : List ℕ} (a n : ℕ) → All P os → All P (take n (drop a os))
-part-all a n r = all_take n (all_drop a r)
+-- the end: none is left
+pub batch-end : (s needs : List ℕ) (size : ℕ) (os : List ℕ) (o : Output) → length os ≡ 0 → with_bytes o (changes_from s needs size os) ≡ o
+unfolding chunks
+batch-end s needs size os o h = rw (nil_from_length os h, change-none) (with-none o)

@@ -1,29 +1,23 @@
 -- What the emitters of a batch write, put together.
-use Prim.Native.Nat.{ℕ, ◌+◌, ◌≤◌, ◌<◌}
+use Prim.Native.Nat.{ℕ}
 use mathlib.Core.Path.{◌≡◌, refl, sym, ap, ◌∙◌}
 use mathlib.Core.List.{List, [], ◌∷◌, ◌++◌, map, flat_map, map-map, append-nil, append_assoc}
 use mathlib.Core.Option.{Option, none, some}
 use native.Mathlib.Omega.{arith}
 use lib.IntN.{pos, neg_ℤ}
-use lib.ListN.{length, get_or, drop, drop_of_length-le, length-map, get_or-map}
+use lib.ListN.{length, length-map}
 use Rattle.wire.specs.Keys.{Key}
-use Rattle.wire.specs.Held.{value_in, held, key_in}
 use Rattle.wire.specs.Encode.{encode_field, encode, key_field}
 use Rattle.wire.specs.Positions.{bucket_in}
 use Rattle.wire.specs.declared.bpos.Bpos.{Bpos}
 use Rattle.wire.specs.declared.kinds.Bucket.{Bucket}
-use Rattle.wire.specs.declared.keys.Bkey.{Bkey}
-use Rattle.wire.specs.declared.keys.Value.{Value}
-use Rattle.wire.proofs.OutputLaws.{drop-next}
 use Rattle.wire.proofs.EncodeLaws.{encode-append, encode_one}
-use Rattle.wire.proofs.KeyLaws.{value_in_lem}
-use Rattle.format.specs.AllocV4.{discarded}
 use Rattle.calls.specs.Lists.{from_option}
 use Rattle.calls.specs.CallList.{tree_fields}
 use Rattle.calls.specs.Accounting.{buckets_row}
 use Rattle.calls.specs.ChangeList.{batch_fields, discarded_field, end_field}
 use Rattle.calls.specs.Discard.{joined_runs, run_key, waiting_key, waiting_deletions, discard_batch}
-use Rattle.calls.specs.Trees.{deletion, with_value}
+use Rattle.calls.specs.Trees.{deletion}
 use Rattle.reader.specs.KeyHere.{key_here, keys_here}
 use Rattle.need_discard.specs.Kept.{bucket_here}
 use Rattle.need_discard.specs.Table.{waits_of}
@@ -33,23 +27,6 @@ use Rattle.change_fields.specs.FieldBytes.{keys_bytes}
 use Rattle.change_fields.proofs.FieldLists.{fields-none}
 use Rattle.need_discard.specs.declared.waiting.Waits.{Waits}
 use Rattle.need_discard.specs.declared.waiting.Waits.TheVariants.{At, Not}
-
--- what the keys at some offsets have, from index i on
-module _ {A : Type 0} (f : ℕ → A) (os : List ℕ) (i : ℕ) where
-  pub at_next : i < length os → drop i (map f os) ≡ f (get_or os i 0) ∷ drop (i + 1) (map f os)
-  at_next h = drop-next (f 0) (map f os) i (omega (arith, length-map os f)) ∙ ap (λ x. x ∷ drop (i + 1) (map f os)) (get_or-map f os i 0)
-
-  pub at_none : length os ≤ i → drop i (map f os) ≡ []
-  at_none h = drop_of_length-le (map f os) {i = i} (omega (arith, length-map os f))
-
--- the key at an offset with its value discarded
-module _ (s : List ℕ) (o : ℕ) {k : Bkey} (e : k ≡ held (key_here s o)) where
-  pub held-length : k.value.len ≡ length (key_here s o).value
-  held-length = rw e
-
-  pub discarded-is : {d : Key} (v : Value) → value_in v ≡ discarded (value_in k.value) → d ≡ with_value (key_in k) (value_in v)
-      → d ≡ discarded_key (key_here s o)
-  discarded-is v w q = q ∙ simp (w, e, value_in_lem (key_here s o).value)
 
 -- the deletion of the key that stands for a bucket
 module _ (needs : List Key) (b : Bucket) where

@@ -2,3 +2,4 @@ pub mod EmitLaws
 pub mod RunLaws
 pub mod BatchLaws
 pub mod OutcomeLaws
+pub mod AnswerLaws

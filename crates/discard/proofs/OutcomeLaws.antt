@@ -37,6 +37,7 @@ use Rattle.need_discard.specs.Kept.{AllocKept, NeedKept}
 use Rattle.need_discard.specs.Chosen.{need_trees, discarded_from}
 use Rattle.discard.specs.Emitted.{batches_from, changes_from}
 use Rattle.discard.specs.Given.{DiscardGiven}
+use Rattle.discard.specs.declared.changes.Given.{Given}
 
 -- what the offsets have of a test that each key passes
 found : {P : ℕ → Type 0} {s os : List ℕ} {ks : List Key} (t : Key → Bool) → ((o : ℕ) (k : Key) → KeyAt s o k → t k ≡ true → P o)
@@ -70,10 +71,10 @@ pub record Found (s alloc needs : List ℕ) : Type 0 where
   pub few_allocs : length alloc ≤ 4096
   pub few_waits : length needs ≤ 4096
 
-pub ready-found : {s alloc needs : List ℕ} {head : Head} → DiscardGiven s alloc needs head → Found s alloc needs
+pub ready-found : {g : Given} → DiscardGiven g → Found g.list.now g.alloc.now g.needs.now
 unfolding volume_within counts_ok few_keys buckets_ok
-ready-found {s} {alloc} {needs} r =
-    let v = read_volume s in
+ready-found {g} r =
+    let v = read_volume g.list.now in
     let t = v.trees in
     let a = parts (counts_ok t) _ r.within in
     let b = parts (buckets_ok t) _ a.1 in
@@ -123,13 +124,14 @@ module _ (t : Trees) (s needs : List ℕ) (e : t.need_discard ≡ keys_here s ne
       rw (keys-chosen alloc f, same-batch, length-map os (key_here s), chunks-map (key_here s) (length os) size os)
       (map-map (discard_batch (need_trees s needs)) (map (key_here s)) (chunks (length os) size os))
 
-pub changes-are : {s alloc needs : List ℕ} {head : Head} → DiscardGiven s alloc needs head
-    → changes_from s needs head.batch (discarded_from s needs alloc) ≡ change_bytes (discard_batches (read_volume s))
+pub changes-are : {g : Given} → DiscardGiven g
+    → changes_from g.list.now g.needs.now g.head.batch (discarded_from g.list.now g.needs.now g.alloc.now)
+    ≡ change_bytes (discard_batches (read_volume g.list.now))
 unfolding discard_batches
-changes-are {s} {alloc} {needs} {head} r =
-    let v = read_volume s in
-    let b : head.batch ≡ v.head.batch = ap (λ h. h.batch) r.headed in
-    ap change_bytes (rw b (sym (batches-are v.trees s needs (keys-here r.needs_at) alloc v.head.batch (keys-here r.alloc_at))))
+changes-are {g} r =
+    let v = read_volume g.list.now in
+    let b : g.head.batch ≡ v.head.batch = ap (λ h. h.batch) r.headed in
+    ap change_bytes (rw b (sym (batches-are v.trees g.list.now g.needs.now (keys-here r.needs_at) g.alloc.now v.head.batch (keys-here r.alloc_at))))
 
 -- the answer of the definition: the tests of the reader, then 20, then 21
 module _ (s : List ℕ) (room : ℕ) where
@@ -154,12 +156,13 @@ module _ (s : List ℕ) (room : ℕ) where
 
 -- a list that was read, with a batch that is not 0
 module _ (s index : List ℕ) (h : Head) (e : Ends) (z : 0 ≡ call_refusal 3 s) (q : ListRead 3 s index h e) where
-  pub read-ready : (h.batch ≡ 0 → ⊥) → DiscardGiven s (take e.alloc index) (between e.freespace e.need_discard index) h
-  read-ready b =
+  pub read-ready : (g : Given) → g.list.now ≡ s → g.head ≡ h → g.alloc.now ≡ take e.alloc index → g.needs.now ≡ between e.freespace e.need_discard index
+      → (h.batch ≡ 0 → ⊥) → DiscardGiven g
+  read-ready g p r f n b =
       record {
-        headed = q.head;
-        alloc_at = (alloc-part 3 false s index h e (call_kept 3 s z) q).1;
-        needs_at = (need-discard-part 3 false s index h e (call_kept 3 s z) q).1;
-        within = (list-within (read_call s) (passed 3 s z).within).0;
-        batched = b;
+        headed = rw (p, r) q.head;
+        alloc_at = rw (p, f) (alloc-part 3 false s index h e (call_kept 3 s z) q).1;
+        needs_at = rw (p, n) (need-discard-part 3 false s index h e (call_kept 3 s z) q).1;
+        within = rw p (list-within (read_call s) (passed 3 s z).within).0;
+        batched = rw r b;
       }

@@ -2,22 +2,22 @@
 use Prim.Native.Nat.{ℕ, suc, ◌+◌, ◌≤◌, ◌<◌}
 use mathlib.Core.Path.{◌≡◌, refl, sym, ap, ◌∙◌}
 use mathlib.Core.Bool.{Bool, true, false, cond}
-use mathlib.Core.List.{List, [], ◌∷◌, ◌++◌, map, append-nil}
+use mathlib.Core.List.{List, [], ◌∷◌, ◌++◌, map}
 use native.Mathlib.Omega.{arith}
 use borrow.Author.Tests.{ne_eqb, eq-eqb}
-use lib.ListN.{length, get_or, drop}
+use lib.ListN.{length, get_or, drop, drop_of_length-le}
 use Rattle.wire.specs.Encode.{encode_field, key_field}
-use Rattle.wire.specs.Output.{top, Wrote, Emitted}
+use Rattle.wire.specs.Output.{with_bytes}
+use Rattle.wire.specs.declared.output.Output.{Output}
 use Rattle.wire.specs.Positions.{run_at}
 use Rattle.wire.specs.declared.bpos.Bpos.{Bpos}
-use Rattle.wire.proofs.OutputLaws.{Part, begin, turn}
-use Rattle.wire.proofs.EmitLaws.{done}
+use Rattle.wire.proofs.OutputLaws.{drop-next}
+use Rattle.wire.proofs.AppendLaws.{with-with}
 use Rattle.wire.proofs.EncodeLaws.{encode-none, encode_one}
 use Rattle.calls.specs.Trees.{new_key}
 use Rattle.need_discard.specs.Kept.{bucket_here}
 use Rattle.change_fields.specs.FieldBytes.{keys_bytes}
 use Rattle.change_fields.proofs.FieldLists.{fields-append}
-use Rattle.discard.proofs.EmitLaws.{at_next, at_none}
 use Rattle.wire.specs.Keys.{Key}
 use Rattle.wire.specs.Kinds.{same_bucket, next_bucket}
 use Rattle.wire.specs.declared.kinds.Bucket.{Bucket}
@@ -106,14 +106,6 @@ open_none e (b ∷ bs) = rw (join_is b (joined_runs bs)) (go (same_bucket e b))
     go true = open-glued bs (single b) (omega arith)
     go false = open-glued bs (single b) (omega arith)
 
-pub open_more : (r : Run) {bs rest : List Bucket} {b : Bucket} → bs ≡ b ∷ rest → open_runs r bs ≡ ended_run r b ++ open_runs (with_bucket r b) rest
-unfolding open_runs
-open_more r e = ap (open_runs r) e
-
-pub open-last : (r : Run) {bs : List Bucket} → bs ≡ [] → open_runs r bs ≡ shown_run r
-unfolding open_runs
-open-last r e = ap (open_runs r) e
-
 pub with_size : (r : Run) (b : Bucket) → (with_bucket r b).size ≤ r.size + 1
 with_size r b = go (same_bucket r.end b)
   where
@@ -121,27 +113,23 @@ with_size r b = go (same_bucket r.end b)
     go true = omega arith
     go false = omega arith
 
--- a loop over offsets: what is left are the runs of the buckets from index i on, after the run that is not ended
-abbrev pub Runs : List ℕ → List ℕ → List ℕ → ℕ → List ℕ → ℕ → Run → ℕ → Type 0
-Runs s os xs at ys p r i = Part xs at (keys_bytes 11 (map run_key (joined_runs (buckets_at s os)))) ys p (keys_bytes 11 (open_runs r (drop i (buckets_at s os))))
+-- a turn of the loop over offsets: of the runs that are left after a run that is not ended, what the next bucket ends is put
+pub run-turn :
+    (s os : List ℕ) (i : ℕ) (r : Run) (b : Bucket) (o q : Output) → i < length os → b ≡ bucket_here s (get_or os i 0)
+    → q ≡ with_bytes o (keys_bytes 11 (ended_run r b))
+    → with_bytes q (keys_bytes 11 (open_runs (with_bucket r b) (buckets_at s (drop (i + 1) os))))
+    ≡ with_bytes o (keys_bytes 11 (open_runs r (buckets_at s (drop i os))))
+unfolding open_runs
+run-turn s os i r b o q h e w =
+    let rest = open_runs (with_bucket r b) (buckets_at s (drop (i + 1) os)) in
+    rw (drop-next 0 os i h, ← e, w, with-with o (keys_bytes 11 (ended_run r b)) (keys_bytes 11 rest), fields-append (key_field 11) (ended_run r b) rest)
 
-module _ (s os : List ℕ) {xs : List ℕ} {at : ℕ} where
-  pub runs_none : (e : Bucket) → length xs ≤ top → Runs s os xs at xs at (record { end = e; size = 0 }) 0
-  runs_none e h = rw (open_none e (buckets_at s os)) (begin xs at (keys_bytes 11 (map run_key (joined_runs (buckets_at s os)))) h)
-
-  pub runs-more : {ys : List ℕ} {p m : ℕ} {zs : List ℕ} {q : ℕ} (r : Run) {b : Bucket} (i : ℕ) → Runs s os xs at ys p r i → i < length os
-      → b ≡ bucket_here s (get_or os i 0) → Wrote ys p m (keys_bytes 11 (ended_run r b)) zs q
-      → Runs s os xs at zs q (with_bucket r b) (i + 1)
-  runs-more r {b} i q h e w =
-      let d : drop i (buckets_at s os) ≡ b ∷ drop (i + 1) (buckets_at s os) = at_next (bucket_here s) os i h ∙ ap (λ x. x ∷ drop (i + 1) (buckets_at s os)) (sym e) in
-      turn (keys_bytes 11 (open_runs (with_bucket r b) (drop (i + 1) (buckets_at s os)))) q
-      (ap (keys_bytes 11) (open_more r d) ∙ fields-append (key_field 11) (ended_run r b) _) w
-
-  pub runs-all : {ys : List ℕ} {p m : ℕ} {zs : List ℕ} {q : ℕ} (r : Run) (i : ℕ) → Runs s os xs at ys p r i → length os ≤ i
-      → Wrote ys p m (keys_bytes 11 (shown_run r)) zs q
-      → Emitted xs at (keys_bytes 11 (map run_key (joined_runs (buckets_at s os)))) zs q
-  runs-all r i q h w =
-      done (turn [] q (ap (keys_bytes 11) (open-last r (at_none (bucket_here s) os i h)) ∙ sym (append-nil _)) w) refl
+-- the end: the last run is put
+pub run-end :
+    (s os : List ℕ) (i : ℕ) (r : Run) (o q : Output) → length os ≤ i → q ≡ with_bytes o (keys_bytes 11 (shown_run r))
+    → q ≡ with_bytes o (keys_bytes 11 (open_runs r (buckets_at s (drop i os))))
+unfolding open_runs
+run-end s os i r o q h w = rw (drop_of_length-le os h) w
 
 -- what the emitters of a run write
 
@@ -151,9 +139,5 @@ no_run r e = rw (eq-eqb r.size 0 e) encode-none
 pub one-run : (r : Run) {x : Bpos} → (r.size ≡ 0 → ⊥) → x ≡ run_at r.end → encode_field (key_field 11 (new_key 25 r.size x [])) ≡ keys_bytes 11 (shown_run r)
 one-run r e p = rw (ne_eqb r.size 0 e, p) (sym (encode_one _))
 
-pub joined-run : {t : Bool} (r : Run) (b : Bucket) → t ≡ same_bucket r.end b → t ≡ true → keys_bytes 11 (ended_run r b) ≡ []
-joined-run r b e z = rw (sym e ∙ z) encode-none
-
-pub ended-run : {t : Bool} (r : Run) (b : Bucket) → t ≡ same_bucket r.end b → t ≡ false
-    → keys_bytes 11 (shown_run r) ≡ keys_bytes 11 (ended_run r b)
-ended-run r b e z = rw (sym e ∙ z)
+pub joined-run : (r : Run) (b : Bucket) → same_bucket r.end b ≡ true → keys_bytes 11 (ended_run r b) ≡ []
+joined-run r b e = rw e encode-none

@@ -1,5 +1,5 @@
 -- What is emitted for the alloc keys at some offsets: runs while they are made, and batches.
-use Rattle.std.specs.Prelude.{ℕ, ◌+◌, ◌-◌, min, List, [], ◌∷◌, map, cond, eqb, length}
+use Rattle.std.specs.Prelude.{ℕ, ◌+◌, List, [], ◌∷◌, map, cond, eqb, length}
 use Rattle.wire.specs.Keys.{Key}
 use Rattle.wire.specs.Kinds.{same_bucket, next_bucket}
 use Rattle.wire.specs.Positions.{run_at}
@@ -44,7 +44,3 @@ batches_from s needs size os = map (λ part. discard_batch (need_trees s needs) 
 
 abbrev pub changes_from : List ℕ → List ℕ → ℕ → List ℕ → List ℕ
 changes_from s needs size os = change_bytes (batches_from s needs size os)
-
--- where the batch that begins at a place ends, of n in all
-abbrev pub batch_end : ℕ → ℕ → ℕ → ℕ
-batch_end a n size = a + min size (n - a)

@@ -1,15 +1,25 @@
--- What a discard is given by the reader.
-use Rattle.std.specs.Prelude.{ℕ, ◌≡◌, true, List}
+-- What a discard is given by the reader, and what is shown of the alloc keys that it chooses.
+use Rattle.std.specs.Prelude.{◌≡◌, ◌≤◌, true, length}
+use Rattle.wire.specs.Bytes.{All}
 use Rattle.calls.specs.Limits.{volume_within}
 use Rattle.calls.specs.Answers.{read_volume}
 use Rattle.reader.specs.Heads.{head_in}
 use Rattle.reader.specs.Located.{KeysAt}
-use Rattle.reader.specs.declared.head.Head.{Head}
+use Rattle.need_discard.specs.Kept.{DiscardedKept}
+use Rattle.need_discard.specs.Table.{WaitingTable}
+use Rattle.discard.specs.declared.batch.Discarded.{Discarded}
+use Rattle.discard.specs.declared.changes.Given.{Given}
 
 -- The list's head, where its alloc and need-discard keys stand, its limits (refusal 3), and a batch that is not 0 (refusal 20).
-pub record DiscardGiven (s alloc needs : List ℕ) (head : Head) : Type 0 where
-  pub headed : head_in head ≡ (read_volume s).head
-  pub alloc_at : KeysAt s alloc (read_volume s).trees.alloc
-  pub needs_at : KeysAt s needs (read_volume s).trees.need_discard
-  pub within : volume_within (read_volume s) ≡ true
-  pub batched : head.batch ≡ 0 → ⊥
+pub record DiscardGiven (g : Given) : Type 0 where
+  pub headed : head_in g.head ≡ (read_volume g.list.now).head
+  pub alloc_at : KeysAt g.list.now g.alloc.now (read_volume g.list.now).trees.alloc
+  pub needs_at : KeysAt g.list.now g.needs.now (read_volume g.list.now).trees.need_discard
+  pub within : volume_within (read_volume g.list.now) ≡ true
+  pub batched : g.head.batch ≡ 0 → ⊥
+
+-- What is shown of alloc keys that are discarded: each offset finds one, they are within the limit, and the table is one of the need-discard keys.
+pub record Shown (d : Discarded) : Type 0 where
+  pub kept : All (DiscardedKept d.list.now) d.offsets.now
+  pub few : length d.offsets.now ≤ 4096
+  pub tabled : WaitingTable d.list.now d.needs.now d.table.now

@@ -1,114 +1,95 @@
 // One batch: the alloc keys at some offsets are discarded (discard_buckets).
 ghost use mathlib.Core.List.{map, flat_map};
-ghost use Rattle.std.specs.Prelude.{◌≤◌, ◌<◌, length};
+ghost use Rattle.std.specs.Prelude.{◌≡◌, ◌<◌, length};
 ghost use Rattle.wire.specs.Bytes.{All};
 ghost use Rattle.wire.specs.Encode.{encode, encode_field, key_field};
-ghost use Rattle.wire.specs.Output.{Emitted};
+ghost use Rattle.wire.specs.Output.{with_bytes};
 ghost use Rattle.calls.specs.ChangeList.{discarded_field};
 ghost use Rattle.calls.specs.Discard.{waiting_deletions};
 ghost use Rattle.reader.specs.KeyHere.{key_here, keys_here};
 ghost use Rattle.change_fields.specs.FieldBytes.{keys_bytes};
 ghost use Rattle.need_discard.specs.Kept.{bucket_here, DiscardedKept};
-ghost use Rattle.need_discard.specs.Table.{WaitingTable};
 ghost use Rattle.discard.specs.Emitted.{discarded_key, buckets_at, batch_bytes};
+ghost use Rattle.discard.specs.Given.{Shown};
 
 use crate::runs;
-use accounting::discard_rows;
-use change_fields::{end, keys};
+use accounting::discarded as rows;
+use change_fields::{batch_end, new_keys};
 use format::alloc;
 use need_discard::waiting as waiting_keys;
 use need_discard::waiting::Waits;
 use reader::key;
-use wire::{emit, emit_key};
+use wire::output::Output;
+
+// Alloc keys that are discarded: the list that they stand in, their offsets, those of the need-discard keys, and their table.
+#[derive(Clone, Copy, Drop)]
+pub struct Discarded<'a> {
+    pub list: &'a [u8],
+    pub offsets: &'a [u32],
+    pub needs: &'a [u32],
+    pub table: &'a [u16],
+}
 
 // The alloc key at an offset, its value discarded. `discarded_keys` shows what is required of the offsets, here and below.
-fn put_alloc_key(out: &mut [u8], at: usize, s: &[u8], o: u32) -> usize
+fn put_alloc_key(out: &mut Output, s: &[u8], o: u32)
     requires { DiscardedKept s.now o }
-    ensures { Emitted out.old at (encode_field (key_field 4 (discarded_key (key_here s.now o)))) out.new result }
+    ensures { out.new ≡ with_bytes out.old (encode_field (key_field 4 (discarded_key (key_here s.now o)))) }
 {
     let mut k = key::key_at(s, o as usize);
-    let value = k.value;
-    k.value = alloc::discarded(value);
-    emit_key::put_key(out, at, 4, k)
+    k.value = alloc::discarded(k.value);
+    out.put_key(4, &k);
 }
 
 // Tree 4.
-fn put_alloc_keys(out: &mut [u8], at: usize, s: &[u8], discarded: &[u32]) -> usize
-    requires { All (DiscardedKept s.now) discarded.now }
-    ensures { Emitted out.old at (keys_bytes 4 (map discarded_key (keys_here s.now discarded.now))) out.new result }
+fn put_alloc_keys(out: &mut Output, s: &[u8], offsets: &[u32])
+    requires { All (DiscardedKept s.now) offsets.now }
+    ensures { out.new ≡ with_bytes out.old (keys_bytes 4 (map discarded_key (keys_here s.now offsets.now))) }
 {
-    let mut p = at;
-    let mut i: usize = 0;
-    while i < discarded.len() {
-        p = put_alloc_key(out, p, s, discarded[i]);
-        i += 1;
+    for o in offsets {
+        put_alloc_key(out, s, *o);
     }
-    p
 }
 
 // The deletion of the need-discard key that stands for the bucket at an offset. `discard_lists` chooses the table, here and below.
-fn put_waiting(out: &mut [u8], at: usize, s: &[u8], o: u32, needs: &[u32], table: &[u16]) -> usize
-    requires { DiscardedKept s.now o × WaitingTable s.now needs.now table.now }
-    ensures { Emitted out.old at (keys_bytes 12 (waiting_deletions (keys_here s.now needs.now) (bucket_here s.now o))) out.new result }
+fn put_waiting(out: &mut Output, d: &Discarded, o: u32)
+    requires { DiscardedKept d.now.list.now o × Shown d.now }
+    ensures { out.new ≡ with_bytes out.old (keys_bytes 12 (waiting_deletions (keys_here d.now.list.now d.now.needs.now) (bucket_here d.now.list.now o))) }
 {
-    let Waits::At(pos) = waiting_keys::waiting_at(s, needs, table, key::bucket_at(s, o as usize))
-    else {
-        return at;
-    };
-    keys::put_deletion(out, at, 12, pos)
+    let b = key::bucket_at(d.list, o as usize);
+    if let Waits::At(pos) = waiting_keys::waiting_at(d.list, d.needs, d.table, b) {
+        new_keys::put_deletion(out, 12, pos);
+    }
 }
 
 // Tree 12.
-fn put_deletions(
-    out: &mut [u8],
-    at: usize,
-    s: &[u8],
-    discarded: &[u32],
-    needs: &[u32],
-    table: &[u16],
-) -> usize
-    requires { All (DiscardedKept s.now) discarded.now × WaitingTable s.now needs.now table.now }
-    ensures { Emitted out.old at (keys_bytes 12 (flat_map (waiting_deletions (keys_here s.now needs.now)) (buckets_at s.now discarded.now))) out.new result }
+fn put_deletions(out: &mut Output, d: &Discarded)
+    requires { Shown d.now }
+    ensures { out.new ≡ with_bytes out.old (keys_bytes 12 (flat_map (waiting_deletions (keys_here d.now.list.now d.now.needs.now)) (buckets_at d.now.list.now d.now.offsets.now))) }
 {
-    let mut p = at;
-    let mut i: usize = 0;
-    while i < discarded.len() {
-        p = put_waiting(out, p, s, discarded[i], needs, table);
-        i += 1;
+    for o in d.offsets {
+        put_waiting(out, d, *o);
     }
-    p
 }
 
 // 75.
-fn put_unreserved(out: &mut [u8], at: usize, s: &[u8], discarded: &[u32]) -> usize
-    requires { All (DiscardedKept s.now) discarded.now }
-    ensures { Emitted out.old at (encode (map discarded_field (buckets_at s.now discarded.now))) out.new result }
+fn put_unreserved(out: &mut Output, s: &[u8], offsets: &[u32])
+    requires { All (DiscardedKept s.now) offsets.now }
+    ensures { out.new ≡ with_bytes out.old (encode (map discarded_field (buckets_at s.now offsets.now))) }
 {
-    let mut p = at;
-    let mut i: usize = 0;
-    while i < discarded.len() {
-        p = emit::put_bucket(out, p, 75, key::bucket_at(s, discarded[i] as usize));
-        i += 1;
+    for o in offsets {
+        out.put_bucket(75, key::bucket_at(s, *o as usize));
     }
-    p
 }
 
 // The batch, in the order of its tags.
-pub fn discard_buckets(
-    out: &mut [u8],
-    at: usize,
-    s: &[u8],
-    discarded: &[u32],
-    needs: &[u32],
-    table: &[u16],
-) -> usize
-    requires { All (DiscardedKept s.now) discarded.now × (0 < length discarded.now) × (length discarded.now ≤ 4096) × WaitingTable s.now needs.now table.now }
-    ensures { Emitted out.old at (batch_bytes s.now needs.now discarded.now) out.new result }
+pub fn discard_buckets(out: &mut Output, d: &Discarded)
+    requires { Shown d.now × (0 < length d.now.offsets.now) }
+    ensures { out.new ≡ with_bytes out.old (batch_bytes d.now.list.now d.now.needs.now d.now.offsets.now) }
 {
-    let p = put_alloc_keys(out, at, s, discarded);
-    let p = runs::put_runs(out, p, s, discarded);
-    let p = put_deletions(out, p, s, discarded, needs, table);
-    let p = discard_rows::put_rows(out, p, discarded.len() as u64);
-    let p = put_unreserved(out, p, s, discarded);
-    end::put_end(out, p)
+    put_alloc_keys(out, d.list, d.offsets);
+    runs::put_runs(out, d.list, d.offsets);
+    put_deletions(out, d);
+    rows::put_rows(out, d.offsets.len() as u64);
+    put_unreserved(out, d.list, d.offsets);
+    batch_end::put_end(out);
 }

@@ -1,152 +1,108 @@
 // All batches of a discard (discard_freed), and its answer.
 ghost use Rattle.std.specs.Prelude.{◌≡◌, ◌≤◌, ◌<◌, [], length};
-ghost use Rattle.wire.specs.Bytes.{All};
-ghost use Rattle.wire.specs.Output.{Emitted};
+ghost use Rattle.wire.specs.Output.{with_bytes};
 ghost use Rattle.calls.specs.ChangeList.{change_bytes};
 ghost use Rattle.calls.specs.Discard.{discard_batches};
 ghost use Rattle.calls.specs.Answers.{read_volume, answer, made, outcome};
-ghost use Rattle.need_discard.specs.Kept.{DiscardedKept};
 ghost use Rattle.need_discard.specs.Table.{WaitingTable};
-ghost use Rattle.discard.specs.Emitted.{batch_end, changes_from};
-ghost use Rattle.discard.specs.Given.{DiscardGiven};
+ghost use Rattle.discard.specs.Emitted.{changes_from};
+ghost use Rattle.discard.specs.Given.{DiscardGiven, Shown};
 
 use crate::batch;
+use crate::batch::Discarded;
 use need_discard::{discarded, waiting as waiting_keys};
 use reader::head::Head;
+use wire::output::Output;
 
-// Where the batch that begins at a ends, of n keys in all.
-fn batch_end(a: usize, n: usize, size: u32) -> usize
-    requires { a ≤ n }
-    ensures { result ≡ batch_end a n size }
-{
-    let k = size as usize;
-    if n - a <= k {
-        return n;
-    }
-    a + k
+// What a discard is given: the list, its head, and the offsets of its alloc and need-discard keys.
+#[derive(Clone, Copy, Drop)]
+pub struct Given<'a> {
+    pub list: &'a [u8],
+    pub head: Head,
+    pub alloc: &'a [u32],
+    pub needs: &'a [u32],
 }
 
 // The batches, in alloc order. Refusal 20 shows that a batch has a key, `discarded_keys`, `discard_lists` and the limits the rest.
-pub fn discard_freed(
-    out: &mut [u8],
-    at: usize,
-    s: &[u8],
-    size: u32,
-    discarded: &[u32],
-    needs: &[u32],
-    table: &[u16],
-) -> usize
-    requires { (0 < size) × All (DiscardedKept s.now) discarded.now × (length discarded.now ≤ 4096) × WaitingTable s.now needs.now table.now }
-    ensures { Emitted out.old at (changes_from s.now needs.now size discarded.now) out.new result }
+pub fn discard_freed(out: &mut Output, size: u32, d: &Discarded)
+    requires { (0 < size) × Shown d.now }
+    ensures { out.new ≡ with_bytes out.old (changes_from d.now.list.now d.now.needs.now size d.now.offsets.now) }
 {
-    let mut p = at;
-    let mut a: usize = 0;
-    while a < discarded.len() {
-        let e = batch_end(a, discarded.len(), size);
-        p = batch::discard_buckets(out, p, s, &discarded[a..e], needs, table);
-        a = e;
+    for offsets in d.offsets.chunks(size as usize) {
+        batch::discard_buckets(out, &Discarded { offsets, ..*d });
     }
-    p
 }
 
-// First a dry run, into one byte, which tells the length; then 21 or the run into the output.
-fn write_changes(
-    out: &mut [u8],
-    written: &mut usize,
-    s: &[u8],
-    size: u32,
-    discarded: &[u32],
-    needs: &[u32],
-    table: &[u16],
-) -> u32
-    requires { (0 < size) × All (DiscardedKept s.now) discarded.now × (length discarded.now ≤ 4096) × WaitingTable s.now needs.now table.now }
-    ensures { made result written.new out.new ≡ outcome (answer [] (changes_from s.now needs.now size discarded.now) (length out.old)) out.old }
+// First a dry run, into no room, which tells the length; then 21 or the run into the output.
+fn write_changes(out: &mut [u8], written: &mut usize, size: u32, d: &Discarded) -> u32
+    requires { (0 < size) × Shown d.now }
+    ensures { made result written.new out.new ≡ outcome (answer [] (changes_from d.now.list.now d.now.needs.now size d.now.offsets.now) (length out.old)) out.old }
 {
-    let mut dry = [0u8; 1];
-    let n = discard_freed(&mut dry, 0, s, size, discarded, needs, table);
+    let mut none = [0u8; 0];
+    let mut dry = Output::new(&mut none);
+    discard_freed(&mut dry, size, d);
+    let n = dry.at;
     if out.len() < n {
         *written = 0;
         return 21;
     }
-    discard_freed(out, 0, s, size, discarded, needs, table);
+    let mut wet = Output::new(out);
+    discard_freed(&mut wet, size, d);
     *written = n;
     0
 }
 
 // The answer to a discard, with room for the offsets of its alloc keys. `discard_lists` shows what is required, here and below.
 fn discard_into(
-    discarded: &mut [u32],
-    s: &[u8],
-    head: Head,
-    alloc: &[u32],
-    needs: &[u32],
+    room: &mut [u32],
+    g: &Given,
     table: &[u16],
     out: &mut [u8],
     written: &mut usize,
 ) -> u32
-    requires { DiscardGiven s.now alloc.now needs.now head × WaitingTable s.now needs.now table.now × (length alloc.now ≤ length discarded.old) }
-    ensures { made result written.new out.new ≡ outcome (answer [] (change_bytes (discard_batches (read_volume s.now))) (length out.old)) out.old }
+    requires { DiscardGiven g.now × WaitingTable g.now.list.now g.now.needs.now table.now × (length g.now.alloc.now ≤ length room.old) }
+    ensures { made result written.new out.new ≡ outcome (answer [] (change_bytes (discard_batches (read_volume g.now.list.now))) (length out.old)) out.old }
 {
-    let n = discarded::discarded_keys(discarded, s, alloc, needs, table);
-    write_changes(out, written, s, head.batch, &discarded[..n], needs, table)
+    let n = discarded::discarded_keys(room, g.list, g.alloc, g.needs, table);
+    let d = Discarded {
+        list: g.list,
+        offsets: &room[..n],
+        needs: g.needs,
+        table,
+    };
+    write_changes(out, written, g.head.batch, &d)
 }
 
 // The answer to a discard, with its table: little room is cleared where the alloc keys are few.
-fn discard_tabled(
-    s: &[u8],
-    head: Head,
-    alloc: &[u32],
-    needs: &[u32],
-    table: &[u16],
-    out: &mut [u8],
-    written: &mut usize,
-) -> u32
-    requires { DiscardGiven s.now alloc.now needs.now head × WaitingTable s.now needs.now table.now }
-    ensures { made result written.new out.new ≡ outcome (answer [] (change_bytes (discard_batches (read_volume s.now))) (length out.old)) out.old }
+fn discard_tabled(g: &Given, table: &[u16], out: &mut [u8], written: &mut usize) -> u32
+    requires { DiscardGiven g.now × WaitingTable g.now.list.now g.now.needs.now table.now }
+    ensures { made result written.new out.new ≡ outcome (answer [] (change_bytes (discard_batches (read_volume g.now.list.now))) (length out.old)) out.old }
 {
-    if alloc.len() <= 64 {
-        let mut discarded = [0u32; 64];
-        return discard_into(&mut discarded, s, head, alloc, needs, table, out, written);
+    if g.alloc.len() <= 64 {
+        discard_into(&mut [0u32; 64], g, table, out, written)
+    } else {
+        discard_into(&mut [0u32; 4096], g, table, out, written)
     }
-    let mut discarded = [0u32; 4096];
-    discard_into(&mut discarded, s, head, alloc, needs, table, out, written)
 }
 
 // The answer to a discard, with a filled table.
-fn discard_many(
-    s: &[u8],
-    head: Head,
-    alloc: &[u32],
-    needs: &[u32],
-    out: &mut [u8],
-    written: &mut usize,
-) -> u32
-    requires { DiscardGiven s.now alloc.now needs.now head }
-    ensures { made result written.new out.new ≡ outcome (answer [] (change_bytes (discard_batches (read_volume s.now))) (length out.old)) out.old }
+fn discard_many(g: &Given, out: &mut [u8], written: &mut usize) -> u32
+    requires { DiscardGiven g.now }
+    ensures { made result written.new out.new ≡ outcome (answer [] (change_bytes (discard_batches (read_volume g.now.list.now))) (length out.old)) out.old }
 {
     let mut table = [0u16; 65536];
-    waiting_keys::note_waiting(&mut table, s, needs);
-    discard_tabled(s, head, alloc, needs, &table, out, written)
+    waiting_keys::note_waiting(&mut table, g.list, g.needs);
+    discard_tabled(g, &table, out, written)
 }
 
 // The answer to a discard whose list passed refusals 2, 3 and 20, which the reader and its caller show. A table of one entry stands for none.
-pub fn discard_lists(
-    s: &[u8],
-    head: Head,
-    alloc: &[u32],
-    needs: &[u32],
-    out: &mut [u8],
-    written: &mut usize,
-) -> u32
-    requires { DiscardGiven s.now alloc.now needs.now head }
-    ensures { made result written.new out.new ≡ outcome (answer [] (change_bytes (discard_batches (read_volume s.now))) (length out.old)) out.old }
+pub fn discard_lists(g: &Given, out: &mut [u8], written: &mut usize) -> u32
+    requires { DiscardGiven g.now }
+    ensures { made result written.new out.new ≡ outcome (answer [] (change_bytes (discard_batches (read_volume g.now.list.now))) (length out.old)) out.old }
 {
-    if 64 < alloc.len() {
-        return discard_many(s, head, alloc, needs, out, written);
+    if g.alloc.len() > 64 || g.needs.len() > 16 {
+        discard_many(g, out, written)
+    } else {
+        discard_tabled(g, &[0u16], out, written)
     }
-    if 16 < needs.len() {
-        return discard_many(s, head, alloc, needs, out, written);
-    }
-    let table = [0u16; 1];
-    discard_tabled(s, head, alloc, needs, &table, out, written)
 }

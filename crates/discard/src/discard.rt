@@ -5,6 +5,7 @@ ghost use Rattle.reader.specs.Readings.{call_refusal, ListRead};
 ghost use Rattle.reader.specs.Table.{Fits};
 
 use crate::changes;
+use crate::changes::Given;
 use reader::call;
 use reader::call::Reading;
 use reader::head::Head;
@@ -26,10 +27,13 @@ fn discard_read(
         *written = 0;
         return 20;
     }
-    let n = ends.alloc;
-    let from = ends.freespace;
-    let to = ends.need_discard;
-    changes::discard_lists(list, head, &places[..n], &places[from..to], out, written)
+    let given = Given {
+        list,
+        head,
+        alloc: &places[..ends.alloc],
+        needs: &places[ends.freespace..ends.need_discard],
+    };
+    changes::discard_lists(&given, out, written)
 }
 
 // The answer, by a table that is long enough.
@@ -37,8 +41,7 @@ fn discard_by(list: &[u8], index: &mut [u32], out: &mut [u8], written: &mut usiz
     requires { Fits list.now index.old }
     ensures { made result written.new out.new ≡ outcome (discard list.now (length out.old)) out.old }
 {
-    let reading = call::read_call(list, 3, index);
-    match reading {
+    match call::read_call(list, 3, index) {
         Reading::Refused(n) => {
             *written = 0;
             n
@@ -52,9 +55,8 @@ pub fn discard(list: &[u8], out: &mut [u8], written: &mut usize) -> u32
     ensures { made result written.new out.new ≡ outcome (discard list.now (length out.old)) out.old }
 {
     if list.len() <= 3072 {
-        let mut short = [0u32; 1024];
-        return discard_by(list, &mut short, out, written);
+        discard_by(list, &mut [0u32; 1024], out, written)
+    } else {
+        discard_by(list, &mut [0u32; 29696], out, written)
     }
-    let mut index = [0u32; 29696];
-    discard_by(list, &mut index, out, written)
 }

@@ -7,7 +7,7 @@ ghost use Rattle.format.specs.Packing.{get};
 ghost use Rattle.format.specs.AllocV4.{gen, data_type, dirty_sectors, io_time_write, new_alloc, with_dirty, next_gen, emptied_flags, emptied, discarded_flags, discarded};
 
 use wire::keys::Value;
-use wire::{emit, le};
+use wire::le;
 
 // The generation of the alloc value at a place of a list. The value's length shows the bound, here and below.
 #[tactic(auto, using(crate::proofs::ValueLaws::get_at))]
@@ -64,11 +64,11 @@ pub fn new_alloc(journal: u64, generation: u8, dirty: u32, clock: u64) -> [u64; 
 
 // A value with the n low bytes of x stored at a place that it has.
 fn with_le(v: Value, at: usize, n: usize, x: u64) -> Value
-    requires { (at + n ≤ v.len) × (v.len ≤ 256) }
+    requires { (at + n ≤ v.len) × (v.len ≤ 256) × (n ≤ 8) }
     ensures { (result.len ≡ v.len) × (value_in result ≡ put (value_in v) at (le_bytes n x)) }
 {
     let mut bytes = v.bytes;
-    emit::put_le(&mut bytes, at, n, x);
+    bytes[at..at + n].copy_from_slice(&x.to_le_bytes()[..n]);
     Value { bytes, len: v.len }
 }
 

@@ -1,8 +1,12 @@
-use Rattle.std.proofs.Common.{take, refl, ap, ◌∙◌}
-use Rattle.wire.specs.Numbers.{le_bytes}
-use Rattle.wire.proofs.OutputLaws.{put-take}
+use Rattle.std.proofs.Common.{refl, arith, ◌∙◌, ap}
+use Rattle.std.proofs.Common.{take}
+use Rattle.format.proofs.ValueLaws.{le-stored}
 use Rattle.format.proofs.alloc.with_le.Goals as goal
 
 pub returns : goal.returns
 returns c =
-    (refl, ap (take c.args.v.len) c.put_le.ensures.left ∙ put-take c.args.v.len c.args.v.bytes c.args.at (le_bytes c.args.n c.args.x))
+    let v = c.args.v in (
+      refl,
+      le-stored v.bytes _ v.len c.args.at c.args.n c.args.x (omega (arith, c.well_formed)) c.requires.2
+          (c.copy_from_slice.ensures.after ∙ ap (take c.args.n) c.to_le_bytes.ensures),
+    )

@@ -1,0 +1,19 @@
+use Rattle.std.proofs.Common.{append_assoc}
+use Rattle.wire.proofs.AppendLaws.{with-with}
+use Rattle.discard.proofs.EmitLaws.{batch-is}
+use Rattle.discard.proofs.batch.discard_buckets.Goals as goal
+
+pub returns : goal.returns
+returns c =
+    let d = c.args.d.now in
+    simp (
+      c.put_end.ensures,
+      c.put_unreserved.ensures,
+      c.put_rows.ensures,
+      c.put_deletions.ensures,
+      c.put_runs.ensures,
+      c.put_alloc_keys.ensures,
+      with-with,
+      append_assoc,
+      batch-is d.list.now d.needs.now d.offsets.now,
+    )

@@ -1,0 +1,16 @@
+use Rattle.std.proofs.Common.{sym}
+use Rattle.wire.proofs.AppendLaws.{with-none}
+use Rattle.discard.proofs.EmitLaws.{no-deletion, one-deletion}
+use Rattle.discard.proofs.batch.put_waiting.Goals as goal
+
+pub returns-in-At : goal.returns-in-At
+returns-in-At c =
+    let d = c.args.d.now in
+    let w = rw c.bucket_at-b.ensures at c.waiting_at.ensures in
+    rw (← one-deletion d.list.now d.needs.now c.args.o w c.in-At.is) c.put_deletion.ensures
+
+pub returns-in_default : goal.returns-in_default
+returns-in_default c =
+    let d = c.args.d.now in
+    let w = rw c.bucket_at-b.ensures at c.waiting_at.ensures in
+    rw (no-deletion d.list.now d.needs.now c.args.o w c.in_default.is) (sym (with-none c.args.out.now))

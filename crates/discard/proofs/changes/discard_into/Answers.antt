@@ -1,0 +1,23 @@
+use Rattle.std.proofs.Common.{arith}
+use Rattle.need_discard.proofs.ChosenLaws.{discarded-kept, discarded-few}
+use Rattle.discard.proofs.OutcomeLaws.{ready-found, changes-are}
+use Rattle.discard.proofs.changes.discard_into.Goals as goal
+
+pub discarded_keys-n-requires : goal.discarded_keys-n-requires
+discarded_keys-n-requires c = ((ready-found c.requires.0).allocs, c.requires.2, c.requires.1)
+
+pub write_changes-requires : goal.write_changes-requires
+write_changes-requires c =
+    let g = c.args.g.now in
+    let e = c.discarded_keys-n.ensures.1 in
+    let r = ready-found c.requires.0 in (
+      omega (arith, c.requires.0.batched),
+      record {
+        kept = rw e (discarded-kept g.needs.now r.allocs);
+        few = discarded-few g.list.now g.needs.now g.alloc.now e r.few_allocs;
+        tabled = c.requires.1;
+      },
+    )
+
+pub returns : goal.returns
+returns c = rw (c.discarded_keys-n.ensures.1, changes-are c.requires.0) at c.write_changes.ensures

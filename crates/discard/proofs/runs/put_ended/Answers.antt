@@ -1,0 +1,8 @@
+use Rattle.std.proofs.Common.{sym}
+use borrow.Author.Tests.{not-false}
+use Rattle.wire.proofs.AppendLaws.{with-none}
+use Rattle.discard.proofs.RunLaws.{joined-run}
+use Rattle.discard.proofs.runs.put_ended.Goals as goal
+
+pub returns-else-ne : goal.returns-else-ne
+returns-else-ne c = rw (joined-run c.args.r c.args.b (not-false _ (sym c.if-ne.ensures))) (sym (with-none c.args.out.now))
