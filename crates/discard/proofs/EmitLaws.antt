@@ -25,24 +25,23 @@ use Rattle.discard.specs.Emitted.{discarded_key, buckets_at, batch_bytes}
 use Rattle.accounting.specs.RowBytes.{rows_bytes}
 use Rattle.change_fields.specs.FieldBytes.{keys_bytes}
 use Rattle.change_fields.proofs.FieldLists.{fields-none}
-use Rattle.need_discard.specs.declared.waiting.Waits.{Waits}
-use Rattle.need_discard.specs.declared.waiting.Waits.TheVariants.{At, Not}
+use Rattle.std.specs.Prelude as std
 
 -- the deletion of the key that stands for a bucket
 module _ (needs : List Key) (b : Bucket) where
-  pub none-waits : {r : Waits} → r ≡ waits_of (waiting_key needs b) → r ≡ Not → waiting_deletions needs b ≡ []
+  pub none-waits : {r : std.Option Bpos} → r ≡ waits_of (waiting_key needs b) → r ≡ std.None → waiting_deletions needs b ≡ []
   unfolding waiting_deletions
   none-waits = go (waiting_key needs b)
     where
-      go : {r : Waits} (o : Option Key) → r ≡ waits_of o → r ≡ Not → from_option [] (λ (k : Key). deletion k.pos ∷ []) o ≡ []
+      go : {r : std.Option Bpos} (o : Option Key) → r ≡ waits_of o → r ≡ std.None → from_option [] (λ (k : Key). deletion k.pos ∷ []) o ≡ []
       go none p q = refl
       go (some k) p q = absurd (let z : ◌≡◌ {A = ℕ} 0 1 = cc in omega arith)
 
-  pub one-waits : {r : Waits} {x : Bpos} → r ≡ waits_of (waiting_key needs b) → r ≡ At x → waiting_deletions needs b ≡ deletion x ∷ []
+  pub one-waits : {r : std.Option Bpos} {x : Bpos} → r ≡ waits_of (waiting_key needs b) → r ≡ std.Some x → waiting_deletions needs b ≡ deletion x ∷ []
   unfolding waiting_deletions
   one-waits {x = x} = go (waiting_key needs b)
     where
-      go : {r : Waits} (o : Option Key) → r ≡ waits_of o → r ≡ At x → from_option [] (λ (k : Key). deletion k.pos ∷ []) o ≡ deletion x ∷ []
+      go : {r : std.Option Bpos} (o : Option Key) → r ≡ waits_of o → r ≡ std.Some x → from_option [] (λ (k : Key). deletion k.pos ∷ []) o ≡ deletion x ∷ []
       go none p q = absurd (let z : ◌≡◌ {A = ℕ} 0 1 = cc in omega arith)
       go (some k) p q = let e : k.pos ≡ x = cc in rw e
 
@@ -65,9 +64,9 @@ module _ (s needs : List ℕ) (o : ℕ) where
   abbrev deletions : List Key
   deletions = waiting_deletions (keys_here s needs) (bucket_here s o)
 
-  pub no-deletion : {r : Waits} → r ≡ waits_of (waiting_key (keys_here s needs) (bucket_here s o)) → r ≡ Not → keys_bytes 12 deletions ≡ []
+  pub no-deletion : {r : std.Option Bpos} → r ≡ waits_of (waiting_key (keys_here s needs) (bucket_here s o)) → r ≡ std.None → keys_bytes 12 deletions ≡ []
   no-deletion p q = fields-none (key_field 12) (none-waits (keys_here s needs) (bucket_here s o) p q)
 
-  pub one-deletion : {r : Waits} {x : Bpos} → r ≡ waits_of (waiting_key (keys_here s needs) (bucket_here s o)) → r ≡ At x
+  pub one-deletion : {r : std.Option Bpos} {x : Bpos} → r ≡ waits_of (waiting_key (keys_here s needs) (bucket_here s o)) → r ≡ std.Some x
       → encode_field (key_field 12 (deletion x)) ≡ keys_bytes 12 deletions
   one-deletion {x = x} p q = sym (ap (keys_bytes 12) (one-waits (keys_here s needs) (bucket_here s o) p q) ∙ encode_one (key_field 12 (deletion x)))

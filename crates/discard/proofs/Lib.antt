@@ -2,4 +2,3 @@ pub mod EmitLaws
 pub mod RunLaws
 pub mod BatchLaws
 pub mod OutcomeLaws
-pub mod AnswerLaws

@@ -17,7 +17,6 @@ use accounting::discarded as rows;
 use change_fields::{batch_end, new_keys};
 use format::alloc;
 use need_discard::waiting as waiting_keys;
-use need_discard::waiting::Waits;
 use reader::key;
 use wire::output::Output;
 
@@ -56,7 +55,7 @@ fn put_waiting(out: &mut Output, d: &Discarded, o: u32)
     ensures { out.new ≡ with_bytes out.old (keys_bytes 12 (waiting_deletions (keys_here d.now.list.now d.now.needs.now) (bucket_here d.now.list.now o))) }
 {
     let b = key::bucket_at(d.list, o as usize);
-    if let Waits::At(pos) = waiting_keys::waiting_at(d.list, d.needs, d.table, b) {
+    if let Some(pos) = waiting_keys::waiting_at(d.list, d.needs, d.table, b) {
         new_keys::put_deletion(out, 12, pos);
     }
 }

@@ -3,7 +3,8 @@ ghost use Rattle.std.specs.Prelude.{◌≡◌, ◌≤◌, ◌<◌, [], length};
 ghost use Rattle.wire.specs.Output.{with_bytes};
 ghost use Rattle.calls.specs.ChangeList.{change_bytes};
 ghost use Rattle.calls.specs.Discard.{discard_batches};
-ghost use Rattle.calls.specs.Answers.{read_volume, answer, made, outcome};
+ghost use Rattle.calls.specs.Answers.{read_volume, answer, outcome};
+ghost use Rattle.reader.specs.Refusals.{made_by};
 ghost use Rattle.need_discard.specs.Table.{WaitingTable};
 ghost use Rattle.discard.specs.Emitted.{changes_from};
 ghost use Rattle.discard.specs.Given.{DiscardGiven, Shown};
@@ -11,7 +12,11 @@ ghost use Rattle.discard.specs.Given.{DiscardGiven, Shown};
 use crate::batch;
 use crate::batch::Discarded;
 use need_discard::{discarded, waiting as waiting_keys};
+use reader::answer;
+use reader::answer::Emit;
 use reader::head::Head;
+use reader::refusal::Refusal;
+use std::marker::Model;
 use wire::output::Output;
 
 // What a discard is given: the list, its head, and the offsets of its alloc and need-discard keys.
@@ -33,23 +38,41 @@ pub fn discard_freed(out: &mut Output, size: u32, d: &Discarded)
     }
 }
 
-// First a dry run, into no room, which tells the length; then 21 or the run into the output.
-fn write_changes(out: &mut [u8], written: &mut usize, size: u32, d: &Discarded) -> u32
-    requires { (0 < size) × Shown d.now }
-    ensures { made result written.new out.new ≡ outcome (answer [] (changes_from d.now.list.now d.now.needs.now size d.now.offsets.now) (length out.old)) out.old }
-{
-    let mut none = [0u8; 0];
-    let mut dry = Output::new(&mut none);
-    discard_freed(&mut dry, size, d);
-    let n = dry.at;
-    if out.len() < n {
-        *written = 0;
-        return 21;
+// The changes of a discard. A clause sees their bytes.
+#[derive(Drop)]
+pub struct Changes<'a> {
+    size: u32,
+    discarded: Discarded<'a>,
+}
+
+impl<'a> Model for Changes<'a> {
+    ghost use Rattle.std.specs.Prelude.{ℕ, List};
+
+    ghost Value = { List ℕ };
+
+    ghost use Rattle.discard.specs.ChangesView.{changes_view, IsChanges};
+
+    ghost view = { changes_view };
+
+    ghost invariant = { IsChanges };
+}
+
+impl<'a> Changes<'a> {
+    // The changes in batches of a size. Refusal 20 shows that a batch has a key, `discarded_keys`, `discard_lists` and the limits the rest.
+    pub fn new(size: u32, d: Discarded<'a>) -> Changes<'a>
+        requires { (0 < size) × Shown d }
+        ensures { result ≡ changes_from d.entry.list.now d.entry.needs.now size d.entry.offsets.now }
+    {
+        Changes { size, discarded: d }
     }
-    let mut wet = Output::new(out);
-    discard_freed(&mut wet, size, d);
-    *written = n;
-    0
+}
+
+impl<'a> Emit for Changes<'a> {
+    ghost bytes = { λ c. c };
+
+    fn emit(&self, out: &mut Output) {
+        discard_freed(out, self.size, &self.discarded);
+    }
 }
 
 // The answer to a discard, with room for the offsets of its alloc keys. `discard_lists` shows what is required, here and below.
@@ -58,10 +81,9 @@ fn discard_into(
     g: &Given,
     table: &[u16],
     out: &mut [u8],
-    written: &mut usize,
-) -> u32
+) -> Result<usize, Refusal>
     requires { DiscardGiven g.now × WaitingTable g.now.list.now g.now.needs.now table.now × (length g.now.alloc.now ≤ length room.old) }
-    ensures { made result written.new out.new ≡ outcome (answer [] (change_bytes (discard_batches (read_volume g.now.list.now))) (length out.old)) out.old }
+    ensures { made_by result out.new ≡ outcome (answer [] (change_bytes (discard_batches (read_volume g.now.list.now))) (length out.old)) out.old }
 {
     let n = discarded::discarded_keys(room, g.list, g.alloc, g.needs, table);
     let d = Discarded {
@@ -70,39 +92,39 @@ fn discard_into(
         needs: g.needs,
         table,
     };
-    write_changes(out, written, g.head.batch, &d)
+    answer::written(&Changes::new(g.head.batch, d), out)
 }
 
 // The answer to a discard, with its table: little room is cleared where the alloc keys are few.
-fn discard_tabled(g: &Given, table: &[u16], out: &mut [u8], written: &mut usize) -> u32
+fn discard_tabled(g: &Given, table: &[u16], out: &mut [u8]) -> Result<usize, Refusal>
     requires { DiscardGiven g.now × WaitingTable g.now.list.now g.now.needs.now table.now }
-    ensures { made result written.new out.new ≡ outcome (answer [] (change_bytes (discard_batches (read_volume g.now.list.now))) (length out.old)) out.old }
+    ensures { made_by result out.new ≡ outcome (answer [] (change_bytes (discard_batches (read_volume g.now.list.now))) (length out.old)) out.old }
 {
     if g.alloc.len() <= 64 {
-        discard_into(&mut [0u32; 64], g, table, out, written)
+        discard_into(&mut [0u32; 64], g, table, out)
     } else {
-        discard_into(&mut [0u32; 4096], g, table, out, written)
+        discard_into(&mut [0u32; 4096], g, table, out)
     }
 }
 
 // The answer to a discard, with a filled table.
-fn discard_many(g: &Given, out: &mut [u8], written: &mut usize) -> u32
+fn discard_many(g: &Given, out: &mut [u8]) -> Result<usize, Refusal>
     requires { DiscardGiven g.now }
-    ensures { made result written.new out.new ≡ outcome (answer [] (change_bytes (discard_batches (read_volume g.now.list.now))) (length out.old)) out.old }
+    ensures { made_by result out.new ≡ outcome (answer [] (change_bytes (discard_batches (read_volume g.now.list.now))) (length out.old)) out.old }
 {
     let mut table = [0u16; 65536];
     waiting_keys::note_waiting(&mut table, g.list, g.needs);
-    discard_tabled(g, &table, out, written)
+    discard_tabled(g, &table, out)
 }
 
 // The answer to a discard whose list passed refusals 2, 3 and 20, which the reader and its caller show. A table of one entry stands for none.
-pub fn discard_lists(g: &Given, out: &mut [u8], written: &mut usize) -> u32
+pub fn discard_lists(g: &Given, out: &mut [u8]) -> Result<usize, Refusal>
     requires { DiscardGiven g.now }
-    ensures { made result written.new out.new ≡ outcome (answer [] (change_bytes (discard_batches (read_volume g.now.list.now))) (length out.old)) out.old }
+    ensures { made_by result out.new ≡ outcome (answer [] (change_bytes (discard_batches (read_volume g.now.list.now))) (length out.old)) out.old }
 {
     if g.alloc.len() > 64 || g.needs.len() > 16 {
-        discard_many(g, out, written)
+        discard_many(g, out)
     } else {
-        discard_tabled(g, &[0u16], out, written)
+        discard_tabled(g, &[0u16], out)
     }
 }

@@ -3,11 +3,11 @@ use Rattle.wire.proofs.AppendLaws.{with-none}
 use Rattle.discard.proofs.EmitLaws.{no-deletion, one-deletion}
 use Rattle.discard.proofs.batch.put_waiting.Goals as goal
 
-pub returns-in-At : goal.returns-in-At
-returns-in-At c =
+pub returns-in-Some : goal.returns-in-Some
+returns-in-Some c =
     let d = c.args.d.now in
     let w = rw c.bucket_at-b.ensures at c.waiting_at.ensures in
-    rw (← one-deletion d.list.now d.needs.now c.args.o w c.in-At.is) c.put_deletion.ensures
+    rw (← one-deletion d.list.now d.needs.now c.args.o w c.in-Some.is) c.put_deletion.ensures
 
 pub returns-in_default : goal.returns-in_default
 returns-in_default c =

@@ -6,8 +6,8 @@ use Rattle.discard.proofs.changes.discard_into.Goals as goal
 pub discarded_keys-n-requires : goal.discarded_keys-n-requires
 discarded_keys-n-requires c = ((ready-found c.requires.0).allocs, c.requires.2, c.requires.1)
 
-pub write_changes-requires : goal.write_changes-requires
-write_changes-requires c =
+pub new-requires : goal.new-requires
+new-requires c =
     let g = c.args.g.now in
     let e = c.discarded_keys-n.ensures.1 in
     let r = ready-found c.requires.0 in (
@@ -20,4 +20,4 @@ write_changes-requires c =
     )
 
 pub returns : goal.returns
-returns c = rw (c.discarded_keys-n.ensures.1, changes-are c.requires.0) at c.write_changes.ensures
+returns c = rw (c.new.ensures, c.discarded_keys-n.ensures.1, changes-are c.requires.0) at c.written.ensures

@@ -1,9 +1,13 @@
 use Rattle.std.proofs.Common.{refl, length}
+use Rattle.std.proofs.lemmas.Result.{err_from_is_err_and}
 use Rattle.calls.proofs.answers.OutcomeLaws.{refused}
+use Rattle.reader.specs.Refusals.{number_of}
 use Rattle.discard.proofs.OutcomeLaws.{discard-refused}
 use Rattle.discard.proofs.discard.discard_by.Goals as goal
 
-pub returns-in-Refused : goal.returns-in-Refused
-returns-in-Refused c =
-    let a = c.in-Refused.ensures in
-    refused c.in-Refused.n c.args.out.now (discard-refused c.args.list.now (length c.args.out.now) a.0 a.1) refl
+pub returns-in_err-head : goal.returns-in_err-head
+returns-in_err-head c =
+    let p = err_from_is_err_and c.from_residual.result c.from_residual.ensures.1 in
+    let e = c.in_err-head.ensures in
+    rw (p.1, p.2)
+    (refused (number_of c.in_err-head.field-0.0) c.args.out.now (discard-refused c.args.list.now (length c.args.out.now) e.0 e.1) refl)
