@@ -112,9 +112,9 @@ trees-ok : (s : List ℕ) → 0 ≡ call_refusal 2 s → EachTree (λ ks. keys_o
 trees-ok s z = let p = passed 2 s z in trees-each (read_volume s).trees (checked 2 s p.laid p.once p.within).trees
 
 -- ---- the scratch
-pub scratch-short : (l : List ℕ) → length l < 65536 → l ≡ scratch_after l
+pub scratch_short : (l : List ℕ) → length l < 65536 → l ≡ scratch_after l
 unfolding scratch_after
-scratch-short l h = rw (lt-ltb (length l) 65536 h)
+scratch_short l h = rw (lt-ltb (length l) 65536 h)
 
 pub scratch-long : (l : List ℕ) → 65536 ≤ length l → scratch_after l ≡ replicate 65536 0 ++ drop 65536 l
 unfolding scratch_after
@@ -182,8 +182,8 @@ module _ {s index : List ℕ} {h : Head} {e : Ends} (q : ListRead 2 s index h e)
   parts-outcome n l out p = p ∙ ap (λ (a : Answer). outcome a out) (parts-answer s n (length out) {h = h} l z q.head allocs-at records-at requests-at)
 
 -- ---- the outcome of a call that refusals 1 to 3 stop
-pub short-outcome : (s : List ℕ) (n : ℕ) (out : List ℕ) → n < 65536 → made 1 0 out ≡ outcome (release s n (length out)) out
-short-outcome s n out h = refused 1 out (short-answer s n (length out) h) refl
+pub short_outcome : (s : List ℕ) (n : ℕ) (out : List ℕ) → n < 65536 → made 1 0 out ≡ outcome (release s n (length out)) out
+short_outcome s n out h = refused 1 out (short-answer s n (length out) h) refl
 
 pub read-outcome : (s : List ℕ) (n : ℕ) (out : List ℕ) {written : ℕ} → 65536 ≤ n → (m : ℕ) → m ≡ call_refusal 2 s → 0 < call_refusal 2 s → written ≡ 0
     → made m written out ≡ outcome (release s n (length out)) out

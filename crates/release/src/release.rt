@@ -74,6 +74,7 @@ fn release_cleared(list: &[u8], scratch: &mut [u32], out: &mut [u8], written: &m
 }
 
 // Release: for any list, scratch and output, the number, the length, the output and the scratch that the definition gives.
+#[tactic(auto, using(crate::proofs::ReadLaws::short_outcome, crate::proofs::ReadLaws::scratch_short))]
 pub fn release(list: &[u8], scratch: &mut [u32], out: &mut [u8], written: &mut usize) -> u32
     ensures { (made result written.new out.new ≡ outcome (release list.now (length scratch.old) (length out.old)) out.old) × (scratch.new ≡ scratch_after scratch.old) }
 {

@@ -7,10 +7,9 @@ use Prim.Native.Nat.{ℕ, zero, suc, ◌+◌, ◌/◌, ◌≤◌, ◌<◌}
 use native.Mathlib.Omega.{arith}
 use lib.ListN.{length, get_or, drop, drop_of_length-le}
 use Rattle.std.proofs.lemmas.List.{drop-map}
-use lib.Dec.{eqb}
-use borrow.Author.Tests.{eqb-true, eqb-false, eq-eqb, ne_eqb}
+use borrow.Author.Tests.{eq-eqb, ne_eqb}
 use Rattle.wire.specs.Keys.{Key}
-use Rattle.wire.specs.Order.{cmp}
+use Rattle.wire.specs.Order.{cmp, pos_same}
 use Rattle.wire.specs.Held.{key_in}
 use Rattle.wire.specs.Kinds.{bucket_below, bucket_in_range, no_bucket}
 use Rattle.wire.specs.Encode.{encode_field, key_field}
@@ -19,7 +18,7 @@ use Rattle.wire.specs.declared.kinds.Bucket.{Bucket}
 use Rattle.wire.specs.declared.bpos.Bpos.{Bpos}
 use Rattle.wire.specs.Output.{top, Wrote}
 use Rattle.wire.specs.Output.{Emitted}
-use Rattle.wire.proofs.OrderLaws.{pos-cmp}
+use Rattle.wire.proofs.OrderLaws.{pos-cmp, same-equal}
 use Rattle.wire.proofs.OutputLaws.{Part, begin, turn, put-out, drop-next}
 use Rattle.wire.proofs.EmitLaws.{done}
 use Rattle.format.specs.Gens.{with_gen, no_gens}
@@ -28,15 +27,18 @@ use Rattle.calls.proofs.lists.AllOfLaws.{all-of-drop, all-of-first}
 use Rattle.calls.specs.Generations.{gen_record, gen_key, gen_queued}
 use Rattle.calls.specs.Release.{gens_queued}
 use Rattle.calls.specs.Trees.{lookup, new_key}
+use Rattle.calls.proofs.lists.BoolLaws.{clash}
+use Rattle.std.proofs.Common.{Some, None}
+use Rattle.std.proofs.Common as std
 use Rattle.calls.proofs.trees.TreeLaws.{on_eq-ne}
 use Rattle.calls.proofs.release.GensLaws.{key-is}
 use Rattle.reader.specs.KeyHere.{key_here}
 use Rattle.gens.specs.Records.{record_at}
 use Rattle.change_fields.specs.FieldBytes.{keys_bytes}
-use Rattle.release_keys.specs.GenRecords.{continued, NextRecord}
+use Rattle.release_keys.specs.GenRecords.{continued, next_queued}
 use Rattle.release_keys.specs.Emptied.{emptied_row, emptied_buckets}
 use Rattle.release_keys.specs.declared.freed_buckets.Emptied.{Emptied}
-use Rattle.release_keys.specs.declared.gen_records.Queued.{Queued}
+use Rattle.wire.specs.declared.keys.Bkey.{Bkey}
 use Rattle.change_fields.proofs.FieldLists.{fields-next, fields-none}
 use Rattle.release_keys.proofs.AllocLaws.{order-at}
 
@@ -54,6 +56,11 @@ module _ (s : List ℕ) (gens : List Key) (b : Bucket) (at : ℕ) (e : record_at
 pub generation-past : (b : Bucket) (generation : ℕ) (v : List ℕ) → length v ≤ gens_byte b → with_gen b generation v ≡ v
 unfolding with_gen
 generation-past b generation v h = put-out (generation ∷ []) v (gens_byte b) h
+
+-- a position is the same as itself
+same-self : (p : Bpos) → pos_same p p ≡ true
+unfolding pos_same
+same-self p = rw (pos-cmp.same p) refl
 
 -- ---- one more record queued
 queued-type : (records : List Key) (b : Bucket) (generation : ℕ) → (gen_queued records b generation).type ≡ 30
@@ -101,21 +108,35 @@ generation-at generation_of (n ∷ ns) zero h e = let d : n ≡ emptied_row gene
 generation-at generation_of (n ∷ ns) (suc k) h e = generation-at generation_of ns k (omega arith) (let d : ns ≡ map (emptied_row generation_of) (emptied_buckets ns) = cc in d)
 
 -- ---- the loop
+-- the place of the last record queued is not past this offset
+abbrev pub Behind : std.Option Bkey → ℕ → Type 0
+Behind None n = Unit
+Behind (Some last) n = last.pos.offset ≤ n
+
+-- a bucket whose record is not the last one queued continues the tree's
+apart : (gens : List Key) (last : std.Option Bkey) (c : Bucket) (n : ℕ) → Behind last n → (n ≤ c.0 / 256) → (n ≡ c.0 / 256 → ⊥) → continued gens last c ≡ gen_key gens c
+apart gens None c n h l z = refl
+apart gens (Some last) c n h l z = go (pos_same last.pos (gens_at c)) refl
+  where
+    go : (t : Bool) → pos_same last.pos (gens_at c) ≡ t → cond t (key_in last) (gen_key gens c) ≡ gen_key gens c
+    go true e = absurd (z (omega (arith, ap (λ (q : Bpos). q.offset) (same-equal last.pos (gens_at c) e))))
+    go false e = refl
+
 -- On its way: the rows from index k on are left, and their records continue the last one or the tree's.
-pub record Queue (gens : List Key) (generation_of : Bucket → ℕ) (rows : List Emptied) (out₀ out : List ℕ) (at p k : ℕ) (last : Queued) : Type 0 where
+pub record Queue (gens : List Key) (generation_of : Bucket → ℕ) (rows : List Emptied) (out₀ out : List ℕ) (at p k : ℕ) (last : std.Option Bkey) : Type 0 where
   pub records : List Key
   pub part : Part out₀ at (keys_bytes 14 (gens_queued generation_of gens (emptied_buckets rows))) out p (keys_bytes 14 (gens_queued generation_of records (emptied_buckets (drop k rows))))
   pub continues : (j : ℕ) → k ≤ j → j < length rows → gen_key records (get_or rows j no_emptied).bucket ≡ continued gens last (get_or rows j no_emptied).bucket
-  pub ahead : (j : ℕ) → k ≤ j → j < length rows → last.after ≤ (get_or rows j no_emptied).bucket.0 / 256 + 1
+  pub ahead : (j : ℕ) → k ≤ j → j < length rows → Behind last ((get_or rows j no_emptied).bucket.0 / 256)
 
-pub queue-starts : (gens : List Key) (generation_of : Bucket → ℕ) (rows : List Emptied) (out : List ℕ) (at : ℕ) (last : Queued) → length out ≤ top → last.after ≡ 0
-    → Queue gens generation_of rows out out at at 0 last
-queue-starts gens generation_of rows out at last h e =
+pub queue-starts : (gens : List Key) (generation_of : Bucket → ℕ) (rows : List Emptied) (out : List ℕ) (at : ℕ) → length out ≤ top
+    → Queue gens generation_of rows out out at at 0 None
+queue-starts gens generation_of rows out at h =
     record {
       records = gens;
       part = begin out at (keys_bytes 14 (gens_queued generation_of gens (emptied_buckets rows))) h;
-      continues = λ j l m. rw (ne_eqb last.after ((get_or rows j no_emptied).bucket.0 / 256 + 1) (λ z. omega arith));
-      ahead = λ j l m. omega arith;
+      continues = λ j l m. refl;
+      ahead = λ j l m. tt;
     }
 
 queue-next : (generation_of : Bucket → ℕ) (records : List Key) {l : List Bucket} {b : Bucket} {rest : List Bucket} → l ≡ b ∷ rest
@@ -124,46 +145,46 @@ unfolding gens_queued
 queue-next generation_of records e =
     fields-next (key_field 14) (ap (gens_queued generation_of records) e)
 
-module _ {gens : List Key} {generation_of : Bucket → ℕ} {rows : List Emptied} {out₀ out : List ℕ} {at p k : ℕ} {last : Queued} (q : Queue gens generation_of rows out₀ out at p k last)
+module _ {gens : List Key} {generation_of : Bucket → ℕ} {rows : List Emptied} {out₀ out : List ℕ} {at p k : ℕ} {last : std.Option Bkey} (q : Queue gens generation_of rows out₀ out at p k last)
     (o : in_order bucket_below (emptied_buckets rows) ≡ true) (h : k < length rows) where
   abbrev here : Bucket
   here = (get_or rows k no_emptied).bucket
 
   -- the key that is queued for the next bucket
-  queued-is : (generation : ℕ) (next : Queued) → generation ≡ generation_of here → NextRecord gens last here generation next
-      → key_in next.key ≡ gen_queued q.records here (generation_of here)
-  unfolding gen_queued
-  queued-is generation next e n = n.key ∙ rw (q.continues k (omega arith) h, e)
+  abbrev queued : Key
+  queued = gen_queued q.records here (generation_of here)
 
-  pub queue-turn : (generation : ℕ) (next : Queued) {m : ℕ} {zs : List ℕ} {r : ℕ} → generation ≡ generation_of here
-      → NextRecord gens last here generation next → Wrote out p m (encode_field (key_field 14 (key_in next.key))) zs r
-      → Queue gens generation_of rows out₀ zs at r (k + 1) next
+  queued-is : (generation : ℕ) (next : Bkey) → generation ≡ generation_of here → key_in next ≡ next_queued gens last here generation → key_in next ≡ queued
+  unfolding gen_queued
+  queued-is generation next e n = n ∙ rw (q.continues k (omega arith) h, e)
+
+  pub queue-turn : (generation : ℕ) (next : Bkey) {m : ℕ} {zs : List ℕ} {r : ℕ} → generation ≡ generation_of here
+      → key_in next ≡ next_queued gens last here generation → Wrote out p m (encode_field (key_field 14 (key_in next))) zs r
+      → Queue gens generation_of rows out₀ zs at r (k + 1) (Some next)
   queue-turn generation next {m} {zs} {r} e n w =
-      let key = gen_queued q.records here (generation_of here) in
       let i = queued-is generation next e n in
+      let place : next.pos ≡ gens_at here = ap (λ (x : Key). x.pos) i ∙ queued-at q.records here (generation_of here) in
       record {
-        records = key ∷ q.records;
+        records = queued ∷ q.records;
         part = turn _ q.part (queue-next generation_of q.records (emptied-next rows k h)) (subst (λ (x : Key). Wrote out p m (encode_field (key_field 14 x)) zs r) i w);
-        continues = λ j l m. go (get_or rows j no_emptied).bucket (q.continues j (omega arith) m) (λ d. omega (arith, d, q.ahead k (omega arith) h, order-at (λ (x : Emptied). x.bucket) rows no_emptied o k j (omega arith) m)) (eqb next.after ((get_or rows j no_emptied).bucket.0 / 256 + 1)) refl;
-        ahead = λ j l m. omega (arith, n.after, order-at (λ (x : Emptied). x.bucket) rows no_emptied o k j (omega arith) m);
+        continues = λ j l m. go (get_or rows j no_emptied).bucket (q.continues j (omega arith) m) (order-at (λ (x : Emptied). x.bucket) rows no_emptied o k j (omega arith) m) i place (pos_same next.pos (gens_at (get_or rows j no_emptied).bucket)) refl;
+        ahead = λ j l m. omega (arith, ap (λ (x : Bpos). x.offset) place, order-at (λ (x : Emptied). x.bucket) rows no_emptied o k j (omega arith) m);
       }
     where
-      -- a later bucket's record continues the one that is queued, or what it continued before
-      go : (c : Bucket) → gen_key q.records c ≡ continued gens last c → (last.after ≡ c.0 / 256 + 1 → c.0 / 256 ≡ here.0 / 256) → (t : Bool) → eqb next.after (c.0 / 256 + 1) ≡ t
-          → gen_key (gen_queued q.records here (generation_of here) ∷ q.records) c ≡ cond t (key_in next.key) (gen_key gens c)
-      go c f u true d =
-          let z : c.0 / 256 ≡ here.0 / 256 = omega (arith, n.after, eqb-true next.after (c.0 / 256 + 1) d) in
-          same-record (gen_queued q.records here (generation_of here)) q.records here (queued-type q.records here (generation_of here)) (queued-at q.records here (generation_of here)) c
-          (ap (λ (x : ℕ). record { inode = 0; offset = x; snapshot = 0 }) z)
-          ∙ sym (queued-is generation next e n)
-      go c f u false d =
-          let z = eqb-false next.after (c.0 / 256 + 1) d in
-          let y : c.0 / 256 ≡ here.0 / 256 → ⊥ = λ x. z (omega (arith, n.after)) in
-          other-record (gen_queued q.records here (generation_of here)) q.records here (queued-type q.records here (generation_of here)) (queued-at q.records here (generation_of here)) c y
+      -- a later bucket's record continues the one that is queued, or the tree's
+      go : (c : Bucket) → gen_key q.records c ≡ continued gens last c → here.0 ≤ c.0 → key_in next ≡ queued → next.pos ≡ gens_at here
+          → (t : Bool) → pos_same next.pos (gens_at c) ≡ t → gen_key (queued ∷ q.records) c ≡ cond t (key_in next) (gen_key gens c)
+      go c f l i s true d =
+          same-record queued q.records here (queued-type q.records here (generation_of here)) (queued-at q.records here (generation_of here)) c
+          (sym (same-equal next.pos (gens_at c) d) ∙ s)
+          ∙ sym i
+      go c f l i s false d =
+          let y : (gens_at c).offset ≡ (gens_at here).offset → ⊥ = λ x. clash (same-self (gens_at c)) (sym (ap (λ (z : Bpos). pos_same z (gens_at c)) (s ∙ ap (λ (n : ℕ). record { inode = 0; offset = n; snapshot = 0 }) (sym x))) ∙ d) in
+          other-record queued q.records here (queued-type q.records here (generation_of here)) (queued-at q.records here (generation_of here)) c y
           ∙ f
-          ∙ rw (ne_eqb last.after (c.0 / 256 + 1) (λ x. y (u x)))
+          ∙ apart gens last c (here.0 / 256) (q.ahead k (omega arith) h) (omega arith) (λ x. y (sym x))
 
-pub queue-ends : {gens : List Key} {generation_of : Bucket → ℕ} {rows : List Emptied} {out₀ out : List ℕ} {at p k : ℕ} {last : Queued} → Queue gens generation_of rows out₀ out at p k last
+pub queue-ends : {gens : List Key} {generation_of : Bucket → ℕ} {rows : List Emptied} {out₀ out : List ℕ} {at p k : ℕ} {last : std.Option Bkey} → Queue gens generation_of rows out₀ out at p k last
     → length rows ≤ k → Emitted out₀ at (keys_bytes 14 (gens_queued generation_of gens (emptied_buckets rows))) out p
 unfolding gens_queued
 queue-ends {generation_of = generation_of} {rows = rows} {k = k} q h =

@@ -1,19 +1,20 @@
 -- A generation record that is queued for an emptied bucket.
-use Rattle.std.specs.Prelude.{◌≡◌, ℕ, ◌+◌, cond, List, eqb}
+use Rattle.std.specs.Prelude.{ℕ, cond, List, Option, None, Some}
 use Rattle.wire.specs.Keys.{Key}
 use Rattle.wire.specs.Held.{key_in}
+use Rattle.wire.specs.Order.{pos_same}
 use Rattle.wire.specs.Positions.{gens_at}
+use Rattle.wire.specs.declared.keys.Bkey.{Bkey}
 use Rattle.wire.specs.declared.kinds.Bucket.{Bucket}
 use Rattle.format.specs.Gens.{with_gen}
 use Rattle.calls.specs.Generations.{gen_key}
 use Rattle.calls.specs.Trees.{with_value}
-use Rattle.release_keys.specs.declared.gen_records.Queued.{Queued}
 
--- the record that a bucket's continues: the last one queued, or the one of the tree
-abbrev pub continued : List Key → Queued → Bucket → Key
-continued gens last b = cond (eqb last.after ((gens_at b).offset + 1)) (key_in last.key) (gen_key gens b)
+-- the record that a bucket's continues: the last one queued where it stands at the same place, or the one of the tree
+abbrev pub continued : List Key → Option Bkey → Bucket → Key
+continued gens None b = gen_key gens b
+continued gens (Some last) b = cond (pos_same last.pos (gens_at b)) (key_in last) (gen_key gens b)
 
 -- the next one queued: that record with the bucket's generation
-pub record NextRecord (gens : List Key) (last : Queued) (b : Bucket) (generation : ℕ) (r : Queued) : Type 0 where
-  pub after : r.after ≡ (gens_at b).offset + 1
-  pub key : key_in r.key ≡ with_value (continued gens last b) (with_gen b generation (continued gens last b).value)
+abbrev pub next_queued : List Key → Option Bkey → Bucket → ℕ → Key
+next_queued gens last b generation = with_value (continued gens last b) (with_gen b generation (continued gens last b).value)

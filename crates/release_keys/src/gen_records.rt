@@ -1,5 +1,5 @@
 // Tree 14: the generation records of emptied buckets, each continuing the one that is queued before it.
-ghost use Rattle.std.specs.Prelude.{◌≡◌, true, List, map, ℕ, ◌≤◌, ◌<◌};
+ghost use Rattle.std.specs.Prelude.{◌≡◌, true, List, map, ℕ, ◌≤◌, ◌<◌, IfSome};
 ghost use Rattle.wire.specs.Keys.{Key};
 ghost use Rattle.wire.specs.Held.{value_in, key_in};
 ghost use Rattle.wire.specs.Kinds.{bucket_below, bucket_in_range};
@@ -14,21 +14,14 @@ ghost use Rattle.calls.specs.Trees.{new_key, with_value};
 ghost use Rattle.gens.specs.Records.{Recorded, RecordsFound};
 ghost use Rattle.change_fields.specs.FieldBytes.{keys_bytes};
 ghost use Rattle.release_keys.specs.Emptied.{emptied_row, emptied_buckets};
-ghost use Rattle.release_keys.specs.GenRecords.{NextRecord};
+ghost use Rattle.release_keys.specs.GenRecords.{next_queued};
 
 use crate::freed_buckets::Emptied;
 use gens::records;
 use reader::key;
 use wire::keys::Bkey;
 use wire::kinds::Bucket;
-use wire::{emit_key, positions};
-
-// The record that was queued last, and one more than its offset: 0 where none was.
-#[derive(Clone, Copy, Drop)]
-pub struct Queued {
-    pub after: u64,
-    pub key: Bkey,
-}
+use wire::{bpos, emit_key, positions};
 
 // A record that is started.
 fn new_record(b: Bucket) -> Bkey
@@ -70,21 +63,16 @@ fn with_generation(k: Bkey, b: Bucket, generation: u8) -> Bkey
     r
 }
 
-// The record of the next emptied bucket: the last one continued, or the one before this release.
-fn next_record(s: &[u8], records: &[u32], last: Queued, b: Bucket, generation: u8) -> Queued
-    requires { Recorded s.now records.now × (bucket_in_range b ≡ true) × (last.key.value.len ≤ 256) }
-    ensures { (result.key.value.len ≤ 256) × ((gens : List Key) → RecordsFound s.now gens records.now → NextRecord gens last b generation result) }
+// The record of the next emptied bucket: the last one queued is continued where it is the bucket's, and else the one before this release.
+fn next_record(s: &[u8], records: &[u32], last: Option<Bkey>, b: Bucket, generation: u8) -> Bkey
+    requires { Recorded s.now records.now × (bucket_in_range b ≡ true) × IfSome last (λ k. k.value.len ≤ 256) }
+    ensures { (result.value.len ≤ 256) × ((gens : List Key) → RecordsFound s.now gens records.now → key_in result ≡ next_queued gens last b generation) }
 {
-    let after = positions::gens_at(b).offset + 1;
-    let key = if last.after == after {
-        last.key
-    } else {
-        old_record(s, records, b)
+    let key = match last {
+        Some(key) if bpos::pos_same(key.pos, positions::gens_at(b)) => key,
+        _ => old_record(s, records, b),
     };
-    Queued {
-        after,
-        key: with_generation(key, b, generation),
-    }
+    with_generation(key, b, generation)
 }
 
 // The records of all emptied buckets, which ascend.
@@ -93,13 +81,11 @@ pub fn put_gens(s: &[u8], records: &[u32], emptied: &[Emptied], out: &mut [u8], 
     ensures { (gens : List Key) (generation_of : kinds.Bucket → ℕ) → RecordsFound s.now gens records.now → emptied.now ≡ map (emptied_row generation_of) (emptied_buckets emptied.now) → Emitted out.old at (keys_bytes 14 (gens_queued generation_of gens (emptied_buckets emptied.now))) out.new result }
 {
     let mut p = at;
-    let mut last = Queued {
-        after: 0,
-        key: new_record(Bucket(0)),
-    };
+    let mut last = None;
     for e in emptied {
-        last = next_record(s, records, last, e.bucket, e.generation);
-        p = emit_key::put_key(out, p, 14, last.key);
+        let key = next_record(s, records, last, e.bucket, e.generation);
+        p = emit_key::put_key(out, p, 14, key);
+        last = Some(key);
     }
     p
 }
