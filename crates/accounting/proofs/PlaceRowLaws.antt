@@ -1,7 +1,7 @@
 -- Laws of the rows of a placement.
 use mathlib.Core.Path.{◌≡◌, refl, sym, ap, ◌∙◌}
 use mathlib.Core.List.{List, [], ◌∷◌, ◌++◌, map}
-use Prim.Native.Nat.{ℕ, zero, suc, ◌≤◌, ◌<◌, ◌+◌, ◌*◌, ◌/◌, ◌%◌, ◌^◌}
+use Prim.Native.Nat.{ℕ, zero, suc, ◌≤◌, ◌<◌, ◌+◌, ◌*◌, ◌^◌}
 use native.Mathlib.Omega.{arith}
 use lib.IntN.{pos, neg_ℤ, ◌+ℤ◌}
 use lib.ListN.{length, length-map, get_or, drop, drop_of_length-le}
@@ -62,26 +62,10 @@ extents-row h n stored ps e =
     total-map (λ k. 40 + length k.value) (extent_key h) ps ∙ total-constant (λ p. 40 + length (extent_key h p).value) (40 + 8 * n) one ps in
     rw (length-map ps (extent_key h), sums)
 
--- the owner's place
-
-pub reversed-is : (x : ℕ)
-    → x % 256 * 256 ^ 7 + x / 256 % 256 * 256 ^ 6 + x / 256 / 256 % 256 * 256 ^ 5 + x / 256 / 256 / 256 % 256 * 256 ^ 4
-    + x / 256 / 256 / 256 / 256 % 256 * 256 ^ 3 + x / 256 / 256 / 256 / 256 / 256 % 256 * 256 ^ 2 + x / 256 / 256 / 256 / 256 / 256 / 256 % 256 * 256
-    + x / 256 / 256 / 256 / 256 / 256 / 256 / 256 % 256
-    ≡ swapped 8 x
-unfolding swapped
-reversed-is x = omega arith
-
--- the same by std's word
+-- the bytes of a number read from the other end, in std's word
 pub swapped-is : (x : ℕ) → swap_bytes w64 x ≡ swapped 8 x
 unfolding swapped le_bytes
 swapped-is x = ap (from_be_bytes w64) (bytes_64 x) ∙ omega arith
-
-pub owner-inode : (y : ℕ) → 0x0800000000000000 + y / 256 ≡ (8 * 256 ^ 8 + y) / 256
-owner-inode y = omega arith
-
-pub owner-offset : (y : ℕ) → y % 256 * 0x0100000000000000 ≡ (8 * 256 ^ 8 + y) % 256 * 256 ^ 7
-owner-offset y = omega arith
 
 -- the rows of pieces that are placed are those of the pieces
 
@@ -131,13 +115,3 @@ place-rows h bs ps extents t e =
     let o : owner_row h.inode ps ≡ owner_counts h.inode t.all = ap (owner_counts h.inode) (all-tally ps ∙ ap (λ (x : Tallies). x.all) (sym e)) in
     let k : kind_rows 2 t.kinds ≡ kind_rows 2 (kinds_of (map (λ p. p.piece) ps)) = ap (λ (x : Tallies). kind_rows 2 x.kinds) e in
     rw (o, kind_row_lem 2 ps, kind_row_lem 3 ps, kind_row_lem 4 ps, kind_row_lem 5 ps, d, k)
-
--- the rows of four tallies
-pub kinds-four : (ts : List Tally) (d : Tally) → length ts ≡ 4
-    → kind_rows 2 ts ≡ kind_counts 2 (get_or ts 0 d) ∷ kind_counts 3 (get_or ts 1 d) ∷ kind_counts 4 (get_or ts 2 d) ∷ kind_counts 5 (get_or ts 3 d) ∷ []
-kinds-four (a ∷ b ∷ c ∷ e ∷ []) d l = refl
-kinds-four [] d l = absurd (omega arith)
-kinds-four (a ∷ []) d l = absurd (omega arith)
-kinds-four (a ∷ b ∷ []) d l = absurd (omega arith)
-kinds-four (a ∷ b ∷ c ∷ []) d l = absurd (omega arith)
-kinds-four (a ∷ b ∷ c ∷ e ∷ f ∷ ts) d l = absurd (omega arith)

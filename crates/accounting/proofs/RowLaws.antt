@@ -2,19 +2,17 @@
 use mathlib.Core.Path.{◌≡◌, refl, sym, ap, ◌∙◌}
 use mathlib.Core.Bool.{Bool, true, false, not, ◌||◌}
 use mathlib.Core.List.{List, [], ◌∷◌, ◌++◌, map}
-use Prim.Native.Nat.{ℕ, ◌<◌, ◌^◌}
-use lib.IntN.{ℤ, pos, negsuc, ◌+ℤ◌, +ℤ_idl}
+use Prim.Native.Nat.{◌<◌, ◌^◌}
+use lib.IntN.{ℤ}
 use lib.Signed.{mag}
 use mir.Syntax.{w64}
-use mir.Val.{SFits, to_z, of_z}
-use borrow.Author.Tests.{ne_eqb}
+use mir.Val.{to_z, of_z}
 use Rattle.std.specs.List.{list_any}
 use Rattle.wire.specs.Encode.{encode}
 use Rattle.wire.specs.declared.output.Output.{Output}
-use Rattle.wire.specs.Output.{Emitted, with_bytes}
+use Rattle.wire.specs.Output.{with_bytes}
 use Rattle.wire.proofs.AppendLaws.{with-with}
 use Rattle.wire.specs.Rows.{Counters, row_field}
-use Rattle.wire.proofs.EmitLaws.{emitted, and_then}
 use Rattle.wire.proofs.SignedLaws.{back}
 use Rattle.calls.specs.Lists.{any_of}
 use Rattle.calls.specs.Accounting.{is_zero, counted_rows}
@@ -22,19 +20,11 @@ use Rattle.calls.proofs.lists.ThoseLaws.{those-append, those-one, those-other}
 use Rattle.change_fields.proofs.FieldLists.{fields-append}
 use Rattle.accounting.specs.RowBytes.{rows_bytes}
 
--- the bits of a number are 0 where it is
-pub zero_bits : (z : ℤ) → mag z < 2 ^ 63 → of_z w64 z ≡ 0 → is_zero z ≡ true
-zero_bits z h e = ap is_zero (sym (back z h) ∙ ap (to_z w64) e)
-
-pub other-bits : (z : ℤ) → (of_z w64 z ≡ 0 → ⊥) → is_zero z ≡ false
-other-bits (pos n) h = ne_eqb n 0 (λ e. h (ap (λ (k : ℕ). of_z w64 (pos k)) e))
-other-bits (negsuc n) h = refl
-
 -- a row has a number other than 0
 abbrev pub is_other : ℤ → Bool
 is_other z = not (is_zero z)
 
--- std's word for it
+-- the same of a list, in std's word
 pub any-listed : {A : Type 0} (t : A → Bool) (xs : List A) → list_any t xs ≡ any_of t xs
 unfolding any_of
 any-listed t [] = refl
@@ -49,32 +39,10 @@ unfolding counted_rows
 counted-other r e = those-other (λ r. any_of is_other r.numbers) r e
 
 -- a signed argument as a callee has it
-
-pub same : (z : ℤ) → SFits w64 z → to_z w64 (of_z w64 z) ≡ z
-same z f = back z f.sfits
-
 pub passed : {x z : ℤ} → mag x < 2 ^ 63 → x ≡ z → to_z w64 (of_z w64 x) ≡ z
 passed {x} h e = back x h ∙ e
 
-pub pos-fits : (n : ℕ) → n < 2 ^ 63 → SFits w64 (pos n)
-pos-fits n h = record { sfits = h }
-
--- an amount added to 0
-pub zero-plus : (z : ℤ) → SFits w64 z → pos 0 +ℤ to_z w64 (of_z w64 z) ≡ z
-zero-plus z f = +ℤ_idl (to_z w64 (of_z w64 z)) ∙ same z f
-
 -- rows one after the other
-
-pub rows-and : {xs : List ℕ} {at : ℕ} {ys : List ℕ} {p : ℕ} {zs : List ℕ} {q : ℕ} (rs ts : List Counters) → Emitted xs at (rows_bytes rs) ys p
-    → Emitted ys p (rows_bytes ts) zs q → Emitted xs at (rows_bytes (rs ++ ts)) zs q
-unfolding counted_rows
-rows-and rs ts v w =
-    emitted
-    (sym
-    (ap (λ l. encode (map row_field l)) (those-append (λ (r : Counters). any_of is_other r.numbers) rs ts)
-    ∙ fields-append row_field (counted_rows rs) (counted_rows ts)))
-    (and_then v w)
-
 pub rows-then : (o : Output) (rs ts : List Counters) → with_bytes (with_bytes o (rows_bytes rs)) (rows_bytes ts) ≡ with_bytes o (rows_bytes (rs ++ ts))
 unfolding counted_rows
 rows-then o rs ts =

@@ -2,11 +2,7 @@
 #![tactic(auto)]
 
 pub mod counters;
-pub mod discard_rows;
 pub mod discarded;
-pub mod place_rows;
 pub mod placement;
-pub mod release_rows;
 pub mod released;
-pub mod rows;
 pub mod tally;

@@ -2,10 +2,6 @@
 #![tactic(auto)]
 
 pub mod batch_end;
-pub mod end;
-pub mod keys;
-pub mod lru;
 pub mod lru_keys;
 pub mod new_keys;
 pub mod root_fields;
-pub mod roots;
