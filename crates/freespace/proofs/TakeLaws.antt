@@ -7,7 +7,8 @@ use native.Mathlib.Numerals.{add-one}
 use native.Mathlib.Omega.{arith}
 use lib.ListN.{length, take, drop, length-append, length-drop, drop_of_length-le}
 use lib.Seq.{length-take-le}
-use Rattle.std.specs.Prelude.{Option, None, Some}
+use Rattle.std.specs.Prelude.{Option, None, Some, Result, Ok, Err}
+use Rattle.std.proofs.lemmas.Result.{IfOk-weaker}
 use Rattle.wire.specs.Keys.{Key}
 use Rattle.wire.specs.Kinds.{buckets_up_to, began_before, buckets_in}
 use Rattle.wire.specs.declared.kinds.Bucket.{Bucket}
@@ -18,7 +19,10 @@ use Rattle.calls.specs.Freespace.{end_of, buckets_of, runs_of, Passed, pass, sho
 use Rattle.bucket_bits.specs.Bits.{marked, Marks}
 use Rattle.reader.specs.Checked.{end_in_range}
 use Rattle.freespace.specs.Runs.{began_early, run_in}
-use Rattle.freespace.specs.Walks.{stopped, unwalked, thirteen, key_walk, left_of, key_queue, queue_of, WalkEnded, WalkIs}
+use Rattle.reader.specs.Refusals.{number_of}
+use Rattle.reader.specs.declared.refusal.Refusal.{Refusal}
+use Rattle.reader.specs.declared.refusal.Refusal.TheVariants.{RunBeforeBuckets}
+use Rattle.freespace.specs.Walks.{unwalked, thirteen, key_walk, left_of, key_queue, queue_of, RunTook, WalkEnded, WalkTook, WalkIs}
 use Rattle.freespace.specs.declared.runs.Run.{Run}
 use Rattle.freespace.specs.declared.take.Walked.{Walked}
 use Rattle.freespace.proofs.RunLaws.{run_end, run_buckets, run-buckets, run_none}
@@ -126,9 +130,9 @@ module _ (R U : Bucket → Bool) (k : Key) where
 -- ---- the walk of one key, as the code makes it
 module _ (R U : Bucket → Bool) (k : Key) (n : ℕ) (from : Walked) (before after : List ℕ) where
   -- a run begun before bucket 0
-  pub key-began : (r : Walked) → r ≡ stopped 12 → began_early k ≡ true → WalkIs n (k ∷ []) (key_walk R U (n - from.count) k) from before after r
+  pub key-began : began_early k ≡ true → WalkIs n (λ x. k ∷ []) (key_walk R U (n - from.count) k) from before after (Err RunBeforeBuckets)
   unfolding key_walk began_early
-  key-began r e f = record { refusal = ap (λ (x : Walked). x.refusal) e ∙ go (is_run k) f; took = λ z. absurd (omega (arith, ap (λ (x : Walked). x.refusal) e)) }
+  key-began f = record { refusal = go (is_run k) f; took = tt }
     where
       go : (t : Bool) → t && began R U k ≡ true → 12 ≡ (key_if R U k (n - from.count) t).refusal
       go true d = rw d
@@ -139,33 +143,34 @@ module _ (R U : Bucket → Bool) (k : Key) (n : ℕ) (from : Walked) (before aft
     abbrev p : Passed
     p = pass_if R U k (n - from.count) (run_in k)
 
-    pub key-walked : (r : Walked) → WalkEnded p from.count before after r.refusal r.count r.left → r.passed ≡ from.passed + 1
-        → WalkIs n (k ∷ []) (key_walk R U (n - from.count) k) from before after r
+    pub key-walked : (r : Result Walked Refusal) → WalkEnded p from before after r → WalkIs n (λ x. k ∷ []) (key_walk R U (n - from.count) k) from before after r
     unfolding queue_of
-    key-walked r e h =
+    key-walked r e =
         let w = sym (key-is R U k (n - from.count) inside) in
         record {
           refusal = e.used ∙ ap (λ (y : calls.Walked). y.refusal) w;
           took =
-              λ z.
+              IfOk-weaker r (RunTook p from before after) (λ x. WalkTook n (k ∷ []) (key_walk R U (n - from.count) k) from before after x)
+              (λ x t.
               record {
-                taken = e.taken ∙ ap (λ (y : calls.Walked). buckets_in (take from.count before) ++ y.taken) w;
-                count = e.many ∙ ap (λ (y : calls.Walked). from.count + length y.taken) w;
-                passed = h;
-                queue = ap (λ (y : calls.Walked). y.queue) (sym w) ∙ ap (key_queue k) (sym e.rest);
+                taken = t.taken ∙ ap (λ (y : calls.Walked). buckets_in (take from.count before) ++ y.taken) w;
+                count = t.many ∙ ap (λ (y : calls.Walked). from.count + length y.taken) w;
+                passed = t.passed;
+                queue = ap (λ (y : calls.Walked). y.queue) (sym w) ∙ ap (key_queue k) (sym t.rest);
                 short =
                     λ l.
-                    e.rest
+                    t.rest
                     ∙ pass-left R U (n - from.count) (run_buckets (run_in k))
-                    (λ y. omega (arith, most, l, y, e.many, pass-sum R U (n - from.count) (run_buckets (run_in k))));
-              };
+                    (λ y. omega (arith, most, l, y, t.many, pass-sum R U (n - from.count) (run_buckets (run_in k))));
+              })
+              e.took;
         }
 
     -- a run, by the tables
     pub key-run :
-        {M N : List ℕ} {x : Run} → run_in k ≡ Some x → end_in_range k ≡ true → Marks M R → Marks N U → (r : Walked)
-        → WalkEnded (pass (marked M) (marked N) (n - from.count) (buckets_up_to x.start x.end)) from.count before after r.refusal r.count r.left
-        → r.passed ≡ from.passed + 1 → WalkIs n (k ∷ []) (key_walk R U (n - from.count) k) from before after r
+        {M N : List ℕ} {x : Run} → run_in k ≡ Some x → end_in_range k ≡ true → Marks M R → Marks N U → (r : Result Walked Refusal)
+        → WalkEnded (pass (marked M) (marked N) (n - from.count) (buckets_up_to x.start x.end)) from before after r
+        → WalkIs n (λ x. k ∷ []) (key_walk R U (n - from.count) k) from before after r
     key-run {M} {N} {x} f end m u r e =
         let s : pass (marked M) (marked N) (n - from.count) (buckets_up_to x.start x.end) ≡ p =
         pass-agree (marked M) (marked N) R U m.told u.told (n - from.count) x.start x.end (run_end k x f end)
@@ -175,19 +180,22 @@ module _ (R U : Bucket → Bool) (k : Key) (n : ℕ) (from : Walked) (before aft
 -- a key with no bucket
 pub key-alone :
     (R U : Bucket → Bool) (k : Key) (n : ℕ) (from : Walked) (table : List ℕ) → began_early k ≡ false → from.count ≤ n → run_in k ≡ None
-    → WalkIs n (k ∷ []) (key_walk R U (n - from.count) k) from table table
-    (record { refusal = 0; count = from.count; passed = from.passed + 1; left = 0 })
+    → WalkIs n (λ x. k ∷ []) (key_walk R U (n - from.count) k) from table table
+    (Ok (record { count = from.count; passed = from.passed + 1; left = 0 }))
 key-alone R U k n from table inside most f =
     let s : pass_if R U k (n - from.count) (run_in k) ≡ record { taken = []; left = 0; need = n - from.count; used = false } =
     ap (pass_if R U k (n - from.count)) f ∙ pass-none R U (n - from.count) in
     key-walked R U k n from table table inside most _
     (record {
-      taken = sym (append-nil (buckets_in (take from.count table))) ∙ ap (λ (x : Passed). buckets_in (take from.count table) ++ x.taken) (sym s);
-      many = omega (arith, ap (λ (x : Passed). length x.taken) s);
-      rest = ap (λ (x : Passed). x.left) (sym s);
       used = ap (λ (x : Passed). thirteen x.used 0) (sym s);
+      took =
+          record {
+            taken = sym (append-nil (buckets_in (take from.count table))) ∙ ap (λ (x : Passed). buckets_in (take from.count table) ++ x.taken) (sym s);
+            many = omega (arith, ap (λ (x : Passed). length x.taken) s);
+            passed = refl;
+            rest = ap (λ (x : Passed). x.left) (sym s);
+          };
     })
-    refl
 
 -- ---- the keys queued, one key more
 no-left : (j : ℕ) → left_of j 0 ≡ 0
@@ -217,9 +225,12 @@ queue-take zero left ks = refl
 queue-take (suc i) left [] = refl
 queue-take (suc i) left (k ∷ ks) = rw (queue-take i left ks)
 
+-- ---- a refusal has a number that is not 0
+refused-some : (e : Refusal) → number_of e ≡ 0 → ⊥
+refused-some e z = grind arith
+
 -- ---- the walk so far: with what the keys from an index on make, it is all that the walk makes
 pub record RunWalking (R U : Bucket → Bool) (ks : List Key) (w : calls.Walked) (n : ℕ) (before table : List ℕ) (r : Walked) : Type 0 where
-  pub none : r.refusal ≡ 0
   pub most : r.count ≤ n
   pub few : r.passed ≤ length ks
   pub size : length table ≡ length before
@@ -240,38 +251,33 @@ module _ (R U : Bucket → Bool) where
   walk_none zero = refl
   walk_none (suc n) = refl
 
-  pub walking_start : (ks : List Key) (n : ℕ) (table : List ℕ) (r : Walked) → r ≡ unwalked → RunWalking R U ks (walk R U n (runs_of ks)) n table table r
+  pub walking_start : (ks : List Key) (n : ℕ) (table : List ℕ) → RunWalking R U ks (walk R U n (runs_of ks)) n table table unwalked
   unfolding queue_of buckets_in
-  walking_start ks n table r e = rw e begun
-    where
-      begun : RunWalking R U ks (walk R U n (runs_of ks)) n table table unwalked
-      begun =
-          let e : n - 0 ≡ n = omega arith in
-          let q : walk R U (n - 0) (runs_of ks) ≡ walk R U n (runs_of ks) = ap (λ (m : ℕ). walk R U m (runs_of ks)) e in
-          record {
-            none = refl;
-            most = omega arith;
-            few = omega arith;
-            size = refl;
-            taken = ap (λ (w : calls.Walked). w.taken) q;
-            many = omega (arith, ap (λ (w : calls.Walked). length w.taken) q);
-            queue = ap (λ (w : calls.Walked). w.queue) (sym q);
-            refusal = ap (λ (w : calls.Walked). w.refusal) q;
-            short = λ h. refl;
-          }
+  walking_start ks n table =
+      let e : n - 0 ≡ n = omega arith in
+      let q : walk R U (n - 0) (runs_of ks) ≡ walk R U n (runs_of ks) = ap (λ (m : ℕ). walk R U m (runs_of ks)) e in
+      record {
+        most = omega arith;
+        few = omega arith;
+        size = refl;
+        taken = ap (λ (w : calls.Walked). w.taken) q;
+        many = omega (arith, ap (λ (w : calls.Walked). length w.taken) q);
+        queue = ap (λ (w : calls.Walked). w.queue) (sym q);
+        refusal = ap (λ (w : calls.Walked). w.refusal) q;
+        short = λ h. refl;
+      }
 
 module _ {R U : Bucket → Bool} {ks : List Key} {w : calls.Walked} {n : ℕ} {before table : List ℕ} {r : Walked} (g : RunWalking R U ks w n before table r) where
   abbrev here : calls.Walked
   here = walk R U (n - r.count) (runs_of (drop r.passed ks))
 
   -- nothing more is to come
-  walking-done : here ≡ record { taken = []; queue = []; refusal = 0 } → WalkIs n (take r.passed ks) w unwalked before table r
+  walking-done : here ≡ record { taken = []; queue = []; refusal = 0 } → WalkIs n (λ x. take x.passed ks) w unwalked before table (Ok r)
   unfolding buckets_in
   walking-done e =
       record {
-        refusal = g.none ∙ ap (λ (x : calls.Walked). x.refusal) (sym e) ∙ g.refusal;
+        refusal = ap (λ (x : calls.Walked). x.refusal) (sym e) ∙ g.refusal;
         took =
-            λ z.
             record {
               taken = sym (append-nil (buckets_in (take r.count table))) ∙ ap (λ (x : calls.Walked). buckets_in (take r.count table) ++ x.taken) (sym e) ∙ g.taken;
               count = omega (arith, g.many, ap (λ (x : calls.Walked). length x.taken) e);
@@ -284,39 +290,34 @@ module _ {R U : Bucket → Bool} {ks : List Key} {w : calls.Walked} {n : ℕ} {b
             };
       }
 
-  pub walking-full : r.count ≡ n → WalkIs n (take r.passed ks) w unwalked before table r
+  pub walking-full : r.count ≡ n → WalkIs n (λ x. take x.passed ks) w unwalked before table (Ok r)
   walking-full e =
       let z : n - r.count ≡ 0 = omega arith in
       walking-done (ap (λ (m : ℕ). walk R U m (runs_of (drop r.passed ks))) z ∙ walk-full R U (runs_of (drop r.passed ks)))
 
-  pub walking-end : length ks ≤ r.passed → WalkIs n (take r.passed ks) w unwalked before table r
+  pub walking-end : length ks ≤ r.passed → WalkIs n (λ x. take x.passed ks) w unwalked before table (Ok r)
   unfolding runs_of those
   walking-end h = walking-done (ap (λ (l : List Key). walk R U (n - r.count) (runs_of l)) (drop_of_length-le ks h) ∙ walk_none R U (n - r.count))
 
   -- the next key
-  module _
-      {k : Key} {next : List ℕ} {t : Walked} (f : drop r.passed ks ≡ k ∷ drop (r.passed + 1) ks) (h : r.count < n)
-      (o : WalkIs n (k ∷ []) (key_walk R U (n - r.count) k) r table next t) where
+  module _ {k : Key} (f : drop r.passed ks ≡ k ∷ drop (r.passed + 1) ks) (h : r.count < n) where
     abbrev x : calls.Walked
     x = key_walk R U (n - r.count) k
 
     some-need : 0 < n - r.count
     some-need = omega arith
 
-    pub walking-refused : (t.refusal ≡ 0 → ⊥) → WalkIs n (take t.passed ks) w unwalked before next t
-    walking-refused z =
+    -- is refused
+    pub walking-refused : {next : List ℕ} {e : Refusal} → WalkIs n (λ x. k ∷ []) (key_walk R U (n - r.count) k) r table next (Err e)
+        → WalkIs n (λ x. take x.passed ks) w unwalked before next (Err e)
+    walking-refused {e = e} o =
         record {
           refusal =
-              o.refusal ∙ sym (key-stop R U k (n - r.count) (drop (r.passed + 1) ks) some-need (λ e. z (o.refusal ∙ e)))
+              o.refusal ∙ sym (key-stop R U k (n - r.count) (drop (r.passed + 1) ks) some-need (λ z. refused-some e (o.refusal ∙ z)))
               ∙ ap (λ (l : List Key). (walk R U (n - r.count) (runs_of l)).refusal) (sym f)
               ∙ g.refusal;
-          took = λ e. absurd (z e);
+          took = tt;
         }
-
-    -- what the key queues, and how many it takes
-    alone : t.refusal ≡ 0 → x.queue ≡ key_queue k t.left
-    unfolding queue_of
-    alone z = (o.took z).queue
 
     more : length x.taken ≤ n - r.count
     unfolding key_walk
@@ -326,24 +327,25 @@ module _ {R U : Bucket → Bool} {ks : List Key} {w : calls.Walked} {n : ℕ} {b
         go true = omega (arith, pass-sum R U (n - r.count) (buckets_of k))
         go false = omega arith
 
-    module _ (z : t.refusal ≡ 0) where
-      -- one key more is passed
-      pub passed-next : t.passed ≡ r.passed + 1
-      passed-next = (o.took z).passed
+    -- is passed
+    module _ {next : List ℕ} {t : Walked} (o : WalkIs n (λ x. k ∷ []) (key_walk R U (n - r.count) k) r table next (Ok t)) where
+      -- what it queues
+      alone : x.queue ≡ key_queue k t.left
+      unfolding queue_of
+      alone = o.took.queue
 
       pub walking_on : length next ≡ length table → RunWalking R U ks w n before next t
       walking_on l =
-          let p = o.took z in
+          let p = o.took in
           let v : calls.Walked = walk R U (n - r.count - length x.taken) (runs_of (drop (r.passed + 1) ks)) in
           let s : here ≡ record { taken = x.taken ++ v.taken; queue = x.queue ++ v.queue; refusal = v.refusal } =
           ap (λ (m : List Key). walk R U (n - r.count) (runs_of m)) f
-          ∙ key-on R U k (n - r.count) (drop (r.passed + 1) ks) some-need (sym o.refusal ∙ z) in
+          ∙ key-on R U k (n - r.count) (drop (r.passed + 1) ks) some-need (sym o.refusal) in
           let d : n - t.count ≡ n - r.count - length x.taken = omega (arith, p.count) in
           let e : walk R U (n - t.count) (runs_of (drop t.passed ks)) ≡ v =
           ap (λ (m : ℕ). walk R U m (runs_of (drop t.passed ks))) d
           ∙ ap (λ (m : ℕ). walk R U (n - r.count - length x.taken) (runs_of (drop m ks))) p.passed in
           record {
-            none = z;
             most = omega (arith, p.count, more);
             few = omega (arith, p.passed, ap length f, length-drop r.passed ks);
             size = l ∙ g.size;
@@ -365,7 +367,7 @@ module _ {R U : Bucket → Bool} {ks : List Key} {w : calls.Walked} {n : ℕ} {b
                 g.queue ∙ ap (λ (y : calls.Walked). queue_of r.passed r.left ks ++ y.queue) s
                 ∙ ap (λ (m : ℕ). queue_of r.passed m ks ++ (x.queue ++ v.queue)) (g.short h)
                 ∙ sym (append_assoc (queue_of r.passed 0 ks) x.queue v.queue)
-                ∙ ap (λ (m : List Key). (queue_of r.passed 0 ks ++ m) ++ v.queue) (alone z)
+                ∙ ap (λ (m : List Key). (queue_of r.passed 0 ks ++ m) ++ v.queue) alone
                 ∙ ap (λ (m : List Key). m ++ v.queue) (sym (queue-snoc r.passed t.left ks (drop (r.passed + 1) ks) k f))
                 ∙ ap (λ (m : ℕ). queue_of m t.left ks ++ v.queue) (sym p.passed)
                 ∙ ap (λ (y : calls.Walked). queue_of t.passed t.left ks ++ y.queue) (sym e);

@@ -6,13 +6,16 @@ use Prim.Native.Nat.{ℕ, zero, suc, ◌+◌, ◌-◌, ◌≤◌, ◌<◌}
 use native.Mathlib.Numerals.{add-one}
 use native.Mathlib.Omega.{arith}
 use lib.ListN.{length, take, set, length-set}
+use Rattle.std.proofs.Math.Bool.{or_assoc}
 use lib.Seq.{take-suc-set, append_snoc}
 use Rattle.wire.specs.Kinds.{bucket_in_range, bucket_is, buckets_in, buckets_from, buckets_up_to, next_bucket}
 use Rattle.wire.specs.declared.kinds.Bucket.{Bucket}
 use lib.Dec.{leb}
 use borrow.Author.Tests.{lt-ltb, leb-true, leb-false}
 use Rattle.calls.specs.Freespace.{Passed, pass}
-use Rattle.freespace.specs.Walks.{thirteen, WalkEnded}
+use Rattle.freespace.specs.Walks.{WalkEnded}
+use Rattle.freespace.specs.declared.take.Walked.{Walked}
+use Rattle.std.specs.Prelude.{Ok}
 
 -- the buckets of a run from one on
 pub up-to-next : (b end : Bucket) → b.0 < end.0 → buckets_up_to b end ≡ b ∷ buckets_up_to (next_bucket b) end
@@ -97,26 +100,21 @@ module _ (R U S W : Bucket → Bool) (r : (b : Bucket) → bucket_in_range b ≡
           let l = leb-false start.0 end.0 e in
           rw (up-to-none start end (omega arith)) (pass-none R U need ∙ sym (pass-none S W need))
 
-thirteen-or : (a b : Bool) (n : ℕ) → thirteen b (thirteen a n) ≡ thirteen (a || b) n
-thirteen-or true true n = refl
-thirteen-or true false n = refl
-thirteen-or false b n = refl
-
 -- the walk of one run, with the buckets from one on still to come: all that the run makes is what was made so far and what those make
-pub record Ahead (R U : Bucket → Bool) (p : Passed) (n from : ℕ) (before : List ℕ) (end b : Bucket) (count refusal : ℕ) (table : List ℕ) : Type 0 where
+pub record Ahead (R U : Bucket → Bool) (p : Passed) (n : ℕ) (from : Walked) (before : List ℕ) (end b : Bucket) (count : ℕ) (met : Bool) (table : List ℕ) : Type 0 where
   pub most : count ≤ n
   pub size : length table ≡ length before
-  pub taken : buckets_in (take count table) ++ (pass R U (n - count) (buckets_up_to b end)).taken ≡ buckets_in (take from before) ++ p.taken
-  pub many : count + length (pass R U (n - count) (buckets_up_to b end)).taken ≡ from + length p.taken
+  pub taken : buckets_in (take count table) ++ (pass R U (n - count) (buckets_up_to b end)).taken ≡ buckets_in (take from.count before) ++ p.taken
+  pub many : count + length (pass R U (n - count) (buckets_up_to b end)).taken ≡ from.count + length p.taken
   pub left : (pass R U (n - count) (buckets_up_to b end)).left ≡ p.left
-  pub used : thirteen (pass R U (n - count) (buckets_up_to b end)).used refusal ≡ thirteen p.used 0
+  pub used : met || (pass R U (n - count) (buckets_up_to b end)).used ≡ p.used
 
-module _ (R U : Bucket → Bool) {p : Passed} {n from : ℕ} {before : List ℕ} {end b : Bucket} {count refusal : ℕ} {table : List ℕ} (a : Ahead R U p n from before end b count refusal table) where
+module _ (R U : Bucket → Bool) {p : Passed} {n : ℕ} {from : Walked} {before : List ℕ} {end b : Bucket} {count : ℕ} {met : Bool} {table : List ℕ} (a : Ahead R U p n from before end b count met table) where
   abbrev rest : Passed
   rest = pass R U (n - count) (buckets_up_to b end)
 
   -- a reserved bucket is passed
-  pub ahead-skip : count < n → b.0 < end.0 → R b ≡ true → Ahead R U p n from before end (next_bucket b) count refusal table
+  pub ahead-skip : count < n → b.0 < end.0 → R b ≡ true → Ahead R U p n from before end (next_bucket b) count met table
   ahead-skip h l e =
       let q : pass R U (n - count) (buckets_up_to (next_bucket b) end) ≡ rest = sym (ap (pass R U (n - count)) (up-to-next b end l) ∙ pass-skip R U (n - count) b (buckets_up_to (next_bucket b) end) (omega arith) e) in
       record {
@@ -125,12 +123,12 @@ module _ (R U : Bucket → Bool) {p : Passed} {n from : ℕ} {before : List ℕ}
         taken = ap (λ (r : Passed). buckets_in (take count table) ++ r.taken) q ∙ a.taken;
         many = ap (λ (r : Passed). count + length r.taken) q ∙ a.many;
         left = ap (λ (r : Passed). r.left) q ∙ a.left;
-        used = ap (λ (r : Passed). thirteen r.used refusal) q ∙ a.used;
+        used = ap (λ (r : Passed). met || r.used) q ∙ a.used;
       }
 
   -- another is taken
   pub ahead-take :
-      (next : ℕ) → count < n → n ≤ length before → b.0 < end.0 → R b ≡ false → next ≡ thirteen (U b) refusal
+      (next : Bool) → count < n → n ≤ length before → b.0 < end.0 → R b ≡ false → next ≡ met || U b
       → Ahead R U p n from before end (next_bucket b) (count + 1) next (set table count b.0)
   unfolding buckets_in
   ahead-take next h z l e f =
@@ -152,30 +150,29 @@ module _ (R U : Bucket → Bool) {p : Passed} {n from : ℕ} {before : List ℕ}
         many = omega (arith, a.many, ap (λ (x : Passed). length x.taken) q);
         left = ap (λ (x : Passed). x.left) (sym q) ∙ a.left;
         used =
-            ap (thirteen r.used) f ∙ thirteen-or (U b) r.used refusal ∙ ap (λ (x : Passed). thirteen x.used refusal) (sym q) ∙ a.used;
+            ap (λ (t : Bool). t || r.used) f ∙ or_assoc met (U b) r.used ∙ ap (λ (x : Passed). met || x.used) (sym q) ∙ a.used;
       }
 
-  -- what the walk answers, where the rest makes nothing more
-  ended : (left : ℕ) → rest ≡ record { taken = []; left = left; need = n - count; used = false } → WalkEnded p from before table refusal count left
-  ended left e =
+  -- where the rest makes nothing more and no used bucket was met, what the walk leaves
+  ended : (left : ℕ) → met ≡ false → rest ≡ record { taken = []; left = left; need = n - count; used = false }
+      → WalkEnded p from before table (Ok (record { count = count; passed = from.passed + 1; left = left }))
+  ended left f e =
       record {
-        taken = sym (append-nil (buckets_in (take count table))) ∙ ap (λ (x : Passed). buckets_in (take count table) ++ x.taken) (sym e) ∙ a.taken;
-        many = omega (arith, a.many, ap (λ (x : Passed). length x.taken) e);
-        rest = ap (λ (x : Passed). x.left) (sym e) ∙ a.left;
-        used = ap (λ (x : Passed). thirteen x.used refusal) (sym e) ∙ a.used;
+        used = rw (sym a.used, f, e) refl;
+        took =
+            record {
+              taken = sym (append-nil (buckets_in (take count table))) ∙ ap (λ (x : Passed). buckets_in (take count table) ++ x.taken) (sym e) ∙ a.taken;
+              many = omega (arith, a.many, ap (λ (x : Passed). length x.taken) e);
+              passed = refl;
+              rest = ap (λ (x : Passed). x.left) (sym e) ∙ a.left;
+            };
       }
 
-  pub ahead-full : (left : ℕ) → count ≡ n → left ≡ length (buckets_up_to b end) → WalkEnded p from before table refusal count left
-  ahead-full left e f =
+  pub ahead-full : {left : ℕ} → met ≡ false → count ≡ n → left ≡ length (buckets_up_to b end)
+      → WalkEnded p from before table (Ok (record { count = count; passed = from.passed + 1; left = left }))
+  ahead-full {left} m e f =
       let z : n - count ≡ 0 = omega arith in
-      ended left (ap (λ (k : ℕ). pass R U k (buckets_up_to b end)) z ∙ pass-full R U (buckets_up_to b end) ∙ (λ i. record { taken = []; left = (sym f) i; need = (sym z) i; used = false }))
+      ended left m (ap (λ (k : ℕ). pass R U k (buckets_up_to b end)) z ∙ pass-full R U (buckets_up_to b end) ∙ (λ i. record { taken = []; left = (sym f) i; need = (sym z) i; used = false }))
 
-  pub ahead-done : end.0 ≤ b.0 → WalkEnded p from before table refusal count 0
-  ahead-done h = ended 0 (ap (pass R U (n - count)) (up-to-none b end h) ∙ pass-none R U (n - count))
-
--- the refusal after one bucket more
-pub met-one : (n : ℕ) {t : Bool} → t ≡ true → 13 ≡ thirteen t n
-met-one n e = rw e
-
-pub met-none : (n : ℕ) {t : Bool} → t ≡ false → n ≡ thirteen t n
-met-none n e = rw e
+  pub ahead-done : met ≡ false → end.0 ≤ b.0 → WalkEnded p from before table (Ok (record { count = count; passed = from.passed + 1; left = 0 }))
+  ahead-done m h = ended 0 m (ap (pass R U (n - count)) (up-to-none b end h) ∙ pass-none R U (n - count))

@@ -1,5 +1,5 @@
 -- The walk over the runs, as the code makes it.
-use Rattle.std.specs.Prelude.{ℕ, zero, suc, ◌+◌, ◌≤◌, ◌<◌, ◌^◌, ◌≡◌, Bool, true, cond, List, [], ◌∷◌, ◌++◌, length, take}
+use Rattle.std.specs.Prelude.{ℕ, zero, suc, ◌+◌, ◌≤◌, ◌<◌, ◌^◌, ◌≡◌, Bool, true, cond, List, [], ◌∷◌, ◌++◌, length, take, Result, IfOk}
 use Rattle.wire.specs.Keys.{Key}
 use Rattle.wire.specs.Kinds.{began_before, buckets_in}
 use Rattle.wire.specs.declared.kinds.Bucket.{Bucket}
@@ -9,15 +9,13 @@ use Rattle.calls.specs.Freespace.{end_of, buckets_of, pass, shortened}
 use Rattle.reader.specs.KeyHere.{Whole, key_here}
 use Rattle.bucket_bits.specs.Bits.{Tables}
 use Rattle.reader.specs.Checked.{end_in_range}
+use Rattle.reader.specs.Refusals.{number_in}
+use Rattle.reader.specs.declared.refusal.Refusal.{Refusal}
 use Rattle.freespace.specs.declared.take.Walked.{Walked}
-
--- a refusal, with nothing taken
-abbrev pub stopped : ℕ → Walked
-stopped refusal = record { refusal = refusal; count = 0; passed = 0; left = 0 }
 
 -- before the first key
 abbrev pub unwalked : Walked
-unwalked = stopped 0
+unwalked = record { count = 0; passed = 0; left = 0 }
 
 -- What the walk of a key asks: a key at its place within the limits, the tables, and room for the buckets.
 pub record Walkable (s : List ℕ) (at : ℕ) (reserved used : List ℕ) (n : ℕ) (from : Walked) (table : List ℕ) : Type 0 where
@@ -32,12 +30,17 @@ pub record Walkable (s : List ℕ) (at : ℕ) (reserved used : List ℕ) (n : �
 abbrev pub thirteen : Bool → ℕ → ℕ
 thirteen used other = cond used 13 other
 
+-- what the walk of a run's buckets leaves where it met no used one
+pub record RunTook (p : calls.Passed) (from : Walked) (before after : List ℕ) (r : Walked) : Type 0 where
+  pub taken : buckets_in (take r.count after) ≡ buckets_in (take from.count before) ++ p.taken
+  pub many : r.count ≡ from.count + length p.taken
+  pub passed : r.passed ≡ from.passed + 1
+  pub rest : r.left ≡ p.left
+
 -- what the walk of a run's buckets gives
-pub record WalkEnded (p : calls.Passed) (from : ℕ) (before after : List ℕ) (refusal count left : ℕ) : Type 0 where
-  pub taken : buckets_in (take count after) ≡ buckets_in (take from before) ++ p.taken
-  pub many : count ≡ from + length p.taken
-  pub rest : left ≡ p.left
-  pub used : refusal ≡ thirteen p.used 0
+pub record WalkEnded (p : calls.Passed) (from : Walked) (before after : List ℕ) (r : Result Walked Refusal) : Type 0 where
+  pub used : number_in r ≡ thirteen p.used 0
+  pub took : IfOk r (RunTook p from before after)
 
 -- what the walk makes of one key: nothing where it is no run
 unfoldable pub key_walk : (Bucket → Bool) → (Bucket → Bool) → ℕ → Key → calls.Walked
@@ -76,7 +79,7 @@ pub record WalkTook (n : ℕ) (ks : List Key) (w : calls.Walked) (from : Walked)
   -- where it is short of n buckets, it is at a key's end
   pub short : r.count < n → r.left ≡ 0
 
--- the walk's refusal, or what it leaves
-pub record WalkIs (n : ℕ) (ks : List Key) (w : calls.Walked) (from : Walked) (before after : List ℕ) (r : Walked) : Type 0 where
-  pub refusal : r.refusal ≡ w.refusal
-  pub took : r.refusal ≡ 0 → WalkTook n ks w from before after r
+-- the walk's refusal, or what it leaves; `keys` gives the keys that it passed
+pub record WalkIs (n : ℕ) (keys : Walked → List Key) (w : calls.Walked) (from : Walked) (before after : List ℕ) (r : Result Walked Refusal) : Type 0 where
+  pub refusal : number_in r ≡ w.refusal
+  pub took : IfOk r (λ x. WalkTook n (keys x) w from before after x)

@@ -7,19 +7,18 @@ ghost use Rattle.reader.specs.KeyHere.{key_here};
 ghost use Rattle.reader.specs.Located.{KeysAt, BucketsAt};
 ghost use Rattle.bucket_bits.specs.Bits.{marked, Tables};
 ghost use Rattle.reader.specs.Checked.{Checked};
-ghost use Rattle.freespace.specs.Walks.{Walkable, key_walk, unwalked, stopped, WalkEnded, WalkIs};
+ghost use Rattle.freespace.specs.Walks.{Walkable, key_walk, unwalked, WalkEnded, WalkIs};
 
 use crate::runs;
 use crate::runs::Run;
 use bucket_bits::marks;
+use reader::refusal::Refusal;
 use wire::kinds;
 use wire::kinds::Bucket;
 
 // What the walk makes, so far or in the end.
 #[derive(Clone, Copy, Drop)]
 pub struct Walked {
-    // 12, 13, or 0.
-    pub refusal: u32,
     // How many buckets are taken.
     pub count: usize,
     // How many keys of the tree were passed.
@@ -28,19 +27,7 @@ pub struct Walked {
     pub left: u32,
 }
 
-// A refusal, with nothing taken.
-pub fn stopped(refusal: u32) -> Walked
-    ensures { result ≡ stopped refusal }
-{
-    Walked {
-        refusal,
-        count: 0,
-        passed: 0,
-        left: 0,
-    }
-}
-
-// Walks a run until n buckets are taken. `walk_key` shows what is asked.
+// Walks a run until n buckets are taken: refusal 13 where one of them is used. `walk_key` shows what is asked.
 fn walk_run(
     run: Run,
     reserved: &[u8; 8192],
@@ -48,39 +35,33 @@ fn walk_run(
     n: usize,
     from: Walked,
     taken: &mut [u64],
-) -> Walked
+) -> Result<Walked, Refusal>
     requires { (run.end.0 ≤ 65536) × (from.count ≤ n) × (n ≤ length taken.old) × (from.passed < 2 ^ 63) }
-    ensures walked { WalkEnded (pass (marked reserved.now) (marked used.now) (n - from.count) (buckets_up_to run.start run.end)) from.count taken.old taken.new result.refusal result.count result.left }
-    ensures passed { result.passed ≡ from.passed + 1 }
+    ensures { WalkEnded (pass (marked reserved.now) (marked used.now) (n - from.count) (buckets_up_to run.start run.end)) from taken.old taken.new result }
 {
-    let passed = from.passed + 1;
     let mut count = from.count;
-    let mut refusal: u32 = 0;
+    let mut left: u32 = 0;
+    let mut met_used = false;
     for number in run.start.0..run.end.0 {
         let b = Bucket(number);
         if count == n {
-            let left = kinds::buckets_between(b, run.end);
-            return Walked {
-                refusal,
-                count,
-                passed,
-                left,
-            };
+            left = kinds::buckets_between(b, run.end);
+            break;
         }
         if !marks::is_marked(reserved, b) {
-            if marks::is_marked(used, b) {
-                refusal = 13;
-            }
+            met_used |= marks::is_marked(used, b);
             taken[count] = number;
             count += 1;
         }
     }
-    Walked {
-        refusal,
-        count,
-        passed,
-        left: 0,
+    if met_used {
+        return Err(Refusal::BucketInUse);
     }
+    Ok(Walked {
+        count,
+        passed: from.passed + 1,
+        left,
+    })
 }
 
 // Walks one key, if it is a run. `take_buckets` shows what is asked.
@@ -92,21 +73,20 @@ fn walk_key(
     n: usize,
     from: Walked,
     taken: &mut [u64],
-) -> Walked
+) -> Result<Walked, Refusal>
     requires { Walkable s.now at reserved.now used.now n from taken.old }
-    ensures { WalkIs n (key_here s.now at ∷ []) (key_walk (is_in (read_volume s.now).reserved) (is_used (read_volume s.now).trees.alloc) (n - from.count) (key_here s.now at)) from taken.old taken.new result }
+    ensures { WalkIs n (λ w. key_here s.now at ∷ []) (key_walk (is_in (read_volume s.now).reserved) (is_used (read_volume s.now).trees.alloc) (n - from.count) (key_here s.now at)) from taken.old taken.new result }
 {
     if runs::began_early(s, at) {
-        return stopped(12);
+        return Err(Refusal::RunBeforeBuckets);
     }
     match runs::run_of(s, at) {
         Some(run) => walk_run(run, reserved, used, n, from, taken),
-        None => Walked {
-            refusal: 0,
+        None => Ok(Walked {
             count: from.count,
             passed: from.passed + 1,
             left: 0,
-        },
+        }),
     }
 }
 
@@ -118,21 +98,22 @@ pub fn take_buckets(
     used: &[u8; 8192],
     n: usize,
     taken: &mut [u64],
-) -> Walked
+) -> Result<Walked, Refusal>
     requires { Checked s.now × KeysAt s.now runs.now (read_volume s.now).trees.freespace × (n ≤ length taken.old) × Tables s.now reserved.now used.now }
-    ensures { WalkIs n (take result.passed (read_volume s.now).trees.freespace) (walk (is_in (read_volume s.now).reserved) (is_used (read_volume s.now).trees.alloc) n (runs_of (read_volume s.now).trees.freespace)) unwalked taken.old taken.new result }
+    ensures { WalkIs n (λ w. take w.passed (read_volume s.now).trees.freespace) (walk (is_in (read_volume s.now).reserved) (is_used (read_volume s.now).trees.alloc) n (runs_of (read_volume s.now).trees.freespace)) unwalked taken.old taken.new result }
 {
-    let mut w = stopped(0);
+    let mut w = Walked {
+        count: 0,
+        passed: 0,
+        left: 0,
+    };
     for at in runs {
         if w.count == n {
-            return w;
+            return Ok(w);
         }
-        w = walk_key(s, *at as usize, reserved, used, n, w, taken);
-        if w.refusal != 0 {
-            return w;
-        }
+        w = walk_key(s, *at as usize, reserved, used, n, w, taken)?;
     }
-    w
+    Ok(w)
 }
 
 // The walk, with its tables filled. Refusals 2 and 3, the reader and the lent table show what is asked.
@@ -143,9 +124,9 @@ pub fn walk_runs(
     reserved: &[u32],
     n: usize,
     taken: &mut [u64],
-) -> Walked
+) -> Result<Walked, Refusal>
     requires { Checked s.now × KeysAt s.now alloc.now (read_volume s.now).trees.alloc × KeysAt s.now runs.now (read_volume s.now).trees.freespace × BucketsAt s.now reserved.now (read_volume s.now).reserved × (n ≤ length taken.old) }
-    ensures { WalkIs n (take result.passed (read_volume s.now).trees.freespace) (walk (is_in (read_volume s.now).reserved) (is_used (read_volume s.now).trees.alloc) n (runs_of (read_volume s.now).trees.freespace)) unwalked taken.old taken.new result }
+    ensures { WalkIs n (λ w. take w.passed (read_volume s.now).trees.freespace) (walk (is_in (read_volume s.now).reserved) (is_used (read_volume s.now).trees.alloc) n (runs_of (read_volume s.now).trees.freespace)) unwalked taken.old taken.new result }
 {
     let mut reserved_bits = [0u8; 8192];
     let mut used_bits = [0u8; 8192];

@@ -4,8 +4,7 @@ use Rattle.freespace.proofs.TakeLaws.{key-began, key-run, key-alone}
 use Rattle.freespace.proofs.take.walk_key.Goals as goal
 
 pub returns-then-began_early : goal.returns-then-began_early
-returns-then-began_early c =
-    key-began _ _ _ _ c.args.from _ _ _ c.stopped.ensures (sym c.began_early.ensures ∙ c.if-began_early.true)
+returns-then-began_early c = key-began _ _ _ _ c.args.from _ _ (sym c.began_early.ensures ∙ c.if-began_early.true)
 
 pub walk_run-requires : goal.walk_run-requires
 walk_run-requires c =
@@ -15,8 +14,7 @@ pub returns-in-Some : goal.returns-in-Some
 returns-in-Some c =
     let q = c.requires in
     key-run _ _ _ _ c.args.from _ _ (sym c.began_early.ensures ∙ c.if-began_early.false) q.most
-    (sym c.run_of.ensures ∙ c.in-Some.is) q.end q.tables.reserved-told q.tables.used-told _
-    c.walk_run.ensures.walked c.walk_run.ensures.passed
+    (sym c.run_of.ensures ∙ c.in-Some.is) q.end q.tables.reserved-told q.tables.used-told _ c.walk_run.ensures
 
 pub returns-in-None : goal.returns-in-None
 returns-in-None c =

@@ -1,28 +1,28 @@
-use Rattle.std.proofs.Common.{◌≡◌, arith, sym, ◌∙◌}
-use Rattle.bucket_bits.specs.Bits.{marked}
-use Rattle.wire.specs.Kinds.{bucket_is}
-use Rattle.freespace.specs.Walks.{thirteen}
-use Rattle.freespace.proofs.WalkLaws.{ahead-skip, ahead-take, ahead-full, ahead-done, met-one, met-none}
+use Rattle.std.proofs.Common.{◌||◌, arith, sym, ap, ◌∙◌}
+use Rattle.freespace.proofs.WalkLaws.{ahead-skip, ahead-take, ahead-full, ahead-done}
 use Rattle.freespace.proofs.take.walk_run.Goals as goal
-use Rattle.freespace.proofs.take.walk_run.Goals.{then-not-is_marked, then-is_marked, else-is_marked, else-not-is_marked}
-
-pub returns-then-count-n-clause-walked : goal.returns-then-count-n-clause-walked
-returns-then-count-n-clause-walked c = ahead-full _ _ c.loop-number.invariant _ c.if-count-n.true c.buckets_between-left.ensures
+use Rattle.freespace.proofs.take.walk_run.Goals.{then-not-is_marked, else-not-is_marked, else-loop-number-test, then-loop-number-test+then-count-n}
 
 pub loop-number-preserved : goal.loop-number-preserved
 loop-number-preserved c =
-    elim c.if-not-is_marked.branch [
-      | then-not-is_marked w ↦
-          let met : w.if-is_marked.refusal ≡ thirteen (marked c.args.used.now (bucket_is c.loop-number.number)) c.loop-number.refusal =
-          elim w.if-is_marked.branch [
-            | then-is_marked u ↦ u.refusal-is ∙ met-one _ (sym w.is_marked-then-not-is_marked.ensures ∙ u.if-is_marked.true)
-            | else-is_marked u ↦ u.refusal-is ∙ met-none _ (sym w.is_marked-then-not-is_marked.ensures ∙ u.if-is_marked.false)
-          ] in
-          rw (w.taken-is, w.count-is, w.refusal-is)
-          (ahead-take _ _ c.loop-number.invariant _ (omega arith) c.requires.2 (omega arith) (sym c.is_marked.ensures ∙ w.if-not-is_marked.true) met)
-      | else-not-is_marked w ↦
-          rw (w.taken-is, w.count-is, w.refusal-is) (ahead-skip _ _ c.loop-number.invariant (omega arith) (omega arith) (sym c.is_marked.ensures ∙ w.if-not-is_marked.false))
-    ]
+    let a = c.loop-number.invariant.ahead in
+    record {
+      ahead =
+          elim c.if-not-is_marked.branch [
+            | then-not-is_marked w ↦
+                rw (w.taken-is, w.count-is, w.met_used-is)
+                (ahead-take _ _ a _ (omega arith) c.requires.2 (omega arith) (sym c.is_marked.ensures ∙ w.if-not-is_marked.true) (ap (◌||◌ c.loop-number.met_used) w.is_marked-met_used.ensures))
+            | else-not-is_marked w ↦
+                rw (w.taken-is, w.count-is, w.met_used-is) (ahead-skip _ _ a (omega arith) (omega arith) (sym c.is_marked.ensures ∙ w.if-not-is_marked.false))
+          ];
+      left = c.loop-number.invariant.left;
+    }
 
-pub returns-clause-walked : goal.returns-clause-walked
-returns-clause-walked c = ahead-done _ _ c.loop-number.invariant (omega arith)
+pub returns : goal.returns
+returns c =
+    let a = c.loop-number.invariant.ahead in
+    elim c.loop-number-test.branch [
+      | else-loop-number-test w ↦ rw (w.left-is, c.loop-number.invariant.left) (ahead-done _ _ a c.if-met_used.false w.loop-number-test.false)
+      | then-loop-number-test+then-count-n w ↦
+          rw w.left-is (ahead-full _ _ a c.if-met_used.false w.if-count-n.true w.buckets_between-left.ensures)
+    ]

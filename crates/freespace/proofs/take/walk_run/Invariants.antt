@@ -1,4 +1,4 @@
-use Rattle.std.proofs.Common.{◌-◌}
+use Rattle.std.proofs.Common.{◌-◌, ◌≡◌}
 use Rattle.wire.specs.Kinds.{bucket_is, buckets_up_to}
 use Rattle.calls.specs.Freespace.{pass}
 use Rattle.bucket_bits.specs.Bits.{marked}
@@ -8,4 +8,7 @@ use Rattle.freespace.proofs.take.walk_run.Given as goal
 abbrev pub invariant-loop-number : goal.invariant-loop-number
 invariant-loop-number l =
     let all = pass (marked l.reserved) (marked l.used) (l.n - l.fn.from.count) (buckets_up_to l.run.start l.run.end) in
-    Ahead (marked l.reserved) (marked l.used) all l.n l.fn.from.count l.fn.taken l.run.end (bucket_is l.number) l.count l.refusal l.taken
+    record {
+      ahead : Ahead (marked l.reserved) (marked l.used) all l.n l.fn.from l.fn.taken l.run.end (bucket_is l.number) l.count l.met_used l.taken;
+      left : l.left ≡ 0;
+    }
