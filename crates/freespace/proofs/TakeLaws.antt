@@ -19,12 +19,12 @@ use Rattle.calls.specs.Freespace.{end_of, buckets_of, runs_of, Passed, pass, sho
 use Rattle.bucket_bits.specs.Bits.{marked, Marks}
 use Rattle.reader.specs.Checked.{end_in_range}
 use Rattle.freespace.specs.Runs.{began_early, run_in}
-use Rattle.reader.specs.Refusals.{number_of}
 use Rattle.reader.specs.declared.refusal.Refusal.{Refusal}
 use Rattle.reader.specs.declared.refusal.Refusal.TheVariants.{RunBeforeBuckets}
 use Rattle.freespace.specs.Walks.{unwalked, thirteen, key_walk, left_of, key_queue, queue_of, RunTook, WalkEnded, WalkTook, WalkIs}
 use Rattle.freespace.specs.declared.runs.Run.{Run}
 use Rattle.freespace.specs.declared.take.Walked.{Walked}
+use Rattle.freespace.proofs.NumberLaws.{refused-some}
 use Rattle.freespace.proofs.RunLaws.{run_end, run_buckets, run-buckets, run_none}
 use Rattle.freespace.proofs.WalkLaws.{pass-none, pass-left, pass-sum, pass-agree}
 
@@ -224,10 +224,6 @@ unfolding queue_of
 queue-take zero left ks = refl
 queue-take (suc i) left [] = refl
 queue-take (suc i) left (k ∷ ks) = rw (queue-take i left ks)
-
--- ---- a refusal has a number that is not 0
-refused-some : (e : Refusal) → number_of e ≡ 0 → ⊥
-refused-some e z = grind arith
 
 -- ---- the walk so far: with what the keys from an index on make, it is all that the walk makes
 pub record RunWalking (R U : Bucket → Bool) (ks : List Key) (w : calls.Walked) (n : ℕ) (before table : List ℕ) (r : Walked) : Type 0 where

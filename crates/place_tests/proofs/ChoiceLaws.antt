@@ -13,17 +13,18 @@ use Rattle.calls.specs.Place.{slots_of, walk_of, place_tests}
 use Rattle.calls.specs.Refusals.{verdict}
 use Rattle.reader.specs.Heads.{head_in}
 use Rattle.reader.specs.declared.head.Head.{Head}
+use Rattle.reader.specs.Refusals.{number_of}
+use Rattle.reader.specs.declared.refusal.Refusal.{Refusal}
+use Rattle.std.specs.Prelude.{Result, Ok, Err, OnOk}
 use Rattle.place_tests.specs.Choice.{ChosenIs}
-use Rattle.freespace.specs.Walks.{stopped, unwalked, WalkIs}
+use Rattle.freespace.specs.Walks.{unwalked, WalkIs}
 use Rattle.freespace.specs.declared.take.Walked.{Walked}
 use Rattle.next_fit.specs.Fit.{slots_in}
 use Rattle.place_tests.proofs.RefusalLaws.{enough}
 
 -- a refusal before the walk
-pub chosen-stopped : {s before after numbers : List ℕ} (r : Walked) {number : ℕ} → r ≡ stopped number → (number ≡ 0 → ⊥) → number ≡ verdict (place_tests (read_call s)) → ChosenIs s before after numbers r
-chosen-stopped r e n v =
-    let q = ap (λ (x : Walked). x.refusal) e in
-    record { refusal = q ∙ v; took = λ z. absurd (n (sym q ∙ z)); laid = λ z. absurd (n (sym q ∙ z)) }
+pub chosen-stopped : {s before after numbers : List ℕ} (e : Refusal) → number_of e ≡ verdict (place_tests (read_call s)) → ChosenIs s before after numbers (Err e)
+chosen-stopped e v = record { refusal = v; took = tt; laid = tt }
 
 module _ (s : List ℕ) {n : ℕ} (e : n ≡ buckets_needed (slots_of (read_call s))) where
   -- refusal 11's test
@@ -39,9 +40,13 @@ module _ (s : List ℕ) {n : ℕ} (e : n ≡ buckets_needed (slots_of (read_call
   unfolding walk_of
   walk_is = ap walked e
 
-  pub chosen-walk : {before after numbers : List ℕ} {r : Walked} → (walk_of (read_call s)).refusal ≡ verdict (place_tests (read_call s)) → slots_in numbers ≡ slots_of (read_call s)
-      → WalkIs n (take r.passed (read_volume s).trees.freespace) (walked n) unwalked before after r → ChosenIs s before after numbers r
-  chosen-walk {before} {after} {r = r} v l w =
-      let ks = take r.passed (read_volume s).trees.freespace in
-      let f : WalkIs (buckets_needed (slots_of (read_call s))) ks (walk_of (read_call s)) unwalked before after r = rw (← e, ← walk_is) w in
-      record { refusal = f.refusal ∙ v; took = f.took; laid = λ z. l }
+  pub chosen-walk : {before after numbers : List ℕ} {r : Result Walked Refusal} → (walk_of (read_call s)).refusal ≡ verdict (place_tests (read_call s)) → slots_in numbers ≡ slots_of (read_call s)
+      → WalkIs n (λ w. take w.passed (read_volume s).trees.freespace) (walked n) unwalked before after r → ChosenIs s before after numbers r
+  chosen-walk {before} {after} {numbers} {r} v l w =
+      let f : WalkIs (buckets_needed (slots_of (read_call s))) (λ x. take x.passed (read_volume s).trees.freespace) (walk_of (read_call s)) unwalked before after r =
+      rw (← e, ← walk_is) w in
+      record { refusal = f.refusal ∙ v; took = f.took; laid = on_ok r }
+    where
+      on_ok : (x : Result Walked Refusal) → OnOk x (slots_in numbers ≡ slots_of (read_call s))
+      on_ok (Ok x) = l
+      on_ok (Err x) = tt

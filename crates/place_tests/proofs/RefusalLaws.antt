@@ -16,6 +16,9 @@ use Rattle.calls.specs.Refusals.{test, verdict}
 use Rattle.calls.proofs.answers.RefusalLaws.{verdict-ok, verdict-front, verdict-next, verdict-stops, verdict-past, verdict-first, verdict-one, test-ok}
 use Rattle.reader.specs.Heads.{head_in}
 use Rattle.reader.specs.declared.head.Head.{Head}
+use Rattle.reader.specs.Refusals.{number_of}
+use Rattle.reader.specs.declared.refusal.Refusal.{Refusal}
+use Rattle.freespace.proofs.NumberLaws.{refused-some}
 
 -- ---- 4 to 9
 -- the first of six tests that fails
@@ -87,9 +90,9 @@ module _ (c : CallList) where
   abbrev rest : List ℕ
   rest = test 10 apart ∷ test 11 enough ∷ (walk_of c).refusal ∷ []
 
-  pub asked-stops : {r : ℕ} → r ≡ verdict (take 6 (place_tests c)) → (r ≡ 0 → ⊥) → r ≡ verdict (place_tests c)
+  pub asked-stops : (r : Refusal) → number_of r ≡ verdict (take 6 (place_tests c)) → number_of r ≡ verdict (place_tests c)
   unfolding place_tests
-  asked-stops e p = e ∙ sym (verdict-first (take 6 (place_tests c)) rest (λ z. p (e ∙ z)))
+  asked-stops r e = e ∙ sym (verdict-first (take 6 (place_tests c)) rest (λ z. refused-some r (e ∙ z)))
 
   module _ (z : verdict (take 6 (place_tests c)) ≡ 0) where
     past-9 : verdict (place_tests c) ≡ verdict rest

@@ -6,6 +6,7 @@ ghost use Rattle.calls.specs.Place.{place_tests};
 ghost use Rattle.calls.specs.Refusals.{verdict};
 ghost use Rattle.reader.specs.Heads.{head_in};
 ghost use Rattle.reader.specs.Located.{KeysAt, BucketsAt, PiecesAt};
+ghost use Rattle.reader.specs.Refusals.{number_in};
 ghost use Rattle.place_tests.specs.Called.{Called};
 ghost use Rattle.reader.specs.Checked.{Checked};
 ghost use Rattle.place_tests.specs.Choice.{ChosenIs};
@@ -15,33 +16,34 @@ use freespace::take::Walked;
 use freespace::{runs, take};
 use next_fit::needed;
 use reader::head::Head;
+use reader::refusal::Refusal;
 
-// Refusals 4 to 9, of what is asked: the first of them, or 0. The reader shows where the pieces stand.
+// Refusals 4 to 9, of what is asked: the first of them, or none. The reader shows where the pieces stand.
 #[tactic(auto, unfolding(calls::specs::Pieces::block_of))]
-fn refuse_requests(s: &[u8], h: Head, pieces: &[u32]) -> u32
+fn refuse_requests(s: &[u8], h: Head, pieces: &[u32]) -> Result<(), Refusal>
     requires { PiecesAt s.now pieces.now (read_call s.now).pieces × (head_in h ≡ (read_volume s.now).head) }
-    ensures { result ≡ verdict (take 6 (place_tests (read_call s.now))) }
+    ensures { number_in result ≡ verdict (take 6 (place_tests (read_call s.now))) }
 {
     if h.bucket_sectors == 0 {
-        return 4;
+        return Err(Refusal::NoSectors);
     }
     if 3 < h.option {
-        return 5;
+        return Err(Refusal::ChecksumOption);
     }
     if !requests::kinds_listed(s, pieces) {
-        return 6;
+        return Err(Refusal::CompressionKind);
     }
     if !requests::option_fits(s, pieces, h.option) {
-        return 7;
+        return Err(Refusal::NoChecksum);
     }
     let block = requests::block_of(h.block_sectors);
     if !requests::block_fits(block, h.bucket_sectors) {
-        return 8;
+        return Err(Refusal::BlockSectors);
     }
     if !requests::pieces_sized(s, pieces, h.bucket_sectors, block) {
-        return 9;
+        return Err(Refusal::PieceSectors);
     }
-    0
+    Ok(())
 }
 
 // Refusal 11: whether enough buckets are free for the n that are needed. Refusals 2, 3 and 10, the reader and 1,024 pieces show what is asked.
@@ -64,23 +66,20 @@ pub fn choose_buckets(
     pieces: &[u32],
     taken: &mut [u64],
     slots: &mut [u32],
-) -> Walked
+) -> Result<Walked, Refusal>
     requires { Called s.now h alloc.now runs.now reserved.now pieces.now × (1024 ≤ length taken.old) × (1024 ≤ length slots.old) }
     ensures { ChosenIs s.now taken.old taken.new (take (length pieces.now) slots.new) result }
 {
     // 4 to 9: what is asked
-    let number = refuse_requests(s, h, pieces);
-    if number != 0 {
-        return take::stopped(number);
-    }
+    refuse_requests(s, h, pieces)?;
     // 10: two runs overlap
     if runs::overlaps(s, runs) {
-        return take::stopped(10);
+        return Err(Refusal::RunsOverlap);
     }
     // 11: too few buckets are free
     let n = needed::lay_out(s, pieces, h.bucket_sectors, slots);
     if !enough_free(s, h.reserve, runs, reserved, n) {
-        return take::stopped(11);
+        return Err(Refusal::TooFewFree);
     }
     // 12 and 13: the walk meets a run begun before bucket 0, or a used bucket
     take::walk_runs(s, alloc, runs, reserved, n, taken)
