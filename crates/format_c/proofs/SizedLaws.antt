@@ -6,8 +6,7 @@ use mathlib.Core.Bool.{Bool, true, false, ◌&&◌, cond}
 use mathlib.Core.List.{List}
 use Rattle.std.proofs.Common.{Some, None}
 use lib.Dec.{leb}
-use lib.ListN.{length, take, replicate}
-use lib.Seq.{take-append_seam}
+use lib.ListN.{length, take}
 use Rattle.std.proofs.lemmas.List.{take_all}
 use Rattle.wire.specs.Held.{padded, value_in}
 use Rattle.wire.specs.Numbers.{words_bytes}
@@ -15,11 +14,8 @@ use Rattle.wire.specs.Output.{cap, top, Wrote, with_bytes}
 use Rattle.wire.specs.declared.keys.Value.{Value}
 use Rattle.wire.specs.declared.output.Output.{Output}
 use Rattle.wire.proofs.EncodeLaws.{words_count}
+use Rattle.wire.proofs.KeyLaws.{value_in_lem}
 use Rattle.format_c.specs.Sized.{where_sized}
-
--- the whole value is read
-whole-value : (s : List ℕ) → value_in (padded s) ≡ s
-whole-value s = take-append_seam s (replicate (256 - length s) 0)
 
 module _ (lo hi : ℕ) (f : List ℕ → List ℕ) (s : List ℕ) where
   pub changed : (v r : Value) → Some v ≡ cond (leb lo (length s) && leb (length s) hi) (Some (padded s)) None → value_in r ≡ f (value_in v) → value_in r ≡ where_sized lo hi f s
@@ -27,7 +23,7 @@ module _ (lo hi : ℕ) (f : List ℕ → List ℕ) (s : List ℕ) where
   changed v r = go (leb lo (length s) && leb (length s) hi)
     where
       go : (t : Bool) → Some v ≡ cond t (Some (padded s)) None → value_in r ≡ f (value_in v) → value_in r ≡ cond t (f s) s
-      go true e c = let h : v ≡ padded s = cc in c ∙ ap (λ (u : Value). f (value_in u)) h ∙ ap f (whole-value s)
+      go true e c = let h : v ≡ padded s = cc in c ∙ ap (λ (u : Value). f (value_in u)) h ∙ ap f (value_in_lem s)
       go false e c = cc
 
   pub left_alone : cond (leb lo (length s) && leb (length s) hi) (Some (padded s)) None ≡ None → s ≡ where_sized lo hi f s

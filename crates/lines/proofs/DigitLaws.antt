@@ -2,23 +2,15 @@
 use Prim.Native.Nat.{ℕ, zero, suc, ◌+◌, ◌-◌, ◌*◌, ◌/◌, ◌%◌, ◌^◌, ◌<◌, ◌≤◌}
 use mathlib.Core.Path.{◌≡◌, refl, sym, ap, ◌∙◌}
 use mathlib.Core.List.{List, ◌∷◌}
-use mathlib.Core.Logic.{⊎_elim}
-use native.Mathlib.Nat.{pow-zero, pow-suc, div-one, div-div-eq-div-mul}
+use native.Mathlib.Nat.{pow-zero, pow-suc, one-le-pow, div-one, div-div-eq-div-mul}
 use native.Mathlib.Omega.{arith}
 use lib.Dec.{ltb}
 use lib.ListN.{length, take, drop, set, length-set, length-drop, drop_of_length-le}
 use lib.Seq.{take_all}
 use Rattle.calls.proofs.lists.MapLaws.{drop-set}
 use borrow.Author.Tests.{lt-ltb, le-ltb}
-use Rattle.wire.proofs.OutputLaws.{lt-or-ge}
 use Rattle.calls.proofs.lists.BoolLaws.{cond-most}
 use Rattle.lines.specs.Digits.{digit, last_digits, width, decimal, signed}
-
-pub digit_low : (d : ℕ) → d < 10 → 48 + d ≡ digit d
-digit_low d h = rw (lt-ltb d 10 h)
-
-pub digit-high : (d : ℕ) → 10 ≤ d → 87 + d ≡ digit d
-digit-high d h = rw (le-ltb d 10 h)
 
 -- digits that are stored from the last on: from index `from` on they stand, and `rest` has those before
 pub record DigitsFilled (base n : ℕ) (text : List ℕ) (from rest : ℕ) : Type 0 where
@@ -57,54 +49,30 @@ fill_more {base} {n} {text} {from} {rest} f h =
           ∙ ap (λ (m : ℕ). last_digits base m n) (sym e);
     }
 
-pub filled : {base n : ℕ} {text : List ℕ} {from rest : ℕ} → DigitsFilled base n text from rest → (count : ℕ) → from + count ≡ 20
-    → take count (drop from text) ≡ last_digits base count n
-filled {base} {n} {text} {from} f count h =
-    let e : 20 - from ≡ count = omega arith in
-    take_all count (drop from text) (omega (arith, length-drop from text, f.size)) ∙ f.digits ∙ ap (λ (m : ℕ). last_digits base m n) e
+pub filled : {base n : ℕ} {text : List ℕ} {from rest : ℕ} → DigitsFilled base n text from rest → (count : ℕ) → from ≡ 20 - count → count ≤ 20
+    → take (20 - (20 - count)) (drop (20 - count) text) ≡ last_digits base count n
+filled {base} {n} {text} {from} f count h l =
+    let e : 20 - (20 - count) ≡ count = omega arith in
+    let d : drop (20 - count) text ≡ last_digits base count n =
+    ap (λ (m : ℕ). drop m text) (sym h) ∙ f.digits ∙ ap (λ (m : ℕ). last_digits base m n) (ap (λ (m : ℕ). 20 - m) h ∙ e) in
+    take_all (20 - (20 - count)) (drop (20 - count) text) (omega (arith, length-drop (20 - count) text, f.size)) ∙ d
 
--- how many digits a number has
-
-width_one : (k n : ℕ) → n < 10 → width k n ≡ 1
+-- how many digits a number has, by its powers of ten
+pub width-is : (k j n : ℕ) → j ≤ k → 10 ^ j ≤ n → n < 10 * 10 ^ j → width k n ≡ j + 1
 unfolding width
-width_one zero n h = refl
-width_one (suc k) n h = rw (lt-ltb n 10 h)
+width-is zero zero n h l u = refl
+width-is zero (suc j) n h l u = absurd (omega arith)
+width-is (suc k) zero n h l u = rw (lt-ltb n 10 (omega (arith, pow-zero 10)))
+width-is (suc k) (suc j) n h l u =
+    let s : 10 ^ suc j ≡ 10 ^ j * 10 = pow-suc 10 j in
+    let o : 1 ≤ 10 ^ j = one-le-pow j 10 (omega arith) in
+    rw (le-ltb n 10 (omega arith)) (omega (arith, width-is k j (n / 10) (omega arith) (omega arith) (omega arith)))
 
-width-next : (k n : ℕ) → 10 ≤ n → width (suc k) n ≡ suc (width k (n / 10))
+-- 0 has one
+pub width-zero : (k : ℕ) → width k 0 ≡ 1
 unfolding width
-width-next k n h = rw (le-ltb n 10 h)
-
--- digits that are counted from the last on: `rest` has those that are not
-pub record Counted (n count rest : ℕ) : Type 0 where
-  pub some : 1 ≤ count
-  pub few : count ≤ 20
-  pub small : rest < 10 ^ (21 - count)
-  pub left : count + width (20 - count) rest ≡ 1 + width 19 n
-
-pub count_none : (n : ℕ) → n < 2 ^ 64 → Counted n 1 n
-count_none n h = record { some = omega arith; few = omega arith; small = omega arith; left = refl }
-
-below-20 : {n count rest : ℕ} → Counted n count rest → 10 ≤ rest → count < 20
-below-20 {n} {count} {rest} w h =
-    ⊎_elim (λ (l : count < 20). l)
-    (λ (g : 20 ≤ count).
-    let e : 21 - count ≡ 1 = omega (arith, w.few) in
-    let z : rest < 10 ^ 1 = rw e at w.small in
-    absurd (omega arith))
-    (lt-or-ge count 20)
-
-pub count-more : {n count rest : ℕ} → Counted n count rest → 10 ≤ rest → Counted n (count + 1) (rest / 10)
-count-more {n} {count} {rest} w h =
-    let b : count < 20 = below-20 w h in
-    let e : 21 - count ≡ suc (21 - (count + 1)) = omega arith in
-    let z : rest < 10 ^ (21 - (count + 1)) * 10 = rw (e, pow-suc) at w.small in
-    let d : 20 - count ≡ suc (20 - (count + 1)) = omega arith in
-    let y : count + suc (width (20 - (count + 1)) (rest / 10)) ≡ 1 + width 19 n =
-    ap (λ (m : ℕ). count + m) (sym (ap (λ (m : ℕ). width m rest) d ∙ width-next (20 - (count + 1)) rest h)) ∙ w.left in
-    record { some = omega arith; few = omega arith; small = omega arith; left = omega arith }
-
-pub counted : {n count rest : ℕ} → Counted n count rest → rest < 10 → count ≡ width 19 n
-counted {n} {count} {rest} w h = omega (arith, w.left, width_one (20 - count) rest h)
+width-zero zero = refl
+width-zero (suc k) = refl
 
 pub width-most : (k n : ℕ) → width k n ≤ k + 1
 unfolding width
@@ -116,8 +84,6 @@ pub signed-plus : (n : ℕ) → n < 2 ^ 63 → decimal n ≡ signed n
 unfolding signed
 signed-plus n h = rw (lt-ltb n (2 ^ 63) h)
 
-pub signed-minus : (n : ℕ) → 2 ^ 63 ≤ n → n < 2 ^ 64 → 45 ∷ decimal (0xffff_ffff_ffff_ffff - n + 1) ≡ signed n
+pub signed-minus : (n m : ℕ) → 2 ^ 63 ≤ n → m ≡ 2 ^ 64 - n → 45 ∷ decimal m ≡ signed n
 unfolding signed
-signed-minus n h k =
-    let e : 0xffff_ffff_ffff_ffff - n + 1 ≡ 2 ^ 64 - n = omega arith in
-    rw (le-ltb n (2 ^ 63) h) (ap (λ (m : ℕ). 45 ∷ decimal m) e)
+signed-minus n m h e = rw (le-ltb n (2 ^ 63) h) (ap (λ (m : ℕ). 45 ∷ decimal m) e)

@@ -8,11 +8,10 @@ use native.Mathlib.Nat.{pow-suc}
 use native.Mathlib.Omega.{arith}
 use lib.Dec.{ltb}
 use lib.ListN.{length, drop, length-append, length-drop}
-use lib.Seq.{take-length}
 use borrow.Author.Tests.{lt-ltb, eqb-true}
 use Rattle.wire.specs.Bytes.{All, none, more, Bytes}
 use Rattle.wire.specs.Numbers.{le, each}
-use Rattle.wire.specs.Fields.{Field, fields, field_at, size, whole}
+use Rattle.wire.specs.Fields.{Field, fields, size, whole}
 use Rattle.wire.specs.Keys.{key_of}
 use Rattle.wire.proofs.NumberLaws.{all_drop, le-bound}
 use Rattle.calls.specs.ChangeList.{change_laid_out}
@@ -151,32 +150,26 @@ unfolding line end_words
 end-length = refl
 
 module _ (t : ℕ) (b : List ℕ) (h : change_field_ok (record { tag = t; body = b }) ≡ true) (r : Bytes b) where
-  placed-here : change_field_ok (field_at b t 0 (length b)) ≡ true
-  placed-here = rw take-length h
-
-  within : 0 + length b ≤ length b
-  within = omega arith
-
   field-most : length (line (field_words (record { tag = t; body = b }))) ≤ 4 * (3 + length b)
   field-most =
-      ⊎_elim (λ (e : t ≡ 70). rw words-root (omega (arith, root-most r, root-size b t 0 (length b) within placed-here e)))
+      ⊎_elim (λ (e : t ≡ 70). rw words-root (omega (arith, root-most r, root-size t b h e)))
       (λ (n70 : t ≡ 70 → ⊥).
-      ⊎_elim (λ (e : t ≡ 71). rw words-taken (omega (arith, taken-most r, bucket-size b t 0 (length b) within placed-here (inl e))))
+      ⊎_elim (λ (e : t ≡ 71). rw words-taken (omega (arith, taken-most r, bucket-size t b h (inl e))))
       (λ (n71 : t ≡ 71 → ⊥).
-      ⊎_elim (λ (e : t ≡ 72). rw words_placed (omega (arith, placed-most r, placed-size b t 0 (length b) within placed-here e)))
+      ⊎_elim (λ (e : t ≡ 72). rw words_placed (omega (arith, placed-most r, placed-size t b h e)))
       (λ (n72 : t ≡ 72 → ⊥).
       ⊎_elim
       (λ (e : t ≡ 73).
       rw words_row
-      (row-most b (⊎_elim (λ x. omega arith) (λ x. omega arith) (row-size b t 0 (length b) within placed-here e))))
+      (row-most b (⊎_elim (λ x. omega arith) (λ x. omega arith) (row-size t b h e))))
       (λ (n73 : t ≡ 73 → ⊥).
-      ⊎_elim (λ (e : t ≡ 74). rw words-sectors (omega (arith, sectors-most b, sectors-size b t 0 (length b) within placed-here e)))
+      ⊎_elim (λ (e : t ≡ 74). rw words-sectors (omega (arith, sectors-most b, sectors-size t b h e)))
       (λ (n74 : t ≡ 74 → ⊥).
-      ⊎_elim (λ (e : t ≡ 75). rw words-unreserved (omega (arith, unreserved-most r, bucket-size b t 0 (length b) within placed-here (inr e))))
+      ⊎_elim (λ (e : t ≡ 75). rw words-unreserved (omega (arith, unreserved-most r, bucket-size t b h (inr e))))
       (λ (n75 : t ≡ 75 → ⊥).
       ⊎_elim (λ (e : t ≡ 76). rw words-end (omega (arith, end-length)))
       (λ (n76 : t ≡ 76 → ⊥).
-      let k = key-size b t 0 (length b) within placed-here n70 n71 n72 n73 n74 n75 n76 in
+      let k = key-size t b h n70 n71 n72 n73 n74 n75 n76 in
       let m : t ≤ 14 = k.0 in
       rw words-key (key-most t b k.1))
       (same_or t 76))

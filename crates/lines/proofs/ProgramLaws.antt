@@ -1,14 +1,14 @@
 -- An answer in a buffer, by the outcome of the call that made it, and the text that holds all that is printed.
 use Prim.Native.Nat.{ℕ, ◌+◌, ◌≤◌, ◌<◌}
-use mathlib.Core.Path.{◌≡◌, refl, sym, ap, subst, ◌∙◌}
+use mathlib.Core.Path.{◌≡◌, refl, sym, ap, ◌∙◌}
 use mathlib.Core.List.{List, ◌++◌}
 use native.Mathlib.Omega.{arith}
 use lib.ListN.{length, take, drop, length-append}
 use lib.Seq.{take_at}
 use borrow.Author.Tests.{eq-eqb, ne_eqb, le-leb, lt-leb}
-use Rattle.wire.specs.Output.{Emitted}
-use Rattle.wire.proofs.OutputLaws.{wrote-length}
-use Rattle.wire.proofs.DryRun.{wet}
+use Rattle.wire.specs.declared.output.Output.{Output}
+use Rattle.wire.specs.Output.{with_bytes}
+use Rattle.reader.proofs.AnswerLaws.{counted, whole-run}
 use Rattle.reader.specs.Heads.{call_byte}
 use Rattle.calls.specs.Answers.{Answer, Outcome, made, outcome, output_after, place, release, discard}
 use Rattle.lines.specs.Lines.{change_lines, refused_line}
@@ -62,15 +62,15 @@ pub prints-answer : (s : List ℕ) → length s ≤ 32768 → answer_lines (answ
 unfolding bucket_lines
 prints-answer s h = sym (rw (le-leb (length s) 32768 h) refl)
 
--- the text holds what was emitted
-pub shows : {xs bs ys : List ℕ} {r : ℕ} → Emitted xs 0 bs ys r → length xs ≡ 262144 → length bs ≤ 262144 → Shown bs xs ys r
-shows {xs = xs} {bs = bs} {ys = ys} {r = r} w h l =
-    let e : r ≡ length bs = omega (arith, w.room, w.next) in
+-- the text holds what was put into an output from its front
+pub shows :
+    (o : Output) (bs : List ℕ) → o.at ≡ 0 → length o.bytes.now ≡ 262144 → length bs ≤ 262144
+    → Shown bs o.bytes.now (with_bytes o bs).bytes.now (with_bytes o bs).at
+shows o bs f n l =
+    let e : (with_bytes o bs).at ≡ length bs = omega (arith, counted o bs f) in
+    let t : (with_bytes o bs).bytes.now ≡ bs ++ drop (length bs) o.bytes.now = whole-run o bs f (omega arith) (omega arith) in
     record {
-      within = omega (arith, wrote-length w);
+      within = omega (arith, ap length t ∙ length-append bs (drop (length bs) o.bytes.now));
       counted = e;
-      text = wet w (omega arith) ∙ ap (λ (k : ℕ). bs ++ drop k xs) (sym e);
+      text = t ∙ ap (λ (k : ℕ). bs ++ drop k o.bytes.now) (sym e);
     }
-
-pub shown : {bs ds xs ys : List ℕ} {r : ℕ} → bs ≡ ds → Shown bs xs ys r → Shown ds xs ys r
-shown {xs = xs} {ys = ys} {r = r} e h = subst (λ (l : List ℕ). Shown l xs ys r) e h

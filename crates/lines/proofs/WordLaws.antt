@@ -1,14 +1,17 @@
 -- Laws of words with a blank before each, and of the bytes that they are read from.
-use Prim.Native.Nat.{ℕ, zero, suc, ◌+◌, ◌-◌, ◌*◌, ◌/◌, ◌^◌, ◌<◌, ◌≤◌}
+use Prim.Native.Nat.{ℕ, zero, suc, ◌+◌, ◌-◌, ◌*◌, ◌/◌, ◌<◌, min}
 use mathlib.Core.Path.{◌≡◌, refl, sym, ap, ◌∙◌}
-use mathlib.Core.List.{List, [], ◌∷◌, ◌++◌, append_assoc}
-use native.Mathlib.Nat.{pow-suc, pow-le-pow_right}
+use mathlib.Core.List.{List, [], ◌∷◌, ◌++◌, append_assoc, append-nil}
 use native.Mathlib.Omega.{arith}
-use lib.ListN.{take, drop}
-use lib.Seq.{drop-drop}
+use lib.ListN.{length, length-append, take, drop, replicate}
+use Rattle.std.proofs.lemmas.List.{take_at, drop_at, drop-replicate}
+use Rattle.std.specs.Int.{w64, from_le_bytes}
+use Rattle.std.specs.Simd.{first_chunks}
 use Rattle.wire.specs.Numbers.{le, each}
-use Rattle.wire.proofs.KeyLaws.{drop-take}
-use Rattle.wire.proofs.NumberLaws.{le-at}
+use Rattle.wire.specs.declared.output.Output.{Output}
+use Rattle.wire.specs.Output.{with_bytes}
+use Rattle.wire.proofs.AppendLaws.{with-with}
+use Rattle.wire.proofs.NumberLaws.{eight_bytes, le-take}
 use Rattle.lines.specs.Digits.{signed, hexadecimal}
 use Rattle.lines.specs.Lines.{line, blanked, words, numbers}
 
@@ -19,82 +22,70 @@ line-is w [] = refl
 line-is w (v ∷ ws) =
     ap (λ (l : List ℕ). w ++ (32 ∷ l)) (line-is v ws ∙ sym (append_assoc v (blanked ws) (10 ∷ [])))
 
--- numbers and words, one after the other
+-- one run of bytes after another
+pub then : (o : Output) (us bs : List ℕ) {p q : Output} → p ≡ with_bytes o us → q ≡ with_bytes p bs → q ≡ with_bytes o (us ++ bs)
+then o us bs {p} {q} a b = b ∙ ap (λ (x : Output). with_bytes x bs) a ∙ with-with o us bs
 
-numbers-next : (n : ℕ) (s : List ℕ) → 0 < n → blanked (numbers n s) ≡ (32 ∷ signed (le 8 s)) ++ blanked (numbers (n - 1) (drop 8 s))
-unfolding blanked numbers each
-numbers-next zero s h = absurd (omega arith)
-numbers-next (suc n) s h = let e : n ≡ suc n - 1 = omega arith in ap (λ (k : ℕ). (32 ∷ signed (le 8 s)) ++ blanked (numbers k (drop 8 s))) e
+-- a number that is read from eight bytes
+pub from-le : (s : List ℕ) → from_le_bytes w64 s ≡ le 8 s
+from-le s = omega (arith, eight_bytes s 0)
 
-pub numbers-turn : (s : List ℕ) (next left r : ℕ) → 0 < left → r ≡ le 8 (drop next s)
-    → blanked (numbers left (drop next s)) ≡ (32 ∷ signed r) ++ blanked (numbers (left - 1) (drop (next + 8) s))
-numbers-turn s next left r h e =
-    numbers-next left (drop next s) h
-    ∙ (λ j. (32 ∷ signed (sym e j)) ++ blanked (numbers (left - 1) (drop-drop 8 next s j)))
-
-pub numbers-none : (n : ℕ) (s : List ℕ) → n ≡ 0 → blanked (numbers n s) ≡ []
-unfolding blanked numbers each
-numbers-none n s e = ap (λ (k : ℕ). blanked (numbers k s)) e
-
-words-next : (n : ℕ) (s : List ℕ) → 0 < n
-    → blanked (words ((n + 7) / 8) s) ≡ (32 ∷ hexadecimal (le 8 s)) ++ blanked (words ((n - 8 + 7) / 8) (drop 8 s))
-unfolding blanked words each
-words-next n s h = let e : (n + 7) / 8 ≡ suc ((n - 8 + 7) / 8) = omega arith in rw e
-
-pub words-none : (n : ℕ) (s : List ℕ) → n ≡ 0 → blanked (words ((n + 7) / 8) s) ≡ []
-unfolding blanked words each
-words-none n s e = ap (λ (k : ℕ). blanked (words ((k + 7) / 8) s)) e
-
-pub words-turn : (s : List ℕ) (from len i r : ℕ) → i < len → r ≡ le 8 (take (len - i) (drop (from + i) s))
-    → blanked (words ((len - i + 7) / 8) (drop i (take len (drop from s))))
-    ≡ (32 ∷ hexadecimal r) ++ blanked (words ((len - (i + 8) + 7) / 8) (drop (i + 8) (take len (drop from s))))
-words-turn s from len i r h e =
-    let v : List ℕ = take len (drop from s) in
-    let x : len - i - 8 ≡ len - (i + 8) = omega arith in
-    let d : drop i v ≡ take (len - i) (drop (from + i) s) = drop-take i len (drop from s) ∙ ap (take (len - i)) (drop-drop i from s) in
-    words-next (len - i) (drop i v) (omega arith)
-    ∙ (λ j. (32 ∷ hexadecimal ((ap (le 8) d ∙ sym e) j)) ++ blanked (words ((x j + 7) / 8) (drop-drop 8 i v j)))
-
--- a word of fewer bytes
-pub word-short : (n m : ℕ) (s : List ℕ) → n ≤ m → le m (take n s) ≡ le n s
+le-nil : (n : ℕ) → le n [] ≡ 0
 unfolding le
-word-short zero zero s h = refl
-word-short zero (suc m) s h = refl
-word-short (suc n) zero s h = absurd (omega arith)
-word-short (suc n) (suc m) [] h = refl
-word-short (suc n) (suc m) (b ∷ s) h = ap (λ (k : ℕ). b + 256 * k) (word-short n m s (omega arith))
+le-nil zero = refl
+le-nil (suc n) = refl
 
--- a number that is read from its highest byte on: those of n bytes from index i on are read
-pub record Lowered (s : List ℕ) (at n word i : ℕ) : Type 0 where
-  pub within : i ≤ n
-  pub small : word < 256 ^ (n - i)
-  pub read : word ≡ le (n - i) (drop (at + i) s)
-
-pub lower-none : (s : List ℕ) (at n : ℕ) → Lowered s at n 0 n
+-- bytes that are missing count as zeros
+pub le-zeros : (n k : ℕ) (s : List ℕ) → le n (s ++ replicate k 0) ≡ le n s
 unfolding le
-lower-none s at n =
-    let e : n - n ≡ 0 = omega arith in
-    record { within = omega arith; small = rw e (omega arith); read = rw e }
+le-zeros zero k s = refl
+le-zeros (suc n) zero [] = refl
+le-zeros (suc n) (suc k) [] = omega (arith, le-zeros n k [], le-nil n)
+le-zeros (suc n) k (b ∷ s) = ap (λ (m : ℕ). b + 256 * m) (le-zeros n k s)
 
-module _ {s : List ℕ} {at n word i : ℕ} (w : Lowered s at n word i) (h : 0 < i) where
-  pub lower-fits : n ≤ 8 → word < 0x0100_0000_0000_0000
-  lower-fits k = omega (arith, w.small, pow-le-pow_right {n = 256} (omega arith) {i = n - i} {j = 7} (omega (arith, w.within)))
+-- at most eight bytes that were copied to the front of zeros
+pub number-of : (x p : List ℕ) → x ≡ p → from_le_bytes w64 (x ++ drop {A = ℕ} (length p) (replicate 8 0)) ≡ le 8 p
+number-of x p e =
+    let z : drop {A = ℕ} (length p) (replicate 8 0) ≡ replicate (8 - length p) 0 = drop-replicate (length p) 8 0 in
+    from-le (x ++ drop {A = ℕ} (length p) (replicate 8 0)) ∙ rw (e, z) (le-zeros 8 (8 - length p) p)
 
-  pub lower-more : (b : ℕ) → b ≡ le 1 (drop (at + (i - 1)) s) → b < 256 → Lowered s at n (word * 256 + b) (i - 1)
-  lower-more b r l =
-      let e : n - (i - 1) ≡ suc (n - i) = omega (arith, w.within) in
-      let d : n - (i - 1) ≡ 1 + (n - i) = omega (arith, w.within) in
-      let x : at + (i - 1) + 1 ≡ at + i = omega arith in
-      let z : le (1 + (n - i)) (drop (at + (i - 1)) s) ≡ le 1 (drop (at + (i - 1)) s) + 256 ^ 1 * le (n - i) (drop (at + i) s) =
-      rw x at (le-at 1 (n - i) s (at + (i - 1))) in
-      record {
-        within = omega (arith, w.within);
-        small = rw (e, pow-suc) (omega (arith, w.small));
-        read = rw d (omega (arith, z, w.read));
-      }
+-- numbers of eight bytes, one after the other
+abbrev pub number_word : List ℕ → List ℕ
+number_word x = 32 ∷ signed (le 8 x)
 
-pub lowered : {s : List ℕ} {at n word i : ℕ} → Lowered s at n word i → i ≡ 0 → word ≡ le n (drop at s)
-lowered {s} {at} {n} {word} {i} w h =
-    let e : n - i ≡ n = omega arith in
-    let d : at + i ≡ at = omega arith in
-    rw (e, d) at w.read
+pub numbers-parts : (n : ℕ) (s : List ℕ) → each number_word (first_chunks 8 n s) ≡ blanked (numbers n s)
+unfolding blanked numbers each
+numbers-parts zero s = refl
+numbers-parts (suc n) s = rw (le-take 8 8 s (omega arith)) (ap (λ (l : List ℕ). (32 ∷ signed (le 8 s)) ++ l) (numbers-parts n (drop 8 s)))
+
+-- the words of a value: one for each eight bytes, and one for those that are left
+abbrev pub value_words : List ℕ → List ℕ
+value_words v = blanked (words ((length v + 7) / 8) v)
+
+pub words-none : (v : List ℕ) → length v ≡ 0 → value_words v ≡ []
+unfolding blanked words each
+words-none v e = ap (λ (k : ℕ). blanked (words ((k + 7) / 8) v)) e
+
+pub words-turn :
+    (v x rest : List ℕ) → v ≡ x ++ rest → length x ≡ min 8 (length v) → 0 < length v
+    → value_words v ≡ (32 ∷ hexadecimal (le 8 x)) ++ value_words rest
+unfolding blanked words each
+words-turn v x [] e n h =
+    let l : length v ≡ length x = omega (arith, ap length e ∙ length-append x []) in
+    let s : (length v + 7) / 8 ≡ 1 = omega arith in
+    let a : le 8 v ≡ le 8 x = ap (le 8) (e ∙ append-nil x) in
+    rw (s, a)
+words-turn v x (r ∷ rs) e n h =
+    let l : length v ≡ length x + length (r ∷ rs) = ap length e ∙ length-append x (r ∷ rs) in
+    let k : length x ≡ 8 = omega arith in
+    let s : (length v + 7) / 8 ≡ suc ((length (r ∷ rs) + 7) / 8) = omega arith in
+    let a : le 8 v ≡ le 8 x = sym (le-take 8 8 v (omega arith)) ∙ ap (λ (u : List ℕ). le 8 (take 8 u)) e ∙ ap (le 8) (take_at x (r ∷ rs) 8 k) in
+    let d : drop 8 v ≡ r ∷ rs = ap (drop 8) e ∙ drop_at x (r ∷ rs) 8 k in
+    rw (s, a, d)
+
+-- a turn of a loop that puts the words of a value
+pub word-put :
+    (p r : Output) (v x rest : List ℕ) (n : ℕ) → v ≡ x ++ rest → length x ≡ min 8 (length v) → 0 < length v → n ≡ le 8 x
+    → r ≡ with_bytes p (32 ∷ hexadecimal n) → with_bytes r (value_words rest) ≡ with_bytes p (value_words v)
+word-put p r v x rest n e l h m w =
+    rw (w, m, with-with) (ap (with_bytes p) (sym (words-turn v x rest e l h)))

@@ -1,0 +1,5 @@
+use Rattle.lines.proofs.WordLaws.{then}
+use Rattle.lines.proofs.blanks.put_next_word.Goals as goal
+
+pub returns : goal.returns
+returns c = then _ _ _ c.put_u8.ensures c.put_hexadecimal.ensures
