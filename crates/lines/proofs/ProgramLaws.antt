@@ -12,7 +12,10 @@ use Rattle.reader.proofs.AnswerLaws.{counted, whole-run}
 use Rattle.reader.specs.Heads.{call_byte}
 use Rattle.calls.specs.Answers.{Answer, Outcome, made, outcome, output_after, place, release, discard}
 use Rattle.lines.specs.Lines.{change_lines, refused_line}
-use Rattle.lines.specs.Program.{answer_by_byte, AnswerIn, answer_lines, bucket_lines, Shown}
+use Rattle.std.specs.Prelude.{Result, Ok, Err}
+use Rattle.reader.specs.Refusals.{made_by}
+use Rattle.reader.specs.declared.refusal.Refusal.{Refusal}
+use Rattle.lines.specs.Program.{answer_by_byte, AnswerIn, AnsweredIn, answer_lines, bucket_lines, Shown}
 
 -- a call's outcome leaves its answer at the start of the output
 pub answer-in : {a b : Answer} {number written : ℕ} {after : List ℕ} (before : List ℕ) → a ≡ b → made number written after ≡ outcome a before → AnswerIn b number after written
@@ -27,6 +30,11 @@ answer-in {a = a} {written = written} {after = after} before e h =
       bytes = ap (take written) o ∙ ap (λ (n : ℕ). take n (a.written ++ drop (length a.written) before)) w ∙ take_at a.written _ (length a.written) refl
           ∙ ap (λ (a : Answer). a.written) e;
     }
+
+-- the same of what a call answers
+pub answered-in : {a b : Answer} {after : List ℕ} (r : Result ℕ Refusal) (before : List ℕ) → a ≡ b → made_by r after ≡ outcome a before → AnsweredIn b r after
+answered-in (Ok n) before e h = answer-in before e h
+answered-in (Err x) before e h = answer-in before e h
 
 -- the call that a list's call byte names
 module _ (s : List ℕ) where

@@ -1,7 +1,9 @@
 -- FORMAT.md, "The program bucketlines": a call list of at most 32,768 bytes, a longer one being refused 3; an output of 65,536 bytes; a line for each field of
 -- the change list, or `refused` and the number.
-use Rattle.std.specs.Prelude.{ℕ, ◌≤◌, ◌≡◌, List, ◌++◌, cond, length, take, drop, leb, eqb}
+use Rattle.std.specs.Prelude.{ℕ, ◌≤◌, ◌≡◌, List, ◌++◌, cond, length, take, drop, leb, eqb, Result, Ok, Err}
 use Rattle.reader.specs.Heads.{call_byte}
+use Rattle.reader.specs.Refusals.{number_of}
+use Rattle.reader.specs.declared.refusal.Refusal.{Refusal}
 use Rattle.calls.specs.Answers.{Answer, place, release, discard}
 use Rattle.lines.specs.Lines.{change_lines, refused_line}
 
@@ -15,6 +17,11 @@ pub record AnswerIn (a : Answer) (number : ℕ) (buffer : List ℕ) (written : �
   pub numbered : number ≡ a.number
   pub within : written ≤ length buffer
   pub bytes : take written buffer ≡ a.written
+
+-- the same of what a call answers
+abbrev pub AnsweredIn : Answer → Result ℕ Refusal → List ℕ → Type 0
+AnsweredIn a (Ok written) buffer = AnswerIn a 0 buffer written
+AnsweredIn a (Err r) buffer = AnswerIn a (number_of r) buffer 0
 
 unfoldable pub answer_lines : Answer → List ℕ
 answer_lines a = cond (eqb a.number 0) (change_lines a.written) (refused_line a.number)

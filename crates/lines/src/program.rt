@@ -1,7 +1,7 @@
 // The work of the program: what is printed for what is read.
 ghost use Rattle.std.specs.Prelude.{◌≡◌};
 ghost use Rattle.wire.specs.Output.{with_bytes};
-ghost use Rattle.lines.specs.Program.{answer_by_byte, AnswerIn, answer_lines, bucket_lines, Shown};
+ghost use Rattle.lines.specs.Program.{answer_by_byte, AnsweredIn, answer_lines, bucket_lines, Shown};
 
 use crate::{change_lines, other_lines};
 use discard::discard as discard_call;
@@ -15,28 +15,25 @@ use wire::output::Output;
 const LONGEST_LIST: usize = 32768;
 
 // The answer of the call that a list names, in 65,536 bytes.
-fn answer_to(list: &[u8], change: &mut [u8; 65536], written: &mut usize) -> u32
-    ensures { AnswerIn (answer_by_byte list.now) result change.new written.new }
+fn answer_to(list: &[u8], change: &mut [u8; 65536]) -> Result<usize, Refusal>
+    ensures { AnsweredIn (answer_by_byte list.now) result change.new }
 {
     match head::call_byte(list) {
-        1 => place_call::place(list, change, written),
-        2 => {
-            let mut scratch = [0u32; 65536];
-            release_call::release(list, &mut scratch, change, written)
-        }
-        _ => discard_call::discard(list, change, written),
+        1 => place_call::place(list, change),
+        2 => release_call::release(list, &mut [0u32; 65536], change),
+        _ => discard_call::discard(list, change),
     }
 }
 
-// The lines of an answer that stands in a buffer. `answer_to` shows what is required.
-fn put_answer(out: &mut Output, list: &[u8], number: u32, change: &[u8; 65536], written: usize)
-    requires { AnswerIn (answer_by_byte list.now) number change.now written }
+// The lines of an answer, whose bytes stand in a buffer. `answer_to` shows what is required.
+fn put_answer(out: &mut Output, list: &[u8], answer: Result<usize, Refusal>, change: &[u8; 65536])
+    requires { AnsweredIn (answer_by_byte list.now) answer change.now }
     ensures { out.new ≡ with_bytes out.old (answer_lines (answer_by_byte list.now)) }
 {
-    if number != 0 {
-        return other_lines::put_refused(out, number);
+    match answer {
+        Ok(written) => change_lines::put_lines(out, &change[..written]),
+        Err(refusal) => other_lines::put_refused(out, refusal.number()),
     }
-    change_lines::put_lines(out, &change[..written]);
 }
 
 // The lines of what is printed for a list.
@@ -47,9 +44,8 @@ fn put_bucket_lines(out: &mut Output, list: &[u8])
         return other_lines::put_refused(out, Refusal::Limit.number());
     }
     let mut change = [0u8; 65536];
-    let mut written: usize = 0;
-    let number = answer_to(list, &mut change, &mut written);
-    put_answer(out, list, number, &change, written);
+    let answer = answer_to(list, &mut change);
+    put_answer(out, list, answer, &change);
 }
 
 // What is printed for a list, and how many bytes of the text that is.

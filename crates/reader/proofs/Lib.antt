@@ -35,3 +35,4 @@ pub mod StoredLaws
 pub mod ArrangedLaws
 pub mod DoubledLaws
 pub mod AnswerLaws
+pub mod NumberLaws
