@@ -95,11 +95,10 @@ module _ {s offsets numbers : List ℕ} {buckets : List Bucket} {generations : L
 
 -- the root
 
-pub root-unwanted : (wanted : Bool) (roots : ℕ) → wanted ≡ false → roots_if (wanted && root_missing roots 0) 10 ≡ []
+pub root-unwanted : (wanted : Bool) (roots : ℕ) → wanted ≡ false → (wanted && root_missing roots 0) ≡ false
 root-unwanted wanted roots e = rw e
 
-pub root-wanted : (wanted : Bool) (roots : ℕ) → wanted ≡ true
-    → roots_bytes (roots_if (eqb (roots % 2) 0) 10) ≡ roots_bytes (roots_if (wanted && root_missing roots 0) 10)
+pub root-wanted : (wanted : Bool) (roots : ℕ) → wanted ≡ true → (wanted && root_missing roots 0) ≡ eqb (roots % 2) 0
 unfolding root_missing
 root-wanted wanted roots h = let e : roots / 2 ^ 0 ≡ roots = omega arith in rw (h, e)
 

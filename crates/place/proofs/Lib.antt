@@ -2,3 +2,4 @@ pub mod CallLaws
 pub mod ChangeLaws
 pub mod ChosenLaws
 pub mod ReadLaws
+pub mod RunLaws

@@ -2,5 +2,4 @@
 #![tactic(auto)]
 
 pub mod change;
-pub mod inputs;
 pub mod place;

@@ -1,6 +1,8 @@
 // The call: a list is read, then answered.
-ghost use Rattle.std.specs.Prelude.{◌≡◌, [], ◌∷◌, length};
-ghost use Rattle.wire.specs.Kinds.{buckets_in};
+ghost use Rattle.std.specs.Prelude.{◌≡◌, true, map, ◌≤◌, [], ◌∷◌, length, take};
+ghost use Rattle.wire.specs.Kinds.{bucket_in_range, buckets_in};
+ghost use Rattle.calls.specs.Lists.{all_of};
+ghost use Rattle.calls.specs.Generations.{gen_of};
 ghost use Rattle.calls.specs.Answers as answers;
 ghost use Rattle.calls.specs.Answers.{answer, made, outcome, read_call, read_volume};
 ghost use Rattle.calls.specs.ChangeList.{change_bytes};
@@ -11,153 +13,130 @@ ghost use Rattle.reader.specs.Table.{Fits};
 ghost use Rattle.place_tests.specs.Called.{Called};
 ghost use Rattle.place.specs.Change.{placement};
 ghost use Rattle.place.specs.Planned.{PlanFor};
-ghost use Rattle.place.specs.Prepared.{Prepared};
 ghost use Rattle.place_keys.specs.Queue.{Walk};
 
-use crate::inputs::Inputs;
-use crate::{change, inputs};
+use crate::change::ChangeList;
+use accounting::tally;
 use freespace::take::Walked;
 use gens::records;
-use place_keys::{dirty, generations};
+use place_keys::plan::Plan;
+use place_keys::{clock, dirty, generations};
 use place_tests::refusals;
 use reader::call;
 use reader::call::Reading;
 use reader::head::Head;
 use reader::table::Ends;
+use wire::output::Output;
 
-// A run into one byte tells the length; then 21, or the run into the output. Planning shows what is required, here and below.
-fn write_change(
-    s: &[u8],
-    runs: &[u32],
-    pieces: &[u32],
-    slots: &[u32],
-    taken: &[u64],
-    gens: &[u8],
-    dirty: &[u32],
-    v: Inputs,
-    out: &mut [u8],
-    written: &mut usize,
-) -> u32
-    requires { Prepared s.now pieces.now slots.now taken.now gens.now dirty.now runs.now v × (written.old ≡ 0) }
-    ensures { made result written.new out.new ≡ outcome (answer [] (change_bytes (placement s.now ∷ [])) (length out.old)) out.old }
+// A list that was read: its head, and where its alloc keys, its runs, its generations, its reserved buckets and its pieces stand.
+#[derive(Clone, Copy, Drop)]
+struct Given<'a> {
+    list: &'a [u8],
+    head: Head,
+    alloc: &'a [u32],
+    runs: &'a [u32],
+    gens: &'a [u32],
+    reserved: &'a [u32],
+    pieces: &'a [u32],
+    ghost called: { Called list.now head alloc.now runs.now reserved.now pieces.now },
+    ghost gens_at: { KeysAt list.now gens.now (read_volume list.now).trees.gens },
+}
+
+// A run into no room tells the length; then 21, or the run into the output.
+fn write_change(list: &ChangeList, out: &mut [u8], written: &mut usize) -> u32
+    requires { written.old ≡ 0 }
+    ensures { made result written.new out.new ≡ outcome (answer [] (change_bytes (placement list.now.plan.now.list.now ∷ [])) (length out.old)) out.old }
 {
-    let mut one = [0u8; 1];
-    let n = change::put_change(&mut one, 0, s, pieces, slots, taken, gens, dirty, runs, v);
+    let mut none = [0u8; 0];
+    let mut dry = Output::new(&mut none);
+    list.put(&mut dry);
+    let n = dry.at;
     if out.len() < n {
         return 21;
     }
-    *written = change::put_change(out, 0, s, pieces, slots, taken, gens, dirty, runs, v);
+    let mut wet = Output::new(out);
+    list.put(&mut wet);
+    *written = n;
     0
 }
 
-// The answer where the buckets are taken: their generations, their dirty counts, the tallies and the clock, and the change list.
-fn place_buckets(
-    s: &[u8],
-    h: Head,
-    alloc: &[u32],
-    runs: &[u32],
-    gens: &[u32],
-    pieces: &[u32],
-    slots: &[u32],
-    taken: &[u64],
-    w: Walked,
-    out: &mut [u8],
-    written: &mut usize,
-) -> u32
-    requires plan_for { PlanFor s.now h pieces.now slots.now (buckets_in taken.now) }
-    requires walk { Walk s.now runs.now w.passed w.left × KeysAt s.now alloc.now (read_volume s.now).trees.alloc × KeysAt s.now gens.now (read_volume s.now).trees.gens × (written.old ≡ 0) }
-    ensures { made result written.new out.new ≡ outcome (answer [] (change_bytes (placement s.now ∷ [])) (length out.old)) out.old }
+// Fills in the generations of the buckets taken. Choosing them shows what is required.
+fn fill_gens(g: &Given, taken: &[u64], out: &mut [u8])
+    requires { (length taken.now ≤ length out.old) × (all_of bucket_in_range (buckets_in taken.now) ≡ true) }
+    ensures { take (length taken.now) out.new ≡ map (gen_of (read_volume g.now.list.now).trees.gens) (buckets_in taken.now) }
 {
-    let n = taken.len();
     let mut records = [0u32; 256];
-    let mut generations = [0u8; 1024];
-    let mut dirty = [0u32; 1024];
-    records::find_records(s, gens, &mut records);
-    generations::fill_gens(&mut generations, s, &records, taken);
-    dirty::fill_dirty(&mut dirty, s, pieces, slots);
-    let v = inputs::read_inputs(s, h, w, alloc, pieces);
-    write_change(
-        s,
-        runs,
-        pieces,
-        slots,
-        taken,
-        &generations[..n],
-        &dirty,
-        v,
-        out,
-        written,
-    )
+    records::find_records(g.list, g.gens, &mut records);
+    generations::fill_gens(out, g.list, &records, taken);
 }
 
-// The answer after refusals 2 and 3. The reader shows what is required.
-fn place_lists(
-    s: &[u8],
-    h: Head,
-    alloc: &[u32],
-    runs: &[u32],
-    gens: &[u32],
-    reserved: &[u32],
-    pieces: &[u32],
-    out: &mut [u8],
-    written: &mut usize,
-) -> u32
-    requires { Called s.now h alloc.now runs.now reserved.now pieces.now × KeysAt s.now gens.now (read_volume s.now).trees.gens × (written.old ≡ 0) }
-    ensures { made result written.new out.new ≡ outcome (answer (place_tests (read_call s.now)) (change_bytes (placement s.now ∷ [])) (length out.old)) out.old }
+// The answer after refusals 2 and 3.
+fn place_lists(g: &Given, out: &mut [u8], written: &mut usize) -> u32
+    requires { written.old ≡ 0 }
+    ensures { made result written.new out.new ≡ outcome (answer (place_tests (read_call g.now.list.now)) (change_bytes (placement g.now.list.now ∷ [])) (length out.old)) out.old }
 {
     let mut taken = [0u64; 1024];
     let mut slots = [0u32; 1024];
-    let w = refusals::choose_buckets(s, h, alloc, runs, reserved, pieces, &mut taken, &mut slots);
+    let w = refusals::choose_buckets(
+        g.list,
+        g.head,
+        g.alloc,
+        g.runs,
+        g.reserved,
+        g.pieces,
+        &mut taken,
+        &mut slots,
+    );
     if w.refusal != 0 {
         return w.refusal;
     }
-    let n = w.count;
-    let k = pieces.len();
-    place_buckets(
-        s,
-        h,
-        alloc,
-        runs,
-        gens,
-        pieces,
-        &slots[..k],
-        &taken[..n],
-        w,
-        out,
-        written,
-    )
+    let taken = &taken[..w.count];
+    let slots = &slots[..g.pieces.len()];
+    let mut generations = [0u8; 1024];
+    let mut dirty = [0u32; 1024];
+    fill_gens(g, taken, &mut generations);
+    dirty::fill_dirty(&mut dirty, g.list, g.pieces, slots);
+    let plan = Plan {
+        list: g.list,
+        pieces: g.pieces,
+        slots,
+        taken,
+        gens: &generations[..taken.len()],
+        head: g.head,
+    };
+    let list = ChangeList {
+        plan: &plan,
+        dirty: &dirty,
+        runs: g.runs,
+        walked: w,
+        tallies: tally::tally_pieces(g.list, g.pieces),
+        clock: clock::write_clock(g.list, g.alloc),
+    };
+    write_change(&list, out, written)
 }
 
 // The answer to a list that was read: its parts by their places. `read_call` shows what is required.
 fn place_read(
     list: &[u8],
-    h: Head,
+    head: Head,
     ends: Ends,
     places: &[u32],
     out: &mut [u8],
     written: &mut usize,
 ) -> u32
-    requires { (0 ≡ call_refusal 1 list.now) × ListRead 1 list.now places.now h ends × (written.old ≡ 0) }
+    requires { (0 ≡ call_refusal 1 list.now) × ListRead 1 list.now places.now head ends × (written.old ≡ 0) }
     ensures { made result written.new out.new ≡ outcome (answers.place list.now (length out.old)) out.old }
 {
-    let alloc = ends.alloc;
-    let lru = ends.lru;
-    let freespace = ends.freespace;
-    let backpointers = ends.backpointers;
-    let gens = ends.gens;
-    let reserved = ends.reserved;
-    let requests = ends.requests;
-    place_lists(
+    let given = Given {
         list,
-        h,
-        &places[..alloc],
-        &places[lru..freespace],
-        &places[backpointers..gens],
-        &places[gens..reserved],
-        &places[reserved..requests],
-        out,
-        written,
-    )
+        head,
+        alloc: &places[..ends.alloc],
+        runs: &places[ends.lru..ends.freespace],
+        gens: &places[ends.backpointers..ends.gens],
+        reserved: &places[ends.gens..ends.reserved],
+        pieces: &places[ends.reserved..ends.requests],
+    };
+    place_lists(&given, out, written)
 }
 
 // The answer, by a table that is long enough.

@@ -1,9 +1,12 @@
 -- Laws of the keys that the walk passed.
-use mathlib.Core.Path.{◌≡◌, refl, ap, ◌∙◌}
+use mathlib.Core.Path.{◌≡◌, refl, sym, ap, ◌∙◌}
 use mathlib.Core.Bool.{Bool, true, false, cond}
 use mathlib.Core.List.{List, [], ◌∷◌, ◌++◌, map, map-append, append-nil}
-use Prim.Native.Nat.{ℕ, suc, ◌+◌, ◌-◌, ◌<◌}
+use Prim.Native.Nat.{ℕ, suc, ◌+◌, ◌-◌, ◌≤◌, ◌<◌}
 use native.Mathlib.Omega.{arith}
+use lib.ListN.{length, take, get_or, length-take, get_or-append}
+use lib.Seq.{get_or-take, get_or-append_seam}
+use Rattle.std.specs.List.{IsLastAndRest}
 use borrow.Author.Tests.{ne_eqb, eq-eqb}
 use Rattle.wire.specs.Keys.{Key}
 use Rattle.wire.specs.Held.{held, key_in}
@@ -64,6 +67,20 @@ module _ {ks : List Key} {k : Key} {rest : List Key} (n i left : ℕ) (e : ks �
       let m : n - i ≡ 1 = omega arith in
       let q : queue_of (n - i) left ks ≡ key_queue k left = rw (e, m) (queue-one 0 left k rest ∙ append-nil (key_queue k left)) in
       ap queue_bytes q
+
+-- the places of the keys passed, apart from the last one
+module _ (runs walked : List ℕ) (last n : ℕ) (q : IsLastAndRest (take n runs) last walked) (few : n ≤ length runs) where
+  pub walked-many : length walked + 1 ≡ n
+  walked-many = omega (arith, q.1, length-take n runs)
+
+  pub walked-at : (i : ℕ) → i < length walked → get_or walked i 0 ≡ get_or runs i 0
+  walked-at i h =
+      sym (get_or-append walked (last ∷ []) 0 i h) ∙ ap (λ (l : List ℕ). get_or l i 0) (sym q.0) ∙ get_or-take n runs i 0 (omega (arith, walked-many))
+
+  pub last-at : last ≡ get_or runs (length walked) 0
+  last-at =
+      sym (get_or-append_seam walked last [] 0) ∙ ap (λ (l : List ℕ). get_or l (length walked) 0) (sym q.0)
+      ∙ get_or-take n runs (length walked) 0 (omega (arith, walked-many))
 
 -- what a key queues
 pub passed-run : (k : Key) (left : ℕ) → is_run k ≡ true → key_queue k left ≡ shortened k left ∷ []

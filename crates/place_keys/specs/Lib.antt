@@ -1,3 +1,4 @@
+pub mod Left
 pub mod Plan
 pub mod Queue
 pub mod Times

@@ -9,33 +9,16 @@ ghost use Rattle.place_keys.specs.Times.{later_of};
 use format::alloc;
 use reader::key;
 
-// The largest clock so far, where a key had one.
-#[derive(Clone, Copy, Drop)]
-pub struct Latest {
-    pub found: bool,
-    pub time: u64,
-}
-
-// The largest clock after one key more.
-fn later(s: &[u8], at: usize, latest: Latest) -> Latest
+// The largest clock so far, where a key had one, after one key more.
+fn later(s: &[u8], at: usize, latest: Option<u64>) -> Option<u64>
     requires { Whole s.now at }
     ensures { result ≡ later_of latest (key_here s.now at) }
 {
-    if key::type_at(s, at) != 27 {
+    if key::type_at(s, at) != 27 || key::value_len(s, at) < 40 {
         return latest;
     }
-    if key::value_len(s, at) < 40 {
-        return latest;
-    }
-    let before = latest.time;
     let time = alloc::write_time(s, key::value_at(s, at));
-    if time < before {
-        return Latest {
-            found: true,
-            time: before,
-        };
-    }
-    Latest { found: true, time }
+    Some(latest.unwrap_or(0).max(time))
 }
 
 // The largest word at 32 of type 27 keys with 40 bytes or more, else 1. The reader shows where the keys stand.
@@ -43,17 +26,9 @@ pub fn write_clock(s: &[u8], alloc: &[u32]) -> u64
     requires { KeysAt s.now alloc.now (read_volume s.now).trees.alloc }
     ensures { result ≡ clock_of (read_volume s.now).trees.alloc }
 {
-    let mut latest = Latest {
-        found: false,
-        time: 0,
-    };
-    let mut i: usize = 0;
-    while i < alloc.len() {
-        latest = later(s, alloc[i] as usize, latest);
-        i += 1;
+    let mut latest = None;
+    for at in alloc {
+        latest = later(s, *at as usize, latest);
     }
-    if latest.found {
-        return latest.time;
-    }
-    1
+    latest.unwrap_or(1)
 }

@@ -13,12 +13,9 @@ pub fn fill_dirty(dirty: &mut [u32], s: &[u8], pieces: &[u32], slots: &[u32])
     requires s_in_bounds { (length (walk_of (read_call s.now)).taken ≤ length dirty.old) × ((k : ℕ) → get_or dirty.old k 0 ≡ 0) }
     ensures { Dirty (placed_of (read_call s.now)) (walk_of (read_call s.now)).taken dirty.new }
 {
-    let mut i: usize = 0;
-    while i < pieces.len() {
-        let piece = piece::read_piece(s, pieces[i] as usize);
+    for (i, at) in pieces.iter().enumerate() {
+        let piece = piece::read_piece(s, *at as usize);
         let slot = slot::slot_at(slots, i);
-        let k = slot.index;
-        dirty[k] = dirty[k] + piece.stored as u32;
-        i += 1;
+        dirty[slot.index] += piece.stored as u32;
     }
 }

@@ -1,35 +1,34 @@
 // Tree 0: the extents of the pieces.
-ghost use Rattle.std.specs.Prelude.{◌≤◌, map};
-ghost use Rattle.wire.specs.Kinds.{buckets_in};
+ghost use Rattle.std.specs.Prelude.{◌≡◌, ◌≤◌, map};
 ghost use Rattle.wire.specs.Encode.{encode, encode_field, key_field};
 ghost use Rattle.calls.specs.Extents.{extent_key};
 ghost use Rattle.calls.specs.Place.{placed_of};
 ghost use Rattle.calls.specs.Answers.{read_call};
 ghost use Rattle.reader.specs.Heads.{head_in};
-ghost use Rattle.wire.specs.Output.{Emitted};
-ghost use Rattle.place_keys.specs.Plan.{Plan, Bounded, placed_in};
+ghost use Rattle.wire.specs.Output.{with_bytes};
+ghost use Rattle.place_keys.specs.Plan.{Bounded, placed_in};
 
-use crate::placed;
 use crate::placed::Placed;
+use crate::plan::Plan;
 use format::entries;
 use reader::head::Head;
 use wire::keys::KeyHead;
-use wire::{emit_key, positions};
+use wire::output::Output;
+use wire::positions;
 
 // The extent of a piece: its checksum entry, if it has one, and its pointer.
-pub fn put_extent(out: &mut [u8], at: usize, h: Head, p: Placed) -> usize
+pub fn put_extent(out: &mut Output, h: Head, p: Placed)
     requires { (h.option ≤ 3) × Bounded p }
-    ensures { Emitted out.old at (encode_field (key_field 0 (extent_key (head_in h) (placed_in p)))) out.new result }
+    ensures { out.new ≡ with_bytes out.old (encode_field (key_field 0 (extent_key (head_in h) (placed_in p)))) }
 {
     let piece = p.piece;
-    let word = entries::pointer(p.first, p.generation);
     let v = entries::extent_words(
         h.option,
         piece.kind as u64,
         piece.stored as u64,
         piece.file as u64,
         piece.checksum,
-        word,
+        entries::pointer(p.first, p.generation),
     );
     let head = KeyHead {
         key_type: 6,
@@ -38,32 +37,15 @@ pub fn put_extent(out: &mut [u8], at: usize, h: Head, p: Placed) -> usize
         version_lo: 0,
         pos: positions::extent_at(h.inode, p.end),
     };
-    let w = v.w;
-    emit_key::put_words_key(out, at, 0, head, w, v.n)
+    out.put_words_key(0, head, &v.w[..v.n]);
 }
 
 // The extents of all pieces, in order.
-pub fn put_extents(
-    out: &mut [u8],
-    at: usize,
-    s: &[u8],
-    pieces: &[u32],
-    slots: &[u32],
-    taken: &[u64],
-    gens: &[u8],
-    h: Head,
-) -> usize
-    requires { Plan s.now pieces.now slots.now (buckets_in taken.now) gens.now h }
-    ensures { Emitted out.old at (encode (map (key_field 0) (map (extent_key (head_in h)) (placed_of (read_call s.now))))) out.new result }
+pub fn put_extents(out: &mut Output, plan: &Plan)
+    ensures { out.new ≡ with_bytes out.old (encode (map (key_field 0) (map (extent_key (head_in plan.now.head)) (placed_of (read_call plan.now.list.now))))) }
 {
-    let mut p = at;
-    let mut end = h.base;
-    let mut i: usize = 0;
-    while i < pieces.len() {
-        let here = placed::place_piece(s, pieces, slots, i, taken, gens, h, end);
-        p = put_extent(out, p, h, here);
-        end = here.end;
-        i += 1;
+    let mut pieces = plan.placed();
+    while let Some(p) = pieces.next() {
+        put_extent(out, plan.head, p);
     }
-    p
 }

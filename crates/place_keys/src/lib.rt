@@ -9,5 +9,6 @@ pub mod extents;
 pub mod generations;
 pub mod lru;
 pub mod placed;
+pub mod plan;
 pub mod queue;
 pub mod spots;

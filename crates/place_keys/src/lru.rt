@@ -1,52 +1,36 @@
 // Tree 10: the LRU keys of the buckets taken that are part filled.
-ghost use Rattle.std.specs.Prelude.{◌≡◌, ◌||◌, ◌<◌, ◌≤◌, length};
+ghost use Rattle.std.specs.Prelude.{◌≡◌, ◌<◌, ◌≤◌, length};
 ghost use mathlib.Core.List.{List, flat_map, map};
 ghost use Rattle.calls.specs.Extents as calls;
 ghost use Rattle.calls.specs.Lru.{part_filled, lru_keys, lru_wanted};
 ghost use Rattle.calls.specs.Place.{dirty_in};
 ghost use Rattle.change_fields.specs.FieldBytes.{keys_bytes};
 ghost use Rattle.wire.specs.Kinds.{buckets_in};
-ghost use Rattle.wire.specs.Output.{Emitted};
+ghost use Rattle.wire.specs.Output.{with_bytes};
 ghost use Rattle.place_keys.specs.Plan.{Dirty, DirtyKnown};
 
-use change_fields::lru as lru_keys;
+use change_fields::lru_keys;
 use wire::kinds::Bucket;
+use wire::output::Output;
 
-// How far the output is after keys that are put, and whether the LRU root is wanted.
-#[derive(Clone, Copy, Drop)]
-pub struct KeysPut {
-    pub at: usize,
-    pub root_wanted: bool,
-}
-
-// The LRU key of a bucket that is part filled, which wants the root. Refusal 4 shows that a bucket has sectors, here and below.
-fn put_lru(out: &mut [u8], before: KeysPut, b: Bucket, dirty: u32, sectors: u64) -> KeysPut
+// The LRU key of a bucket that is part filled, and whether it is, which wants the root. Refusal 4 shows that a bucket has sectors, here and below.
+fn put_lru(out: &mut Output, b: Bucket, dirty: u32, sectors: u64) -> bool
     requires { 0 < sectors }
-    ensures { Emitted out.old before.at (keys_bytes 10 (lru_keys sectors b dirty)) out.new result.at × (result.root_wanted ≡ (before.root_wanted || part_filled sectors dirty)) }
+    ensures { (out.new ≡ with_bytes out.old (keys_bytes 10 (lru_keys sectors b dirty))) × (result ≡ part_filled sectors dirty) }
 {
-    if sectors <= dirty as u64 {
-        return before;
-    }
-    KeysPut {
-        at: lru_keys::put_lru_key(out, before.at, b, dirty, sectors),
-        root_wanted: true,
-    }
+    lru_keys::put_lru_key(out, b, dirty, sectors);
+    (dirty as u64) < sectors
 }
 
-// The LRU keys of the buckets taken, in order, by their dirty counts. `put_keys` shows whose they are.
-pub fn put_lrus(out: &mut [u8], at: usize, taken: &[u64], dirty: &[u32], sectors: u64) -> KeysPut
+// The LRU keys of the buckets taken, in order, by their dirty counts, and whether the LRU root is wanted. `put_keys` shows whose they are.
+pub fn put_lrus(out: &mut Output, taken: &[u64], dirty: &[u32], sectors: u64) -> bool
     requires taken_in_bounds { (length taken.now ≤ length dirty.now) × (0 < sectors) }
     requires dirty_known { DirtyKnown (buckets_in taken.now) dirty.now }
-    ensures { (ps : List calls.Placed) → Dirty ps (buckets_in taken.now) dirty.now → Emitted out.old at (keys_bytes 10 (flat_map (λ b. lru_keys sectors b (dirty_in ps b)) (buckets_in taken.now))) out.new result.at × (result.root_wanted ≡ lru_wanted sectors (map (dirty_in ps) (buckets_in taken.now))) }
+    ensures { (ps : List calls.Placed) → Dirty ps (buckets_in taken.now) dirty.now → (out.new ≡ with_bytes out.old (keys_bytes 10 (flat_map (λ b. lru_keys sectors b (dirty_in ps b)) (buckets_in taken.now)))) × (result ≡ lru_wanted sectors (map (dirty_in ps) (buckets_in taken.now))) }
 {
-    let mut k = KeysPut {
-        at,
-        root_wanted: false,
-    };
-    let mut i: usize = 0;
-    while i < taken.len() {
-        k = put_lru(out, k, Bucket(taken[i]), dirty[i], sectors);
-        i += 1;
+    let mut root_wanted = false;
+    for (i, b) in taken.iter().enumerate() {
+        root_wanted |= put_lru(out, Bucket(*b), dirty[i], sectors);
     }
-    k
+    root_wanted
 }

@@ -1,53 +1,33 @@
 // Fields 72: where each piece is placed.
-ghost use Rattle.std.specs.Prelude.{map};
-ghost use Rattle.wire.specs.Kinds.{buckets_in};
+ghost use Rattle.std.specs.Prelude.{◌≡◌, map};
 ghost use Rattle.wire.specs.Encode.{encode, encode_field};
 ghost use Rattle.calls.specs.ChangeList.{spot_field};
 ghost use Rattle.calls.specs.Place.{placed_of, spot_at};
 ghost use Rattle.calls.specs.Answers.{read_call};
-ghost use Rattle.wire.specs.Output.{Emitted};
-ghost use Rattle.place_keys.specs.Plan.{Plan, placed_in};
+ghost use Rattle.wire.specs.Output.{with_bytes};
+ghost use Rattle.place_keys.specs.Plan.{placed_in};
 
-use crate::placed;
 use crate::placed::Placed;
-use reader::head::Head;
-use wire::emit;
+use crate::plan::Plan;
+use wire::output::Output;
 
 // Where a piece is placed: device sector, stored sectors, bucket and generation.
-pub fn put_spot(out: &mut [u8], at: usize, p: Placed) -> usize
-    ensures { Emitted out.old at (encode_field (spot_field (spot_at (placed_in p)))) out.new result }
+pub fn put_spot(out: &mut Output, p: Placed)
+    ensures { out.new ≡ with_bytes out.old (encode_field (spot_field (spot_at (placed_in p)))) }
 {
-    let piece = p.piece;
-    let bucket = p.bucket;
-    let q = emit::put_head(out, at, 72, 15);
-    let q = emit::put_sector(out, q, p.first);
-    let q = emit::put_le(out, q, 2, piece.stored as u64);
-    let q = emit::put_bucket_bytes(out, q, bucket);
-    emit::put_le(out, q, 1, p.generation as u64)
+    out.put_head(72, 15);
+    out.put_sector(p.first);
+    out.put_u16(p.piece.stored);
+    out.put_bucket_bytes(p.bucket);
+    out.put_u8(p.generation);
 }
 
 // Where all pieces are placed, in order.
-pub fn put_spots(
-    out: &mut [u8],
-    at: usize,
-    s: &[u8],
-    pieces: &[u32],
-    slots: &[u32],
-    taken: &[u64],
-    gens: &[u8],
-    h: Head,
-) -> usize
-    requires { Plan s.now pieces.now slots.now (buckets_in taken.now) gens.now h }
-    ensures { Emitted out.old at (encode (map spot_field (map spot_at (placed_of (read_call s.now))))) out.new result }
+pub fn put_spots(out: &mut Output, plan: &Plan)
+    ensures { out.new ≡ with_bytes out.old (encode (map spot_field (map spot_at (placed_of (read_call plan.now.list.now))))) }
 {
-    let mut p = at;
-    let mut end = h.base;
-    let mut i: usize = 0;
-    while i < pieces.len() {
-        let here = placed::place_piece(s, pieces, slots, i, taken, gens, h, end);
-        p = put_spot(out, p, here);
-        end = here.end;
-        i += 1;
+    let mut pieces = plan.placed();
+    while let Some(p) = pieces.next() {
+        put_spot(out, p);
     }
-    p
 }

@@ -1,0 +1,48 @@
+use Rattle.std.proofs.Common.{arith, ap, sym, ◌∙◌, map, ◌≡◌}
+use Rattle.wire.specs.Kinds.{buckets_in}
+use Rattle.wire.specs.Output.{with_bytes}
+use Rattle.wire.proofs.AppendLaws.{with-with}
+use Rattle.wire.proofs.BucketTables.{table-length}
+use Rattle.calls.specs.Place.{placed_of}
+use Rattle.calls.specs.Answers.{read_call}
+use Rattle.calls.proofs.place.PlaceLaws.{placed-pieces}
+use Rattle.accounting.specs.Tally.{tallies_of}
+use Rattle.place.proofs.ChangeLaws.{others-of}
+use Rattle.place.proofs.change.ChangeList.put_others.Goals as goal
+
+pub put_rows-requires-clause-taken_bound : goal.put_rows-requires-clause-taken_bound
+put_rows-requires-clause-taken_bound c =
+    let q = c.args.self.now.plan.now.planned in
+    (omega (arith, q.short, table-length c.args.self.now.plan.now.taken.now), q.option)
+
+pub put_rows-requires-clause-known : goal.put_rows-requires-clause-known
+put_rows-requires-clause-known c =
+    let l = c.args.self.now in
+    let call = read_call l.plan.now.list.now in
+    record {
+      buckets = buckets_in l.plan.now.taken.now;
+      placed = placed_of call;
+      count = table-length l.plan.now.taken.now;
+      tallied = record { is = l.prepared.tallied.is ∙ ap tallies_of (sym (placed-pieces call)); small = l.prepared.tallied.small };
+    }
+
+pub returns : goal.returns
+returns c =
+    let l = c.args.self.now in
+    let taken = l.plan.now.taken.now in
+    let call = read_call l.plan.now.list.now in
+    let tallied : l.tallies ≡ tallies_of (map (λ p. p.piece) (placed_of call)) = l.prepared.tallied.is ∙ ap tallies_of (sym (placed-pieces call)) in
+    rw (
+      c.put_end.ensures,
+      c.put_sectors.ensures,
+      c.put_rows.ensures (buckets_in taken) (placed_of call) (table-length taken) tallied,
+      c.put_spots.ensures,
+      c.put_taken.ensures,
+      c.put_lru_root.ensures,
+      with-with,
+      with-with,
+      with-with,
+      with-with,
+      with-with,
+    )
+    (ap (with_bytes c.args.out.now) (sym (others-of l.plan.now.planned l.tallies l.prepared.tallied.is c.args.«root_wanted» c.requires)))
