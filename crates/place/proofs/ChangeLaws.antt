@@ -19,7 +19,6 @@ use Rattle.calls.specs.Place.{root_missing, roots_if, dirty_in, new_alloc_key, s
 use Rattle.calls.specs.Answers.{read_call, read_volume}
 use Rattle.reader.specs.Heads.{head_in}
 use Rattle.reader.specs.declared.head.Head.{Head}
-use Rattle.change_fields.specs.FieldBytes.{roots_bytes}
 use Rattle.wire.specs.declared.kinds.Bucket.{Bucket}
 use Rattle.place_keys.specs.Plan.{Plan}
 use Rattle.place.specs.Change.{placement, root_is_wanted, key_fields, other_fields}

@@ -4,6 +4,7 @@ use mathlib.Core.Bool.{Bool, true, false, cond}
 use mathlib.Core.List.{List, [], ◌∷◌}
 use Prim.Native.Nat.{ℕ, zero, suc, ◌+◌, ◌≤◌, ◌<◌}
 use native.Mathlib.Omega.{arith}
+use Rattle.std.specs.Prelude.{Ok}
 use lib.Dec.{eqb}
 use lib.ListN.{length, take, length-take}
 use borrow.Author.Tests.{eq-eqb, eqb-true}
@@ -83,7 +84,7 @@ pub record Choice (s : List ℕ) (h : Head) (runs pieces numbers table : List �
 
 module _
     {s : List ℕ} {h : Head} {allocs_at runs-at reserved-at pieces-at before table numbers : List ℕ} {r : Walked}
-    (q : Called s h allocs_at runs-at reserved-at pieces-at) (o : ChosenIs s before table numbers r) (none : r.refusal ≡ 0) where
+    (q : Called s h allocs_at runs-at reserved-at pieces-at) (o : ChosenIs s before table numbers (Ok r)) where
   abbrev c : CallList
   c = read_call s
 
@@ -91,7 +92,7 @@ module _
   ks = (read_volume s).trees.freespace
 
   passed : TestsPassed c h
-  passed = accepted c h q.head (sym o.refusal ∙ none)
+  passed = accepted c h q.head (sym o.refusal)
 
   taken-many : length (walk_of c).taken ≡ buckets_needed (slots_of c)
   unfolding walk_of
@@ -109,7 +110,7 @@ module _
       passed.runs
 
   abbrev w : WalkTook (buckets_needed (slots_of c)) (take r.passed ks) (walk_of c) unwalked before table r
-  w = o.took none
+  w = o.took
 
   taken_is : buckets_in (take r.count table) ≡ (walk_of c).taken
   unfolding buckets_in
@@ -129,7 +130,7 @@ module _
         plan =
             record {
               pieces = q.pieces;
-              slots = o.laid none;
+              slots = o.laid;
               head = q.head;
               taken = taken_is;
               gens = refl;

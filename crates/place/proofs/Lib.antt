@@ -2,4 +2,3 @@ pub mod CallLaws
 pub mod ChangeLaws
 pub mod ChosenLaws
 pub mod ReadLaws
-pub mod RunLaws

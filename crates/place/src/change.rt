@@ -15,6 +15,7 @@ use change_fields::{batch_end, root_fields};
 use freespace::take::Walked;
 use place_keys::plan::Plan;
 use place_keys::{allocs, backpointers, extents, lru, queue, spots};
+use reader::answer::Emit;
 use wire::kinds::Bucket;
 use wire::output::Output;
 
@@ -37,9 +38,27 @@ impl<'a> ChangeList<'a> {
     {
         let plan = self.plan;
         extents::put_extents(out, plan);
-        allocs::put_allocs(out, plan.taken, plan.gens, self.dirty, plan.head.journal, self.clock);
-        let root_wanted = lru::put_lrus(out, plan.taken, self.dirty, plan.head.bucket_sectors as u64);
-        queue::put_queue(out, plan.list, self.runs, self.walked.passed, self.walked.left);
+        allocs::put_allocs(
+            out,
+            plan.taken,
+            plan.gens,
+            self.dirty,
+            plan.head.journal,
+            self.clock,
+        );
+        let root_wanted = lru::put_lrus(
+            out,
+            plan.taken,
+            self.dirty,
+            plan.head.bucket_sectors as u64,
+        );
+        queue::put_queue(
+            out,
+            plan.list,
+            self.runs,
+            self.walked.passed,
+            self.walked.left,
+        );
         backpointers::put_backpointers(out, plan);
         root_wanted
     }
@@ -57,11 +76,13 @@ impl<'a> ChangeList<'a> {
         put_sectors(out, self.tallies.all.file);
         batch_end::put_end(out);
     }
+}
 
-    // The whole change list, one batch.
-    pub fn put(&self, out: &mut Output)
-        ensures { out.new ≡ with_bytes out.old (change_bytes (placement self.now.plan.now.list.now ∷ [])) }
-    {
+// The whole change list, one batch.
+impl<'a> Emit for ChangeList<'a> {
+    ghost bytes = { λ l. change_bytes (placement l.plan.now.list.now ∷ []) };
+
+    fn emit(&self, out: &mut Output) {
         let root_wanted = self.put_keys(out);
         self.put_others(out, root_wanted);
     }

@@ -10,7 +10,7 @@ pub returns : goal.returns
 returns c =
     let e : c.if-wanted.put_root ≡ (c.args.wanted && root_missing c.args.roots 0) =
     elim c.if-wanted.branch [
-        then-wanted w ↦ w.put_root-is ∙ sym (root-wanted c.args.wanted c.args.roots w.if-wanted.true)
+      | then-wanted w ↦ w.put_root-is ∙ sym (root-wanted c.args.wanted c.args.roots w.if-wanted.true)
       | else-wanted w ↦ w.put_root-is ∙ w.if-wanted.false ∙ sym (root-unwanted c.args.wanted c.args.roots w.if-wanted.false)
     ] in
     c.put_root.ensures ∙ ap (λ (b : Bool). with_bytes c.args.out.now (roots_bytes (roots_if b 10))) e

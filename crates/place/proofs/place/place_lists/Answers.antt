@@ -1,4 +1,6 @@
-use Rattle.std.proofs.Common.{arith, ap, sym, subst, ◌∙◌, List, map, take, length, length-take}
+use Rattle.std.proofs.lemmas.Result.{err_from_is_err_and}
+use Rattle.reader.proofs.NumberLaws.{some-number}
+use Rattle.std.proofs.Common.{arith, ap, refl, sym, subst, ◌∙◌, List, map, take, length, length-take}
 use Rattle.std.proofs.lemmas.List.{length-take-le}
 use Rattle.wire.specs.Kinds.{buckets_in}
 use Rattle.wire.specs.declared.kinds.Bucket.{Bucket}
@@ -13,55 +15,58 @@ use Rattle.place.proofs.ChangeLaws.{zero-at}
 use Rattle.place.proofs.ChosenLaws.{chosen}
 use Rattle.place.proofs.place.place_lists.Goals as goal
 
-pub returns-then-w-ne0 : goal.returns-then-w-ne0
-returns-then-w-ne0 c =
-    refused _ _ (answer-refused (place_tests (read_call c.args.g.now.list.now)) _ _ c.choose_buckets-w.ensures.refusal (omega (arith, c.if-w-ne0.true))) c.requires
+pub returns-in_err-w : goal.returns-in_err-w
+returns-in_err-w c =
+    let p = err_from_is_err_and c.from_residual.result c.from_residual.ensures.1 in
+    let some = some-number c.in_err-w.field-0.0 in
+    rw (p.1, p.2)
+    (refused _ _ (answer-refused (place_tests (read_call c.args.g.now.list.now)) _ _ c.in_err-w.ensures.refusal (omega (arith, some))) refl)
 
 pub slice_bounds-taken-end : goal.slice_bounds-taken-end
 slice_bounds-taken-end c =
-    let q = chosen c.args.g.now.called c.choose_buckets-w.ensures c.if-w-ne0.false in
-    omega (arith, q.few, c.choose_buckets-w.auto.taken)
+    let q = chosen c.args.g.now.called c.in_ok-w.ensures in
+    omega (arith, q.few, c.choose_buckets.auto.taken)
 
 pub slice_bounds-taken-end-2 : goal.slice_bounds-taken-end-2
 slice_bounds-taken-end-2 c =
-    let q = chosen c.args.g.now.called c.choose_buckets-w.ensures c.if-w-ne0.false in
-    sym (length-take-le _ _ (omega (arith, q.few, c.choose_buckets-w.auto.taken)))
+    let q = chosen c.args.g.now.called c.in_ok-w.ensures in
+    sym (length-take-le _ _ (omega (arith, q.few, c.choose_buckets.auto.taken)))
 
 pub fill_gens-requires : goal.fill_gens-requires
 fill_gens-requires c =
-    let q = chosen c.args.g.now.called c.choose_buckets-w.ensures c.if-w-ne0.false in
-    (omega (arith, q.few, length-take c.choose_buckets-w.result.count c.choose_buckets-w.new.taken), q.plan.low)
+    let q = chosen c.args.g.now.called c.in_ok-w.ensures in
+    (omega (arith, q.few, length-take c.in_ok-w.w.count c.choose_buckets.new.taken), q.plan.low)
 
 pub fill_dirty-requires-clause-plan_known : goal.fill_dirty-requires-clause-plan_known
 fill_dirty-requires-clause-plan_known c =
-    let q = chosen c.args.g.now.called c.choose_buckets-w.ensures c.if-w-ne0.false in
+    let q = chosen c.args.g.now.called c.in_ok-w.ensures in
     let g = c.args.g.now in
     record {
       generations = map (gen_of (read_volume g.list.now).trees.gens) (walk_of (read_call g.list.now)).taken;
       head = g.head;
-      plan = subst (λ (bs : List Bucket). PlanFor g.list.now g.head g.pieces.now (take (length g.pieces.now) c.choose_buckets-w.new.slots) bs) q.plan.taken q.plan;
+      plan = subst (λ (bs : List Bucket). PlanFor g.list.now g.head g.pieces.now (take (length g.pieces.now) c.choose_buckets.new.slots) bs) q.plan.taken q.plan;
     }
 
 pub fill_dirty-requires-clause-s_in_bounds : goal.fill_dirty-requires-clause-s_in_bounds
 fill_dirty-requires-clause-s_in_bounds c =
-    let q = chosen c.args.g.now.called c.choose_buckets-w.ensures c.if-w-ne0.false in
+    let q = chosen c.args.g.now.called c.in_ok-w.ensures in
     (omega (arith, q.plan.short, ap length q.plan.taken), λ k. zero-at 1024 k)
 
 pub invariant_of-plan : goal.invariant_of-plan
 invariant_of-plan c =
-    let q = chosen c.args.g.now.called c.choose_buckets-w.ensures c.if-w-ne0.false in
+    let q = chosen c.args.g.now.called c.in_ok-w.ensures in
     let g = c.args.g.now in
-    let numbers = take (length g.pieces.now) c.choose_buckets-w.new.slots in
-    let buckets = buckets_in (take c.choose_buckets-w.result.count c.choose_buckets-w.new.taken) in
+    let numbers = take (length g.pieces.now) c.choose_buckets.new.slots in
+    let buckets = buckets_in (take c.in_ok-w.w.count c.choose_buckets.new.taken) in
     record { planned = subst (λ gs. Plan g.list.now g.pieces.now numbers buckets gs g.head) (sym c.fill_gens.ensures) q.plan }
 
 pub invariant_of-list : goal.invariant_of-list
 invariant_of-list c =
-    let q = chosen c.args.g.now.called c.choose_buckets-w.ensures c.if-w-ne0.false in
+    let q = chosen c.args.g.now.called c.in_ok-w.ensures in
     record {
       prepared =
           record {
-            long = omega (arith, q.few, length-take c.choose_buckets-w.result.count c.choose_buckets-w.new.taken, c.fill_dirty.auto.dirty);
+            long = omega (arith, q.few, length-take c.in_ok-w.w.count c.choose_buckets.new.taken, c.fill_dirty.auto.dirty);
             dirty = subst (λ (bs : List Bucket). Dirty (placed_of (read_call c.args.g.now.list.now)) bs c.fill_dirty.new.dirty) (sym q.plan.taken) c.fill_dirty.ensures;
             walk = q.walk;
             tallied = c.tally_pieces.ensures;
@@ -71,6 +76,6 @@ invariant_of-list c =
 
 pub returns : goal.returns
 returns c =
-    c.write_change.ensures
+    c.written.ensures
     ∙ ap (λ (x : Answer). outcome x c.args.out.now)
-    (sym (answer-past (place_tests (read_call c.args.g.now.list.now)) _ _ (sym c.if-w-ne0.false ∙ c.choose_buckets-w.ensures.refusal)))
+    (sym (answer-past (place_tests (read_call c.args.g.now.list.now)) _ _ c.in_ok-w.ensures.refusal))

@@ -5,7 +5,6 @@ use Rattle.wire.proofs.AppendLaws.{with-with}
 use Rattle.wire.proofs.BucketTables.{table-length}
 use Rattle.calls.specs.Place.{placed_of}
 use Rattle.calls.specs.Answers.{read_call, read_volume}
-use Rattle.reader.specs.declared.head.Head.{Head}
 use Rattle.calls.specs.CallList as calls
 use Rattle.place_keys.specs.Plan.{AllocsOf}
 use Rattle.place_keys.proofs.StepLaws.{gens-length}
@@ -37,6 +36,6 @@ returns c =
         with-with,
         with-with,
       )
-      (ap (with_bytes c.args.out.now) (sym (keys_of q))),
+          (ap (with_bytes c.args.out.now) (sym (keys_of q))),
       lrus.1 ∙ root-of q,
     )

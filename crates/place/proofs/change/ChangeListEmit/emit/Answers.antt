@@ -2,7 +2,7 @@ use Rattle.std.proofs.Common.{ap, sym}
 use Rattle.wire.specs.Output.{with_bytes}
 use Rattle.wire.proofs.AppendLaws.{with-with}
 use Rattle.place.proofs.ChangeLaws.{change-split}
-use Rattle.place.proofs.change.ChangeList.put.Goals as goal
+use Rattle.place.proofs.change.ChangeListEmit.emit.Goals as goal
 
 pub returns : goal.returns
 returns c = rw (c.put_others.ensures, c.put_keys-root_wanted.ensures.0, with-with) (ap (with_bytes c.args.out.now) (sym (change-split _)))
