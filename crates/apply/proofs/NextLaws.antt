@@ -32,11 +32,8 @@ use Rattle.sorting.specs.Entries.{sections, bucket_key, is_entry, entries, field
 use Rattle.merge.specs.Counts.{key_fits, section_within}
 use Rattle.apply.specs.Roots.{roots_after, front_bytes}
 use Rattle.apply.proofs.BatchLaws.{tree-changes, bucket-changes, head-changes}
-use Rattle.apply.proofs.VolumeLaws.{section_keys, tree-keys, tree-read, buckets-read}
-
--- the keys of section t in the next volume
-unfoldable pub next_of : List ℕ → List ℕ → ℕ → List Key
-next_of vol list t = apply_queue (entries t (fields list)) (section_keys vol t)
+use Rattle.apply.specs.NextVolume.{section_keys, next_of}
+use Rattle.apply.proofs.VolumeLaws.{tree-keys, tree-read, buckets-read}
 
 -- its sections
 

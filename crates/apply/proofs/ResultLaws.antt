@@ -1,156 +1,147 @@
 -- The loop over the sections, and the answer.
 use mathlib.Core.Path.{◌≡◌, refl, ap, sym, ◌∙◌}
-use mathlib.Core.Bool.{Bool, true, false, ◌&&◌, cond, and-true, and_assoc}
+use mathlib.Core.Bool.{Bool, true, ◌&&◌, and-true, and_assoc}
 use mathlib.Core.List.{List, [], ◌∷◌, ◌++◌}
-use Prim.Native.Nat.{ℕ, ◌+◌, ◌≤◌, ◌<◌, max}
-use native.Mathlib.Numerals.{add-one}
+use Prim.Native.Nat.{ℕ, ◌+◌, ◌≤◌, ◌<◌, max, min}
 use native.Mathlib.Omega.{arith}
 use lib.Dec.{leb}
 use lib.ListN.{length, drop, get_or}
 use borrow.Author.Tests.{le-leb, lt-leb}
-use Rattle.reader.specs.Collected.{start_at}
 use Rattle.reader.specs.Heads.{head_in}
 use Rattle.reader.specs.declared.head.Head.{Head}
 use Rattle.reader.specs.declared.table.Ends.{Ends}
 use Rattle.wire.specs.Numbers.{each}
-use Rattle.wire.specs.Fields.{fields}
-use Rattle.wire.specs.Keys.{Key}
-use Rattle.wire.specs.Output.{top, Wrote}
-use Rattle.wire.proofs.DryRun.{short, fits, wet}
-use Rattle.wire.proofs.OutputLaws.{then, Part, begin, turn, end, resize, drop-next, each_next, each_none}
+use Rattle.wire.specs.Output.{cap, with_bytes}
+use Rattle.wire.specs.declared.output.Output.{Output}
+use Rattle.wire.proofs.AppendLaws.{with-none, with-with}
+use Rattle.wire.proofs.OutputLaws.{drop-next, each_next, each_none}
 use Rattle.calls.specs.Lists.{all_of}
-use Rattle.calls.specs.CallList.{volume_bytes}
 use Rattle.calls.specs.Limits.{volume_within}
 use Rattle.calls.specs.ChangeList.{change_laid_out}
 use Rattle.calls.specs.Refusals.{test}
-use Rattle.calls.specs.Trees.{apply_queue}
-use Rattle.calls.specs.Answers.{Answer, answer, read_volume, next_volume, apply, made, outcome}
+use Rattle.calls.specs.Answers.{Outcome, answer, read_volume, next_volume, apply, made, outcome}
 use Rattle.calls.proofs.answers.AnswerLaws.{apply-is}
 use Rattle.calls.proofs.answers.OutcomeLaws.{answer-short, answer-fits, answer-next, answer-stops, refused, accepted}
-use Rattle.merge.specs.declared.below.Cursor.{Cursor}
-use Rattle.merge.specs.declared.queue.Parts.{Parts}
-use Rattle.sorting.specs.Entries.{sections, entries, section_bytes}
+use Rattle.reader.proofs.AnswerLaws.{counted}
+use Rattle.wire.specs.Fields.{fields}
+use Rattle.calls.specs.Trees.{apply_queue}
+use Rattle.sorting.specs.Entries.{sections, entries}
 use Rattle.sorting.specs.EntryPlaces.{entries_at}
-use Rattle.merge.specs.Counts.{section_within}
 use Rattle.merge.specs.Merging.{Done}
 use Rattle.merge.proofs.CountLaws.{within_on}
 use Rattle.apply.specs.Roots.{roots_after, front_bytes}
-use Rattle.apply.specs.NextVolume.{ends_of, queue_end, Ready, next_keys, SectionDone, VolumeDone}
-use Rattle.apply.specs.declared.lists.Reached.{Reached}
-use Rattle.apply.proofs.VolumeLaws.{section_keys, roots-low}
-use Rattle.apply.proofs.SectionPlaces.{first_of}
-use Rattle.apply.proofs.NextLaws.{next_of, next_bytes, next_within, next-bytes, next-within}
+use Rattle.apply.specs.NextVolume.{Lists, bytes_after, Ready, section_keys, next_of, VolumeDone}
+use Rattle.apply.proofs.VolumeLaws.{roots-low}
+use Rattle.apply.proofs.NextLaws.{next_bytes, next_within, next-bytes, next-within}
 
--- one section
-pub section-done :
-    {t : ℕ} {out vol keys list : List ℕ} {a : Reached} {out' : List ℕ} {s : Cursor} {w : ℕ} → w ≡ max a.count s.count
-    → Done t out a.p (next_keys t vol keys list) out' s → SectionDone t out vol keys list a out' (record { p = s.p; count = w })
-section-done {t} {a = a} {s = s} e d =
-    record { wrote = d.wrote; fits = ap (λ (n : ℕ). leb n 4096) e ∙ within_on t _ a.count s.count d.counted }
+-- the keys of a section that are put are those of the next volume
+pub done-next :
+    {t : ℕ} (vol list keys : List ℕ) {o o' : Output} {r : ℕ} → entries_at t vol keys ≡ section_keys vol t
+    → Done t o (apply_queue (entries t (fields list)) (entries_at t vol keys)) o' r → Done t o (next_of vol list t) o' r
+unfolding next_of
+done-next vol list keys e d = rw e at d
 
--- the loop on its way
-pub record Sectioning (out₀ : List ℕ) (q : ℕ) (vol list : List ℕ) (e : Ends) (p : Parts) (out : List ℕ) (at : Reached) (from first i : ℕ) : Type 0 where
-  pub part : Part out₀ q (each (next_bytes vol list) sections) out at.p (each (next_bytes vol list) (drop i sections))
-  pub fits : (leb at.count 4096 && all_of (next_within vol list) (drop i sections)) ≡ all_of (next_within vol list) sections
-  pub starts : from ≡ start_at e i
-  pub queue : first ≡ first_of p i
-  pub most : i ≤ 7
-
-pub sections-start :
-    (vol list : List ℕ) (e : Ends) (p : Parts) (out : List ℕ) (q : ℕ) → length out ≤ top
-    → Sectioning out q vol list e p out (record { p = q; count = 0 }) 0 0 0
-sections-start vol list e p out q h =
-    record { part = begin _ _ _ h; fits = refl; starts = refl; queue = none p.fits; most = omega arith }
-  where
-    none : (b : Bool) → ◌≡◌ {A = ℕ} 0 (cond b 0 0)
-    none true = refl
-    none false = refl
-
-module _
-    {out₀ : List ℕ} {q : ℕ} {vol list : List ℕ} {e : Ends} {p : Parts} {out : List ℕ} {at : Reached} {from first i : ℕ}
-    (c : Sectioning out₀ q vol list e p out at from first i) (l : i < 7) where
-  abbrev t : ℕ
-  t = get_or sections i 0
-
-  abbrev ts : List ℕ
-  ts = drop (i + 1) sections
-
-  split : drop i sections ≡ t ∷ ts
-  split = drop-next 0 sections i l
-
-  pub sections-on :
-      {keys out1 : List ℕ} {s : Reached} {to last : ℕ} → entries_at t vol keys ≡ section_keys vol t → to ≡ get_or (ends_of e) i 0
-      → last ≡ queue_end p i → SectionDone t out vol keys list at out1 s → Sectioning out₀ q vol list e p out1 s to last (i + 1)
-  unfolding next_bytes next_within next_keys next_of all_of queue_end
-  sections-on {keys} z u v d =
-      let k : next_keys t vol keys list ≡ next_of vol list t = ap (apply_queue (entries t (fields list))) z in
-      record {
-        part =
-            turn _ c.part (each_next (next_bytes vol list) split ∙ ap (λ (ks : List Key). section_bytes t ks ++ each (next_bytes vol list) ts) (sym k)) d.wrote;
-        fits =
-            ap (λ (b : Bool). b && all_of (next_within vol list) ts) (d.fits ∙ ap (λ (ks : List Key). leb at.count 4096 && section_within t ks) k)
-            ∙ and_assoc (leb at.count 4096) (next_within vol list t) (all_of (next_within vol list) ts)
-            ∙ ap (λ (us : List ℕ). leb at.count 4096 && all_of (next_within vol list) us) (sym split)
-            ∙ c.fits;
-        starts = u ∙ ap (λ (j : ℕ). start_at e j) (sym (add-one i));
-        queue = v ∙ ap (λ (j : ℕ). first_of p j) (sym (add-one i));
-        most = omega arith;
-      }
-
-pub sections-end :
-    {out₀ out₁ : List ℕ} {q : ℕ} {vol index list out : List ℕ} {h : Head} {e : Ends} {d : Parts} {at : Reached} {roots from first i : ℕ} → Ready vol index h e list
-    → roots ≡ roots_after list h.roots → Wrote out₀ 0 42 (front_bytes (head_in h) roots) out₁ q → Sectioning out₁ q vol list e d out at from first i → 7 ≤ i → VolumeDone out₀ vol list out at
-unfolding all_of
-sections-end {vol = vol} {list = list} {at = at} {roots = roots} {i = i} r b f c h =
-    let n : i ≡ 7 = omega (arith, c.most) in
-    let z : drop i sections ≡ [] = ap (λ (n : ℕ). drop n sections) n in
-    let g : roots ≡ roots_after list (read_volume vol).head.roots = b ∙ ap (λ x. roots_after list x.roots) r.read.head in
-    let w = then (rw (g, r.read.head) at f) (end _ refl c.part (each_none (next_bytes vol list) z)) in
-    record {
-      wrote = rw (next-bytes vol list r.change) (resize (sym w.size) w);
-      fits =
-          sym (and-true (leb at.count 4096))
-          ∙ ap (λ (us : List ℕ). leb at.count 4096 && all_of (next_within vol list) us) (sym z)
-          ∙ c.fits
-          ∙ sym (next-within vol list r.change r.within);
-    }
+-- the loop on its way: what is left of the next volume goes to o', and the count so far and the limits of what is left tell those of the whole
+pub record Sectioning (n : Lists) (o o' : Output) (most i : ℕ) : Type 0 where
+  pub wrote : with_bytes o' (each (next_bytes n.volume n.change) (drop i sections)) ≡ with_bytes o (bytes_after n)
+  pub fits : (leb most 4096 && all_of (next_within n.volume n.change) (drop i sections)) ≡ volume_within (next_volume n.volume n.change)
 
 -- what `roots_after` asks
 pub roots-ready : {vol index list : List ℕ} {h : Head} {e : Ends} → Ready vol index h e list → (h.roots < 8) × (change_laid_out list ≡ true)
 roots-ready {vol} r = (rw (ap (λ x. x.roots) r.read.head) (roots-low vol r.laid), r.change)
 
+module _ {vol index list : List ℕ} {h : Head} {e : Ends} {roots : ℕ} (r : Ready vol index h e list) (b : roots ≡ roots_after list h.roots) where
+  abbrev lists : Lists
+  lists = record { volume = vol; change = list }
+
+  pub sections-start : {o o' : Output} → o' ≡ with_bytes o (front_bytes (head_in h) roots) → Sectioning lists o o' 0 0
+  sections-start {o} f =
+      let g : roots ≡ roots_after list (read_volume vol).head.roots = b ∙ ap (λ x. roots_after list x.roots) r.read.head in
+      record {
+        wrote =
+            ap (λ (x : Output). with_bytes x (each (next_bytes vol list) sections)) (rw (g, r.read.head) at f)
+            ∙ with-with o _ _
+            ∙ ap (with_bytes o) (sym (next-bytes vol list r.change));
+        fits = sym (next-within vol list r.change r.within);
+      }
+
+module _ {n : Lists} {o o' : Output} {most i : ℕ} (c : Sectioning n o o' most i) where
+  pub sections-on :
+      {o'' : Output} {count : ℕ} → i < 7 → Done (get_or sections i 0) o' (next_of n.volume n.change (get_or sections i 0)) o'' count
+      → Sectioning n o o'' (max most count) (i + 1)
+  unfolding next_bytes next_within all_of
+  sections-on {o''} {count} l d =
+      let t : ℕ = get_or sections i 0 in
+      let ts : List ℕ = drop (i + 1) sections in
+      let split : drop i sections ≡ t ∷ ts = drop-next 0 sections i l in
+      record {
+        wrote =
+            ap (λ (x : Output). with_bytes x (each (next_bytes n.volume n.change) ts)) d.wrote
+            ∙ with-with o' _ _
+            ∙ ap (with_bytes o') (sym (each_next (next_bytes n.volume n.change) split))
+            ∙ c.wrote;
+        fits =
+            ap (λ (b : Bool). b && all_of (next_within n.volume n.change) ts) (within_on t _ most count d.counted)
+            ∙ and_assoc (leb most 4096) (next_within n.volume n.change t) (all_of (next_within n.volume n.change) ts)
+            ∙ ap (λ (us : List ℕ). leb most 4096 && all_of (next_within n.volume n.change) us) (sym split)
+            ∙ c.fits;
+      }
+
+  -- no section is left
+  end-wrote : i ≡ 7 → o' ≡ with_bytes o (bytes_after n)
+  end-wrote e =
+      let z : drop i sections ≡ [] = ap (λ (k : ℕ). drop k sections) e in
+      sym (with-none o') ∙ ap (with_bytes o') (sym (each_none (next_bytes n.volume n.change) z)) ∙ c.wrote
+
+  end-fits : i ≡ 7 → volume_within (next_volume n.volume n.change) ≡ leb most 4096
+  unfolding all_of
+  end-fits e =
+      let z : drop i sections ≡ [] = ap (λ (k : ℕ). drop k sections) e in
+      sym c.fits
+      ∙ ap (λ (us : List ℕ). leb most 4096 && all_of (next_within n.volume n.change) us) z
+      ∙ and-true (leb most 4096)
+
+  pub sections-end : {index : List ℕ} {h : Head} {e : Ends} → Ready n.volume index h e n.change → i ≡ 7 → VolumeDone n o o' most
+  sections-end r e =
+      let bytes = bytes_after n in
+      record {
+        wrote = end-wrote e;
+        answers =
+            λ room.
+            apply-is n.volume n.change room
+            ∙ answer-next _ _ bytes room (rw (r.laid, r.change))
+            ∙ answer-next _ _ bytes room (rw r.once)
+            ∙ answer-next _ _ bytes room (rw r.within)
+            ∙ ap (λ (b : Bool). answer (test 3 b ∷ []) bytes room) (end-fits e);
+      }
+
 -- the answers
 
-module _ {vol index : List ℕ} {h : Head} {e : Ends} {list : List ℕ} (ready : Ready vol index h e list) (xs : List ℕ) where
-  abbrev bytes : List ℕ
-  bytes = volume_bytes (next_volume vol list)
+module _ {n : Lists} {o o' : Output} {count : ℕ} (dry : VolumeDone n o o' count) (xs : List ℕ) where
+  abbrev whole : Outcome
+  whole = outcome (apply n.volume n.change (length xs)) xs
 
-  abbrev tests : Bool → Answer
-  tests within = answer (test 3 within ∷ []) bytes (length xs)
+  pub gives-3 : 4096 < count → made 3 0 xs ≡ whole
+  gives-3 h =
+      refused 3 xs (dry.answers (length xs) ∙ rw (lt-leb count 4096 h) (answer-stops 3 [] (bytes_after n) (length xs) (λ e. omega arith))) refl
 
-  -- the tests that are left
-  left : (b : Bool) → volume_within (next_volume vol list) ≡ b → apply vol list (length xs) ≡ tests b
-  left b e =
-      apply-is vol list (length xs)
-      ∙ answer-next _ _ bytes (length xs) (rw (ready.laid, ready.change))
-      ∙ answer-next _ _ bytes (length xs) (rw ready.once)
-      ∙ answer-next _ _ bytes (length xs) (rw ready.within)
-      ∙ ap tests e
+  -- where no test is left but 21
+  light : count ≤ 4096 → apply n.volume n.change (length xs) ≡ answer [] (bytes_after n) (length xs)
+  light h = dry.answers (length xs) ∙ rw (le-leb count 4096 h) (answer-next 0 [] (bytes_after n) (length xs) refl)
 
-  module _ {ds es : List ℕ} {d : Reached} (dry : VolumeDone ds vol list es d) where
-    pub gives-3 : 4096 < d.count → made 3 0 xs ≡ outcome (apply vol list (length xs)) xs
-    gives-3 h = refused 3 xs (left false (sym dry.fits ∙ lt-leb d.count 4096 h) ∙ answer-stops 3 [] bytes (length xs) (λ e. omega arith)) refl
+  module _ (z : o.at ≡ 0) where
+    -- the length that the run tells
+    run-length : o'.at ≡ min (length (bytes_after n)) cap
+    run-length = ap (λ (x : Output). x.at) dry.wrote ∙ counted o (bytes_after n) z
 
-    -- where no test is left but 21
-    light : d.count ≤ 4096 → apply vol list (length xs) ≡ answer [] bytes (length xs)
-    light h = left true (sym dry.fits ∙ le-leb d.count 4096 h) ∙ answer-next 0 [] bytes (length xs) refl
+    pub gives-21 : count ≤ 4096 → length xs < o'.at → made 21 0 xs ≡ whole
+    gives-21 h l = refused 21 xs (light h ∙ answer-short (bytes_after n) (length xs) (omega (arith, run-length))) refl
 
-    pub gives-21 : d.count ≤ 4096 → length xs < top → length xs < d.p → made 21 0 xs ≡ outcome (apply vol list (length xs)) xs
-    gives-21 h k l = refused 21 xs (light h ∙ answer-short bytes (length xs) (short xs dry.wrote k l)) refl
+    pub has-room : o'.at ≤ length xs → length xs < cap → length (bytes_after n) ≤ length xs
+    has-room l k = omega (arith, run-length)
 
     pub gives-0 :
-        {ys : List ℕ} {s : Reached} → d.count ≤ 4096 → length xs < top → d.p ≤ length xs → VolumeDone xs vol list ys s
-        → made 0 d.p ys ≡ outcome (apply vol list (length xs)) xs
-    gives-0 h k l w =
-        let f = fits xs dry.wrote k l in
-        accepted bytes xs (light h ∙ answer-fits bytes (length xs) f.1) f.0 (wet w.wrote f.1)
+        {ys : List ℕ} → count ≤ 4096 → o'.at ≤ length xs → length xs < cap → ys ≡ bytes_after n ++ drop (length (bytes_after n)) xs
+        → made 0 o'.at ys ≡ whole
+    gives-0 h l k w =
+        accepted (bytes_after n) xs (light h ∙ answer-fits (bytes_after n) (length xs) (has-room l k)) (omega (arith, run-length, has-room l k)) w

@@ -2,12 +2,15 @@
 use mathlib.Core.Path.{◌≡◌, refl, ap, sym, ◌∙◌}
 use mathlib.Core.Bool.{Bool, true, false, cond}
 use mathlib.Core.List.{List, [], ◌∷◌}
-use Prim.Native.Nat.{ℕ, ◌+◌, ◌/◌, ◌%◌, ◌≤◌, ◌<◌}
+use Prim.Native.Nat.{ℕ, ◌+◌, ◌/◌, ◌%◌, ◌^◌, ◌≤◌, ◌<◌}
 use native.Mathlib.Nat.{add-zero}
 use native.Mathlib.Omega.{arith}
 use lib.Dec.{eqb}
 use lib.ListN.{length, take, drop, get_or}
-use borrow.Author.Tests.{eqb-true, eq-eqb, ne_eqb}
+use lib.Bits.{or_add_and}
+use borrow.Author.Tests.{eqb-true, eqb-false, eq-eqb, ne_eqb}
+use Rattle.std.specs.Int.Bits.{bit_or}
+use Rattle.std.proofs.lemmas.Nat.Bits.{and_pow, bit_at-lt}
 use Rattle.wire.specs.Bytes.{All}
 use Rattle.wire.specs.Numbers.{le}
 use Rattle.wire.specs.Fields.{Field, fields, field_at, whole}
@@ -25,13 +28,17 @@ use Rattle.apply.specs.Roots.{with_root_bit, with_root, is_root, roots_in, Names
 
 -- one bit
 
-pub bit-set : (roots bit : ℕ) → roots / bit % 2 ≡ 0 → roots + bit ≡ with_root_bit roots bit
+or-bit : (k roots : ℕ) → bit_or roots (2 ^ k) ≡ with_root_bit roots (2 ^ k)
 unfolding with_root_bit
-bit-set roots bit e = rw (eq-eqb (roots / bit % 2) 0 e)
-
-pub bit-stays : (roots bit : ℕ) → (roots / bit % 2 ≡ 0 → ⊥) → roots ≡ with_root_bit roots bit
-unfolding with_root_bit
-bit-stays roots bit e = rw (ne_eqb (roots / bit % 2) 0 e)
+or-bit k roots = go (eqb (roots / 2 ^ k % 2) 0) refl
+  where
+    go : (t : Bool) → eqb (roots / 2 ^ k % 2) 0 ≡ t → bit_or roots (2 ^ k) ≡ cond t (roots + 2 ^ k) roots
+    go true e = let h = rw (eqb-true (roots / 2 ^ k % 2) 0 e) at (and_pow roots k) in omega (arith, h, or_add_and roots (2 ^ k))
+    go false e =
+        let n = eqb-false (roots / 2 ^ k % 2) 0 e in
+        let z : roots / 2 ^ k % 2 ≡ 1 = omega (arith, n, bit_at-lt roots k) in
+        let h = rw z at (and_pow roots k) in
+        omega (arith, h, or_add_and roots (2 ^ k))
 
 bit-low : (roots bit : ℕ) → roots < 8 → (roots / bit % 2 ≡ 0 → roots + bit < 8) → with_root_bit roots bit < 8
 unfolding with_root_bit
@@ -42,22 +49,24 @@ bit-low roots bit l h = go (eqb (roots / bit % 2) 0) refl
     go false e = l
 
 -- the three roots
-module _ {r : ℕ} (roots id : ℕ) (l : roots < 8) where
-  rooted : (k bit : ℕ) → id ≡ k → with_root roots k ≡ with_root_bit roots bit → r ≡ with_root_bit roots bit → with_root_bit roots bit < 8 → Rooted r (with_root roots id)
-  rooted k bit e f s h = record { same = s ∙ sym f ∙ ap (with_root roots) (sym e); low = rw s h }
+module _ (roots id : ℕ) (l : roots < 8) where
+  rooted :
+      (n k : ℕ) → id ≡ n → with_root roots n ≡ with_root_bit roots (2 ^ k) → with_root_bit roots (2 ^ k) < 8
+      → Rooted (bit_or roots (2 ^ k)) (with_root roots id)
+  rooted n k e f h = let s = or-bit k roots in record { same = s ∙ sym f ∙ ap (with_root roots) (sym e); low = rw s h }
 
-  pub rooted-10 : id ≡ 10 → r ≡ with_root_bit roots 1 → Rooted r (with_root roots id)
+  pub rooted-10 : id ≡ 10 → Rooted (bit_or roots 1) (with_root roots id)
   unfolding with_root
-  rooted-10 e s = rooted 10 1 e refl s (bit-low roots 1 l (λ z. omega arith))
+  rooted-10 e = rooted 10 0 e refl (bit-low roots 1 l (λ z. omega arith))
 
-  pub rooted-12 : id ≡ 12 → r ≡ with_root_bit roots 2 → Rooted r (with_root roots id)
+  pub rooted-12 : id ≡ 12 → Rooted (bit_or roots 2) (with_root roots id)
   unfolding with_root
-  rooted-12 e s = rooted 12 2 e refl s (bit-low roots 2 l (λ z. omega arith))
+  rooted-12 e = rooted 12 1 e refl (bit-low roots 2 l (λ z. omega arith))
 
-  pub rooted-14 : (id ≡ 10 → ⊥) → (id ≡ 12 → ⊥) → is_root id ≡ true → r ≡ with_root_bit roots 4 → Rooted r (with_root roots id)
+  pub rooted-14 : (id ≡ 10 → ⊥) → (id ≡ 12 → ⊥) → is_root id ≡ true → Rooted (bit_or roots 4) (with_root roots id)
   unfolding with_root is_root
-  rooted-14 a b h s =
-      rooted 14 4 (eqb-true id 14 (rw (ne_eqb id 10 a, ne_eqb id 12 b) at h)) refl s (bit-low roots 4 l (λ z. omega arith))
+  rooted-14 a b h =
+      rooted 14 2 (eqb-true id 14 (rw (ne_eqb id 10 a, ne_eqb id 12 b) at h)) refl (bit-low roots 4 l (λ z. omega arith))
 
 -- one field
 

@@ -1,6 +1,6 @@
 -- The sections of a volume by the reader's table.
-use mathlib.Core.Path.{◌≡◌, refl, sym, ◌∙◌}
-use mathlib.Core.Bool.{Bool, true, false, cond, false≢true}
+use mathlib.Core.Path.{◌≡◌, refl, sym}
+use mathlib.Core.Bool.{true}
 use lib.Dec.{leb}
 use mathlib.Core.List.{List, [], ◌∷◌, map}
 use Prim.Native.Nat.{ℕ, zero, suc, ◌+◌, ◌-◌, ◌≤◌, ◌<◌}
@@ -16,7 +16,7 @@ use Rattle.calls.proofs.lists.AllLaws.{all-nth}
 use Rattle.calls.proofs.lists.BoolLaws.{parts}
 use Rattle.calls.proofs.encoding.Blocks.{field}
 use Rattle.reader.specs.Collected.{start_at}
-use Rattle.reader.specs.Table.{FieldHere, Tabled, sorted_bodies}
+use Rattle.reader.specs.Table.{FieldHere, Tabled, between, sorted_bodies}
 use Rattle.reader.specs.Readings.{ListRead}
 use Rattle.reader.specs.declared.head.Head.{Head}
 use Rattle.reader.specs.declared.table.Ends.{Ends}
@@ -25,10 +25,9 @@ use Rattle.reader.proofs.SortedBodyLaws.{sorted-length}
 use Rattle.sorting.specs.Entries.{sections, is_entry, entry_of}
 use Rattle.sorting.specs.EntryPlaces.{size_at, tag_at, entry_from, entries_at, Stands}
 use Rattle.merge.specs.Counts.{key_fits, StandsWithin, section_within}
-use Rattle.merge.specs.QueueTable.{InParts}
-use Rattle.merge.specs.declared.queue.Parts.{Parts}
-use Rattle.apply.specs.NextVolume.{ends_of, queue_end, SectionReady, QueueReady}
-use Rattle.apply.proofs.VolumeLaws.{section_keys, SectionOf}
+use Rattle.apply.specs.NextVolume.{ends_of, Ready, section_keys, SectionReady}
+use Rattle.apply.proofs.VolumeLaws.{SectionOf, parted}
+use Rattle.apply.proofs.NextLaws.{section-within}
 
 -- a field of section t at its place
 module _ {t at : ℕ} {s body : List ℕ} (f : FieldHere s at t body) where
@@ -118,31 +117,19 @@ each_within {t} {vol} (more {a = o} {s = os} p r) h =
 -- what the writing of a section asks
 pub section-ready :
     {vol index : List ℕ} {t from to : ℕ} → SectionOf vol t → section_within t (section_keys vol t) ≡ true → SectionAt vol index t from to
-    → SectionReady t vol (take (to - from) (drop from index))
+    → SectionReady t vol (between from to index)
 unfolding section_within
 section-ready {vol} {t = t} s w p =
     record {
       stands = each_within p.stands (rw p.keys (parts (leb (length (section_keys vol t)) 4096) _ w).1);
       up = rw p.keys s.up;
+      all = p.keys;
     }
 
--- where the queued keys of section number i start in their table
-abbrev pub first_of : Parts → ℕ → ℕ
-first_of q i = cond q.fits (get_or (0 ∷ q.ends) i 0) 0
+-- where the places of section number i stand in the table of a volume that was read
+module _ {vol index : List ℕ} {h : Head} {e : Ends} {list : List ℕ} (r : Ready vol index h e list) (i : ℕ) (l : i < 7) where
+  pub keys-at : SectionAt vol index (get_or sections i 0) (get_or (0 ∷ ends_of e) i 0) (get_or (ends_of e) i 0)
+  keys-at = section-at (parted r.laid r.once) r.read i l
 
--- a section's queued keys stand between two ends of their table, if it holds them
-pub record QueueAt (list table : List ℕ) (q : Parts) (t first last : ℕ) : Type 0 where
-  pub on : first ≤ last
-  pub within : last ≤ length table
-  pub ready : q.fits ≡ true → QueueReady t list (take (last - first) (drop first table))
-
-pub queue-at :
-    (list table : List ℕ) (q : Parts) → InParts list table q → (i : ℕ) → i < 7 → QueueAt list table q (get_or sections i 0) (first_of q i) (queue_end q i)
-unfolding queue_end
-queue-at list table q h i l = go q.fits refl
-  where
-    go :
-        (b : Bool) → q.fits ≡ b
-        → QueueAt list table q (get_or sections i 0) (cond b (get_or (0 ∷ q.ends) i 0) 0) (cond b (get_or q.ends i 0) 0)
-    go true e = let p = h e i l in record { on = p.up; within = p.within; ready = λ z. record { kept = p.kept; keys = p.keys } }
-    go false e = record { on = omega arith; within = omega arith; ready = λ z. absurd (false≢true (sym e ∙ z)) }
+  pub keys-ready : SectionReady (get_or sections i 0) vol (between (get_or (0 ∷ ends_of e) i 0) (get_or (ends_of e) i 0) index)
+  keys-ready = section-ready (all-nth 0 (parted r.laid r.once) i l) (section-within vol r.within i l) keys-at

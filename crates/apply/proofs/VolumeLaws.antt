@@ -9,7 +9,7 @@ use lib.ListN.{length}
 use borrow.Author.Tests.{eq-eqb, ne_eqb, ltb-true}
 use Rattle.wire.specs.Bytes.{All, none, more}
 use Rattle.wire.specs.Fields.{Field, fields, whole}
-use Rattle.wire.specs.Keys.{Key, key_of}
+use Rattle.wire.specs.Keys.{key_of}
 use Rattle.wire.specs.Kinds.{bucket_read, bucket_below}
 use Rattle.wire.specs.Order.{pos_less}
 use Rattle.wire.specs.Positions.{alloc_at}
@@ -33,10 +33,7 @@ use Rattle.reader.proofs.SortedBodyLaws.{keys-sorted-are, buckets-sorted-are}
 use Rattle.sorting.specs.Entries.{sections, bucket_key, is_entry, entry_of}
 use Rattle.sorting.specs.Places.{is_tree, is_section}
 use Rattle.merge.specs.Queues.{ascending}
-
--- the keys of section t of a volume, in order
-unfoldable pub section_keys : List ℕ → ℕ → List Key
-section_keys vol t = map (λ b. entry_of t (field t b)) (sorted_bodies t (fields vol))
+use Rattle.apply.specs.NextVolume.{section_keys}
 
 -- the keys of a tree, by their bodies
 pub tree-keys : (t : ℕ) → t ≤ 14 → (bs : List (List ℕ)) → map (λ b. entry_of t (field t b)) bs ≡ map key_of bs

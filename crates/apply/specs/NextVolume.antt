@@ -1,31 +1,37 @@
 -- What is asked before the next volume is written, and what is promised of each of its sections and of the whole.
-use Rattle.std.specs.Prelude.{◌≡◌, true, ◌&&◌, cond, ℕ, List, [], ◌∷◌, length, get_or, leb}
+use Rattle.std.specs.Prelude.{◌≡◌, true, ℕ, List, [], ◌∷◌, map, leb}
 use Rattle.wire.specs.Bytes.{All}
 use Rattle.wire.specs.Fields.{fields}
 use Rattle.wire.specs.Keys.{Key}
-use Rattle.wire.specs.Output.{Wrote}
+use Rattle.wire.specs.Output.{with_bytes}
+use Rattle.wire.specs.declared.output.Output.{Output}
 use Rattle.calls.specs.CallList.{volume_laid_out, none_twice, volume_bytes}
 use Rattle.calls.specs.Limits.{volume_within}
 use Rattle.calls.specs.ChangeList.{change_laid_out}
 use Rattle.calls.specs.Trees.{apply_queue}
-use Rattle.calls.specs.Answers.{read_volume, next_volume}
+use Rattle.calls.specs.Refusals.{test}
+use Rattle.calls.specs.Answers.{answer, read_volume, next_volume, apply}
 use Rattle.reader.specs.Readings.{ListRead}
+use Rattle.reader.specs.Table.{sorted_bodies}
 use Rattle.reader.specs.declared.head.Head.{Head}
 use Rattle.reader.specs.declared.table.Ends.{Ends}
-use Rattle.sorting.specs.Entries.{entries, section_bytes}
+use Rattle.sorting.specs.Entries.{entries, entry_of}
 use Rattle.sorting.specs.EntryPlaces.{EntryAt, entries_at}
 use Rattle.merge.specs.Queues.{gather, ascending}
-use Rattle.merge.specs.Counts.{StandsWithin, section_within}
-use Rattle.merge.specs.declared.queue.Parts.{Parts}
-use Rattle.apply.specs.declared.lists.Reached.{Reached}
+use Rattle.merge.specs.Counts.{StandsWithin}
+
+-- a volume and a change list
+pub record Lists : Type 0 where
+  pub volume : List ℕ
+  pub change : List ℕ
+
+-- the bytes of the volume that the change list makes of the volume
+abbrev pub bytes_after : Lists → List ℕ
+bytes_after n = volume_bytes (next_volume n.volume n.change)
 
 -- where the places of each section end in the table of a volume
 abbrev pub ends_of : Ends → List ℕ
 ends_of e = e.alloc ∷ e.lru ∷ e.freespace ∷ e.need_discard ∷ e.backpointers ∷ e.gens ∷ e.reserved ∷ []
-
--- where the queued keys of section number i end in their table, if it holds them
-unfoldable pub queue_end : Parts → ℕ → ℕ
-queue_end q i = cond q.fits (get_or q.ends i 0) 0
 
 -- refusals 2, 22 and 3 of the volume and 2 of the change list were tested, and the volume was read
 pub record Ready (vol index : List ℕ) (h : Head) (e : Ends) (list : List ℕ) : Type 0 where
@@ -35,26 +41,26 @@ pub record Ready (vol index : List ℕ) (h : Head) (e : Ends) (list : List ℕ) 
   pub change : change_laid_out list ≡ true
   pub read : ListRead 0 vol index h e
 
--- these places of a volume are of keys of section t, which ascend and are within their limits
+-- the keys of section t of a volume, in order
+unfoldable pub section_keys : List ℕ → ℕ → List Key
+section_keys vol t = map (λ b. entry_of t (record { tag = t; body = b })) (sorted_bodies t (fields vol))
+
+-- the keys of section t of the next volume
+unfoldable pub next_of : List ℕ → List ℕ → ℕ → List Key
+next_of vol list t = apply_queue (entries t (fields list)) (section_keys vol t)
+
+-- these places of a volume are of the keys of section t, which ascend and are within their limits
 pub record SectionReady (t : ℕ) (vol keys : List ℕ) : Type 0 where
   pub stands : All (StandsWithin t vol) keys
   pub up : ascending (entries_at t vol keys) ≡ true
+  pub all : entries_at t vol keys ≡ section_keys vol t
 
 -- these places of a change list are of its queued keys of section t, the last at each position, in order
 pub record QueueReady (t : ℕ) (list queue : List ℕ) : Type 0 where
   pub kept : All (EntryAt t list) queue
   pub keys : entries_at t list queue ≡ gather (entries t (fields list))
 
--- what a change list makes of the keys of a section
-unfoldable pub next_keys : ℕ → List ℕ → List ℕ → List ℕ → List Key
-next_keys t vol keys list = apply_queue (entries t (fields list)) (entries_at t vol keys)
-
--- they were written, and the count stays within the limit where it was and they are within theirs
-pub record SectionDone (t : ℕ) (out vol keys list : List ℕ) (a : Reached) (out' : List ℕ) (r : Reached) : Type 0 where
-  pub wrote : Wrote out a.p (length (section_bytes t (next_keys t vol keys list))) (section_bytes t (next_keys t vol keys list)) out' r.p
-  pub fits : leb r.count 4096 ≡ (leb a.count 4096 && section_within t (next_keys t vol keys list))
-
--- the next volume was written, and the count tells its limits
-pub record VolumeDone (out vol list : List ℕ) (out' : List ℕ) (r : Reached) : Type 0 where
-  pub wrote : Wrote out 0 (length (volume_bytes (next_volume vol list))) (volume_bytes (next_volume vol list)) out' r.p
-  pub fits : leb r.count 4096 ≡ volume_within (next_volume vol list)
+-- the next volume was written, and the count tells the refusals that are left: 3, and 21 where there is too little room
+pub record VolumeDone (n : Lists) (o o' : Output) (r : ℕ) : Type 0 where
+  pub wrote : o' ≡ with_bytes o (bytes_after n)
+  pub answers : (room : ℕ) → apply n.volume n.change room ≡ answer (test 3 (leb r 4096) ∷ []) (bytes_after n) room

@@ -1,172 +1,143 @@
 // The next volume, whole.
-ghost use Rattle.std.specs.Prelude.{◌≡◌, true, ◌/◌, ◌≤◌, ◌<◌, max, length, get_or};
-ghost use Rattle.calls.specs.Answers.{apply, made, outcome};
+ghost use Rattle.std.specs.Prelude.{◌≡◌, ◌-◌, ◌/◌, ◌≤◌, ◌<◌, ◌∷◌, IfSome, length, take, drop, get_or};
+ghost use Rattle.reader.specs.Refusals.{made_by};
+ghost use Rattle.calls.specs.Answers.{apply, outcome};
 ghost use Rattle.sorting.specs.Entries.{sections};
 ghost use Rattle.merge.specs.Merging.{Done};
 ghost use Rattle.merge.specs.QueueTable.{InParts};
 ghost use Rattle.apply.specs.Roots.{roots_after};
-ghost use Rattle.apply.specs.NextVolume.{ends_of, queue_end, Ready, SectionReady, QueueReady, next_keys, SectionDone, VolumeDone};
+ghost use Rattle.apply.specs.NextVolume.{Lists, bytes_after, ends_of, Ready, next_of, SectionReady, QueueReady, VolumeDone};
 
 use crate::front;
-use merge::below::Cursor;
-use merge::queue::Parts;
 use merge::{merge as merging, queue};
+use reader::answer;
+use reader::answer::Emit;
 use reader::head::Head;
+use reader::refusal::Refusal;
 use reader::table::Ends;
 use sorting::entries;
+use std::marker::Model;
+use wire::output::Output;
 
-// How far the next volume is written, and the greatest count of a section so far.
-#[derive(Clone, Copy, Drop)]
-pub struct Reached {
-    pub p: usize,
-    pub count: usize,
-}
+// How many keys a section may have.
+const MOST: usize = 4096;
 
-// Where the places of the section at an index end in the table of the volume. The loop over the sections shows the bound, here and below.
-fn end_at(e: Ends, i: usize) -> usize
-    requires { i < 7 }
-    ensures { result ≡ get_or (ends_of e) i 0 }
-{
-    match i {
-        0 => e.alloc,
-        1 => e.lru,
-        2 => e.freespace,
-        3 => e.need_discard,
-        4 => e.backpointers,
-        5 => e.gens,
-        _ => e.reserved,
-    }
-}
-
-// The larger of two counts.
-fn larger(a: usize, b: usize) -> usize
-    ensures { result ≡ max a b }
-{
-    if a < b { b } else { a }
-}
-
-// Where the places of its queued keys end in their table; 0 where that does not hold them.
-fn queue_end(q: Parts, i: usize) -> usize
-    requires { i < 7 }
-    ensures { result ≡ queue_end q i }
-{
-    if q.fits {
-        let ends = q.ends;
-        return ends[i];
-    }
-    0
-}
-
-// A section, by the table of its queued keys where that holds them. The section's keys ascend in the order of their table, as refusal 22 shows.
-fn put_keys(
-    out: &mut [u8],
-    p: usize,
-    vol: &[u8],
-    keys: &[u32],
-    list: &[u8],
-    queue: &[usize],
-    fits: bool,
-    section: u8,
-) -> Cursor
-    requires { SectionReady section vol.now keys.now × (fits ≡ true → QueueReady section list.now queue.now) }
-    ensures { Done section out.old p (next_keys section vol.now keys.now list.now) out.new result }
-{
-    if fits {
-        return merging::put_section(out, p, vol, keys, list, section, queue);
-    }
-    merging::put_section_in_chunks(out, p, vol, keys, list, section)
-}
-
-// One section, and the greatest count of a section so far.
-fn put_next(
-    out: &mut [u8],
-    from: Reached,
-    vol: &[u8],
-    keys: &[u32],
-    list: &[u8],
-    queue: &[usize],
-    fits: bool,
-    section: u8,
-) -> Reached
-    requires { SectionReady section vol.now keys.now × (fits ≡ true → QueueReady section list.now queue.now) }
-    ensures { SectionDone section out.old vol.now keys.now list.now from out.new result }
-{
-    let s = put_keys(out, from.p, vol, keys, list, queue, fits, section);
-    Reached {
-        p: s.p,
-        count: larger(from.count, s.count),
-    }
-}
-
-// The next volume. The layouts of both lists were tested, and the tables are theirs; `roots_after` gives the root bits.
-fn put_volume(
-    out: &mut [u8],
-    vol: &[u8],
-    index: &[u32],
-    h: Head,
+// What the next volume is made of: a volume and the table of its fields, with where the places of each section end; its head, with the root bits of the next; a change
+// list, and the table of its queued keys, with where those of each section end where the table holds them.
+#[derive(Drop)]
+pub struct NextVolume<'a> {
+    vol: &'a [u8],
+    index: &'a [u32],
+    head: Head,
     roots: u8,
-    e: Ends,
-    list: &[u8],
-    table: &[usize],
-    q: Parts,
-) -> Reached
-    requires { Ready vol.now index.now h e list.now × InParts list.now table.now q × (roots ≡ roots_after list.now h.roots) }
-    ensures { VolumeDone out.old vol.now list.now out.new result }
-{
-    let p = front::put_front(out, h, roots);
-    let mut at = Reached { p, count: 0 };
-    let mut from: usize = 0;
-    let mut first: usize = 0;
-    let mut i: usize = 0;
-    while i < 7 {
-        let to = end_at(e, i);
-        let last = queue_end(q, i);
-        at = put_next(
-            out,
-            at,
-            vol,
-            &index[from..to],
-            list,
-            &table[first..last],
-            q.fits,
-            entries::section_at(i),
-        );
-        from = to;
-        first = last;
-        i += 1;
-    }
-    at
+    ends: Ends,
+    list: &'a [u8],
+    table: &'a [usize],
+    queue: Option<[usize; 7]>,
 }
 
-// Apply by the tables of both lists: first into no room, which tells the count and the length.
-fn write_volume(
-    vol: &[u8],
-    index: &[u32],
-    h: Head,
-    e: Ends,
-    list: &[u8],
-    table: &[usize],
-    q: Parts,
-    out: &mut [u8],
-    written: &mut usize,
-) -> u32
-    requires { Ready vol.now index.now h e list.now × InParts list.now table.now q }
-    ensures { made result written.new out.new ≡ outcome (apply vol.now list.now (length out.old)) out.old }
+// It is seen as both lists. Their layouts were tested, and the tables are theirs.
+impl<'a> Model for NextVolume<'a> {
+    ghost Value = { Lists };
+
+    ghost view = { λ n. record { volume = n.vol.now; change = n.list.now } };
+
+    ghost invariant = { λ n. Ready n.vol.now n.index.now n.head n.ends n.list.now × (n.roots ≡ roots_after n.list.now n.head.roots) × InParts n.list.now n.table.now n.queue };
+}
+
+// Where the places of each section end in the table of a volume.
+fn section_ends(e: Ends) -> [usize; 7]
+    ensures { result ≡ ends_of e }
 {
-    *written = 0;
-    let roots = front::roots_after(list, h.roots);
-    let mut dry = [0u8; 1];
-    let d = put_volume(&mut dry, vol, index, h, roots, e, list, table, q);
-    if 4096 < d.count {
-        return 3;
+    [
+        e.alloc,
+        e.lru,
+        e.freespace,
+        e.need_discard,
+        e.backpointers,
+        e.gens,
+        e.reserved,
+    ]
+}
+
+// The part of a table with an index: it begins where the part before ends.
+fn part<'a, T>(table: &'a [T], ends: [usize; 7], i: usize) -> &'a [T]
+    requires { (i < 7) × (get_or (0 ∷ ends) i 0 ≤ get_or ends i 0) × (get_or ends i 0 ≤ length table.now) }
+    ensures { result.now ≡ take (get_or ends i 0 - get_or (0 ∷ ends) i 0) (drop (get_or (0 ∷ ends) i 0) table.now) }
+{
+    let from = if i == 0 { 0 } else { ends[i - 1] };
+    &table[from..ends[i]]
+}
+
+impl<'a> NextVolume<'a> {
+    // The places of the keys of a section. The loop over the sections shows the bound, here and below.
+    fn keys(&self, i: usize) -> &[u32]
+        requires { i < 7 }
+        ensures { SectionReady (get_or sections i 0) self.now.volume result.now }
+    {
+        part(self.index, section_ends(self.ends), i)
     }
-    let n = d.p;
-    if out.len() < n {
-        return 21;
+
+    // The places of its queued keys, where the table holds them.
+    fn queued(&self, i: usize) -> Option<&[usize]>
+        requires { i < 7 }
+        ensures { IfSome result (λ q. QueueReady (get_or sections i 0) self.now.change q.now) }
+    {
+        match self.queue {
+            Some(ends) => Some(part(self.table, ends, i)),
+            None => None,
+        }
     }
-    put_volume(out, vol, index, h, roots, e, list, table, q);
-    *written = n;
-    0
+
+    // A section; how many of its keys were written.
+    fn put_section(&self, out: &mut Output, i: usize) -> usize
+        requires { i < 7 }
+        ensures { Done (get_or sections i 0) out.old (next_of self.now.volume self.now.change (get_or sections i 0)) out.new result }
+    {
+        let section = entries::section_at(i);
+        let keys = self.keys(i);
+        match self.queued(i) {
+            Some(queue) => merging::put_section(out, self.vol, keys, self.list, section, queue),
+            None => merging::put_section_in_chunks(out, self.vol, keys, self.list, section),
+        }
+    }
+
+    // The next volume; the greatest count of a section.
+    fn put(&self, out: &mut Output) -> usize
+        ensures { VolumeDone self.now out.old out.new result }
+    {
+        front::put_front(out, self.head, self.roots);
+        let mut most: usize = 0;
+        for i in 0..7 {
+            most = most.max(self.put_section(out, i));
+        }
+        most
+    }
+
+    // Apply: first into no room, which tells the count and the length.
+    fn write(&self, out: &mut [u8]) -> Result<usize, Refusal>
+        ensures { made_by result out.new ≡ outcome (apply self.now.volume self.now.change (length out.old)) out.old }
+    {
+        let mut none = [0u8; 0];
+        let mut dry = Output::new(&mut none);
+        if MOST < self.put(&mut dry) {
+            return Err(Refusal::Limit);
+        }
+        let n = dry.at;
+        if out.len() < n {
+            return Err(Refusal::ShortOutput);
+        }
+        answer::put_into(self, out);
+        Ok(n)
+    }
+}
+
+impl<'a> Emit for NextVolume<'a> {
+    ghost bytes = { bytes_after };
+
+    fn emit(&self, out: &mut Output) {
+        self.put(out);
+    }
 }
 
 // Apply, with tables that are lent for the change list's queued keys.
@@ -179,13 +150,22 @@ fn apply_with(
     table: &mut [usize],
     spare: &mut [usize],
     out: &mut [u8],
-    written: &mut usize,
-) -> u32
+) -> Result<usize, Refusal>
     requires { Ready vol.now index.now h e list.now × (length table.old / 2 ≤ length spare.old) }
-    ensures { made result written.new out.new ≡ outcome (apply vol.now list.now (length out.old)) out.old }
+    ensures { made_by result out.new ≡ outcome (apply vol.now list.now (length out.old)) out.old }
 {
-    let q = queue::sort_queue(list, table, spare);
-    write_volume(vol, index, h, e, list, table, q, out, written)
+    let queue = queue::sort_queue(list, table, spare);
+    let next = NextVolume {
+        vol,
+        index,
+        head: h,
+        roots: front::roots_after(list, h.roots),
+        ends: e,
+        list,
+        table,
+        queue,
+    };
+    next.write(out)
 }
 
 // Apply, once `read_volume` accepted the volume and `check_change` the change list. A queued key takes seven bytes and more, and no call queues more than 16,384.
@@ -196,17 +176,16 @@ pub fn apply_lists(
     e: Ends,
     list: &[u8],
     out: &mut [u8],
-    written: &mut usize,
-) -> u32
+) -> Result<usize, Refusal>
     requires { Ready vol.now index.now h e list.now }
-    ensures { made result written.new out.new ≡ outcome (apply vol.now list.now (length out.old)) out.old }
+    ensures { made_by result out.new ≡ outcome (apply vol.now list.now (length out.old)) out.old }
 {
     if list.len() <= 3584 {
         let mut table = [0usize; 512];
         let mut spare = [0usize; 256];
-        return apply_with(vol, index, h, e, list, &mut table, &mut spare, out, written);
+        return apply_with(vol, index, h, e, list, &mut table, &mut spare, out);
     }
     let mut table = [0usize; 16384];
     let mut spare = [0usize; 8192];
-    apply_with(vol, index, h, e, list, &mut table, &mut spare, out, written)
+    apply_with(vol, index, h, e, list, &mut table, &mut spare, out)
 }

@@ -1,0 +1,15 @@
+-- The front, one section more, and all.
+use Rattle.std.proofs.Common.{arith, ap}
+use Rattle.apply.proofs.ResultLaws.{sections-start, sections-on, sections-end}
+use Rattle.apply.proofs.lists.NextVolume.put.Goals as goal
+
+pub loop-i-init : goal.loop-i-init
+loop-i-init c = rw (← c.self.view_is) (sections-start c.self.invariant.0 c.self.invariant.1 c.put_front.ensures)
+
+pub loop-i-preserved : goal.loop-i-preserved
+loop-i-preserved c = rw c.max-most.ensures (sections-on c.loop-i.invariant c.loop-i-test.true c.put_section.ensures)
+
+pub returns : goal.returns
+returns c =
+    let n = c.self.view_is in
+    sections-end c.loop-i.invariant (rw (ap (λ x. x.volume) n, ap (λ x. x.change) n) at c.self.invariant.0) (omega arith)
