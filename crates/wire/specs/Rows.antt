@@ -1,10 +1,9 @@
 -- FORMAT.md, "Accounting rows": 73 is a row's inode 8, offset 8, and 1 or 3 signed numbers of 8 bytes each.
-use Rattle.std.specs.Prelude.{ℕ, List, [], ◌∷◌, ◌++◌, ℤ, pos, ◌+ℤ◌, length, take, drop, get_or, set, eqb, cond}
+use Rattle.std.specs.Prelude.{ℕ, List, [], ◌∷◌, ◌++◌, ℤ, length, drop, eqb, cond}
 use Rattle.std.specs.Int.{w64}
 use Rattle.std.proofs.Common.{to_z, of_z}
 use Rattle.wire.specs.Numbers.{le, le_bytes, each}
 use Rattle.wire.specs.Fields.{Field}
-use Rattle.wire.specs.declared.rows.Row.{Row}
 
 -- a row of accounting: the inode and the offset of its place, and its numbers
 pub record Counters : Type 0 where
@@ -36,11 +35,3 @@ row_of b =
 
 abbrev pub row_field : Counters → Field
 row_field r = record { tag = 73; body = row_body r }
-
--- the stand-in of `Txn::count`: an amount is added at a place of a row
-abbrev pub added : List ℤ → ℕ → ℤ → List ℤ
-added ns k x = set ns k (get_or ns k (pos 0) +ℤ x)
-
--- the row that the code holds: the first `width` of three numbers
-abbrev pub counters_in : Row → Counters
-counters_in r = record { inode = r.inode; offset = r.offset; numbers = take r.width r.n }

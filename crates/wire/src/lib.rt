@@ -2,8 +2,6 @@
 #![tactic(auto)]
 
 pub mod bpos;
-pub mod emit;
-pub mod emit_key;
 pub mod fields;
 pub mod keys;
 pub mod kinds;

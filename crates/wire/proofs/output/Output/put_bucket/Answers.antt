@@ -1,4 +1,3 @@
-use Rattle.std.proofs.Common.{append_assoc}
 use Rattle.wire.specs.Encode.{encode_field}
 use Rattle.wire.specs.Numbers.{le_bytes}
 use Rattle.wire.proofs.AppendLaws.{with-with}
@@ -6,4 +5,4 @@ use Rattle.wire.proofs.output.Output.put_bucket.Goals as goal
 
 pub returns : goal.returns
 unfolding encode_field le_bytes
-returns c = simp (c.put_head.ensures, c.put_bucket_bytes.ensures, with-with, append_assoc)
+returns c = simp (c.put_head.ensures, c.put_bucket_bytes.ensures, with-with)
