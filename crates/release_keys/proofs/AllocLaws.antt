@@ -29,7 +29,7 @@ use Rattle.reader.specs.Located.{no_key}
 use Rattle.release_sums.specs.declared.sums.FreedBucket.{FreedBucket}
 use Rattle.release_keys.specs.Places.{Keyed, PlaceOf, missing, found}
 use Rattle.release_keys.specs.Skipping.{KeysSkipped}
-use Rattle.release_keys.specs.Tables.{no_row, buckets_of, RowPlaced, PlacesOf}
+use Rattle.release_keys.specs.Tables.{no_row, buckets_of, RowPlaced}
 use Rattle.release_keys.proofs.PlaceLaws.{keyed-next}
 
 -- a key that stands before p is not at q, which does not
@@ -132,10 +132,6 @@ pub record AllocWalking (s : List ℕ) (ks : List Key) (before rows : List Freed
   pub left : (j : ℕ) → k ≤ j → get_or rows j no_row ≡ get_or before j no_row
   pub ahead : (j : ℕ) → k ≤ j → j < length before → lookup (alloc_at (get_or before j no_row).bucket) (drop i ks) ≡ lookup (alloc_at (get_or before j no_row).bucket) ks
 
-pub walk-starts : (s : List ℕ) (ks : List Key) (rows : List FreedBucket) → AllocWalking s ks rows rows 0 0
-walk-starts s ks rows =
-    record { low = omega arith; size = refl; done = λ j h. absurd (omega arith); left = λ j h. refl; ahead = λ j h l. refl }
-
 pub walk_turn :
     {s : List ℕ} {ks : List Key} {before rows : List FreedBucket} {i k : ℕ} → in_order bucket_below (buckets_of before) ≡ true → AllocWalking s ks before rows i k
     → k < length before → (r : ℕ) (p : std.Option ℕ) → KeysSkipped ks i (alloc_at (get_or rows k no_row).bucket) r
@@ -169,6 +165,3 @@ walk_turn {s} {ks} {before} {rows} {i} {k} o w h r p z₀ f₀ =
           freed = ap (λ (x : FreedBucket). x.freed) e;
           key = subst (PlaceOf s p) (there k (omega arith) h) (rw e at f₀);
         }
-
-pub walk_ends : {s : List ℕ} {ks : List Key} {before rows : List FreedBucket} {i k : ℕ} → AllocWalking s ks before rows i k → length before ≤ k → PlacesOf s ks before rows
-walk_ends w h = record { count = w.size; at = λ j l. w.done j (omega arith) }

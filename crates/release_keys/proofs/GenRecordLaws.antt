@@ -1,5 +1,5 @@
 -- Generation records that continue one another.
-use mathlib.Core.Path.{◌≡◌, refl, sym, ap, ◌∙◌, subst}
+use mathlib.Core.Path.{◌≡◌, refl, sym, ap, ◌∙◌}
 use mathlib.Core.Bool.{Bool, true, false, cond}
 use mathlib.Core.List.{List, [], ◌∷◌, ◌++◌, map}
 use mathlib.Core.Option.{some}
@@ -7,7 +7,6 @@ use Prim.Native.Nat.{ℕ, zero, suc, ◌+◌, ◌/◌, ◌≤◌, ◌<◌}
 use native.Mathlib.Omega.{arith}
 use lib.ListN.{length, get_or, drop, drop_of_length-le}
 use Rattle.std.proofs.lemmas.List.{drop-map}
-use borrow.Author.Tests.{eq-eqb, ne_eqb}
 use Rattle.wire.specs.Keys.{Key}
 use Rattle.wire.specs.Order.{cmp, pos_same}
 use Rattle.wire.specs.Held.{key_in}
@@ -16,11 +15,11 @@ use Rattle.wire.specs.Encode.{encode_field, key_field}
 use Rattle.wire.specs.Positions.{gens_at, gens_byte}
 use Rattle.wire.specs.declared.kinds.Bucket.{Bucket}
 use Rattle.wire.specs.declared.bpos.Bpos.{Bpos}
-use Rattle.wire.specs.Output.{top, Wrote}
-use Rattle.wire.specs.Output.{Emitted}
+use Rattle.wire.specs.Output.{with_bytes}
+use Rattle.wire.specs.declared.output.Output.{Output}
 use Rattle.wire.proofs.OrderLaws.{pos-cmp, same-equal}
-use Rattle.wire.proofs.OutputLaws.{Part, begin, turn, put-out, drop-next}
-use Rattle.wire.proofs.EmitLaws.{done}
+use Rattle.wire.proofs.OutputLaws.{put-out, drop-next}
+use Rattle.wire.proofs.AppendLaws.{with-none, with-with}
 use Rattle.format.specs.Gens.{with_gen, no_gens}
 use Rattle.calls.specs.Lists.{all_of, in_order}
 use Rattle.calls.proofs.lists.AllOfLaws.{all-of-drop, all-of-first}
@@ -43,14 +42,14 @@ use Rattle.change_fields.proofs.FieldLists.{fields-next, fields-none}
 use Rattle.release_keys.proofs.AllocLaws.{order-at}
 
 -- ---- a bucket's record in the tree, by its entry
-module _ (s : List ℕ) (gens : List Key) (b : Bucket) (at : ℕ) (e : record_at s at ≡ gen_record gens b) where
-  pub key-new : at ≡ 0 → gen_key gens b ≡ new_key 30 0 (gens_at b) no_gens
+module _ (s : List ℕ) (gens : List Key) (b : Bucket) where
+  pub key-new : {place : std.Option ℕ} → record_at s place ≡ gen_record gens b → place ≡ None → gen_key gens b ≡ new_key 30 0 (gens_at b) no_gens
   unfolding gen_key
-  key-new z = rw (← e, eq-eqb at 0 z)
+  key-new e n = rw (← e, n) refl
 
-  pub key-old : (at ≡ 0 → ⊥) → gen_key gens b ≡ key_here s at
+  pub key-old : {place : std.Option ℕ} {at : ℕ} → record_at s place ≡ gen_record gens b → place ≡ Some at → gen_key gens b ≡ key_here s at
   unfolding gen_key
-  key-old n = rw (← e, ne_eqb at 0 n)
+  key-old e n = rw (← e, n) refl
 
 -- a byte past the end changes nothing
 pub generation-past : (b : Bucket) (generation : ℕ) (v : List ℕ) → length v ≤ gens_byte b → with_gen b generation v ≡ v
@@ -123,21 +122,15 @@ apart gens (Some last) c n h l z = go (pos_same last.pos (gens_at c)) refl
     go false e = refl
 
 -- On its way: the rows from index k on are left, and their records continue the last one or the tree's.
-pub record Queue (gens : List Key) (generation_of : Bucket → ℕ) (rows : List Emptied) (out₀ out : List ℕ) (at p k : ℕ) (last : std.Option Bkey) : Type 0 where
+pub record Queue (gens : List Key) (generation_of : Bucket → ℕ) (rows : List Emptied) (before out : Output) (k : ℕ) (last : std.Option Bkey) : Type 0 where
   pub records : List Key
-  pub part : Part out₀ at (keys_bytes 14 (gens_queued generation_of gens (emptied_buckets rows))) out p (keys_bytes 14 (gens_queued generation_of records (emptied_buckets (drop k rows))))
+  pub part : with_bytes out (keys_bytes 14 (gens_queued generation_of records (emptied_buckets (drop k rows)))) ≡ with_bytes before (keys_bytes 14 (gens_queued generation_of gens (emptied_buckets rows)))
   pub continues : (j : ℕ) → k ≤ j → j < length rows → gen_key records (get_or rows j no_emptied).bucket ≡ continued gens last (get_or rows j no_emptied).bucket
   pub ahead : (j : ℕ) → k ≤ j → j < length rows → Behind last ((get_or rows j no_emptied).bucket.0 / 256)
 
-pub queue-starts : (gens : List Key) (generation_of : Bucket → ℕ) (rows : List Emptied) (out : List ℕ) (at : ℕ) → length out ≤ top
-    → Queue gens generation_of rows out out at at 0 None
-queue-starts gens generation_of rows out at h =
-    record {
-      records = gens;
-      part = begin out at (keys_bytes 14 (gens_queued generation_of gens (emptied_buckets rows))) h;
-      continues = λ j l m. refl;
-      ahead = λ j l m. tt;
-    }
+pub queue-starts : (gens : List Key) (generation_of : Bucket → ℕ) (rows : List Emptied) (out : Output) → Queue gens generation_of rows out out 0 None
+queue-starts gens generation_of rows out =
+    record { records = gens; part = refl; continues = λ j l m. refl; ahead = λ j l m. tt }
 
 queue-next : (generation_of : Bucket → ℕ) (records : List Key) {l : List Bucket} {b : Bucket} {rest : List Bucket} → l ≡ b ∷ rest
     → keys_bytes 14 (gens_queued generation_of records l) ≡ encode_field (key_field 14 (gen_queued records b (generation_of b))) ++ keys_bytes 14 (gens_queued generation_of (gen_queued records b (generation_of b) ∷ records) rest)
@@ -145,7 +138,7 @@ unfolding gens_queued
 queue-next generation_of records e =
     fields-next (key_field 14) (ap (gens_queued generation_of records) e)
 
-module _ {gens : List Key} {generation_of : Bucket → ℕ} {rows : List Emptied} {out₀ out : List ℕ} {at p k : ℕ} {last : std.Option Bkey} (q : Queue gens generation_of rows out₀ out at p k last)
+module _ {gens : List Key} {generation_of : Bucket → ℕ} {rows : List Emptied} {before out : Output} {k : ℕ} {last : std.Option Bkey} (q : Queue gens generation_of rows before out k last)
     (o : in_order bucket_below (emptied_buckets rows) ≡ true) (h : k < length rows) where
   abbrev here : Bucket
   here = (get_or rows k no_emptied).bucket
@@ -158,15 +151,17 @@ module _ {gens : List Key} {generation_of : Bucket → ℕ} {rows : List Emptied
   unfolding gen_queued
   queued-is generation next e n = n ∙ rw (q.continues k (omega arith) h, e)
 
-  pub queue-turn : (generation : ℕ) (next : Bkey) {m : ℕ} {zs : List ℕ} {r : ℕ} → generation ≡ generation_of here
-      → key_in next ≡ next_queued gens last here generation → Wrote out p m (encode_field (key_field 14 (key_in next))) zs r
-      → Queue gens generation_of rows out₀ zs at r (k + 1) (Some next)
-  queue-turn generation next {m} {zs} {r} e n w =
+  pub queue-turn : (generation : ℕ) (next : Bkey) {after : Output} → generation ≡ generation_of here
+      → key_in next ≡ next_queued gens last here generation → after ≡ with_bytes out (encode_field (key_field 14 (key_in next)))
+      → Queue gens generation_of rows before after (k + 1) (Some next)
+  queue-turn generation next {after} e n w =
       let i = queued-is generation next e n in
       let place : next.pos ≡ gens_at here = ap (λ (x : Key). x.pos) i ∙ queued-at q.records here (generation_of here) in
       record {
         records = queued ∷ q.records;
-        part = turn _ q.part (queue-next generation_of q.records (emptied-next rows k h)) (subst (λ (x : Key). Wrote out p m (encode_field (key_field 14 x)) zs r) i w);
+        part =
+            rw (w, i, with-with)
+            (ap (with_bytes out) (sym (queue-next generation_of q.records (emptied-next rows k h))) ∙ q.part);
         continues = λ j l m. go (get_or rows j no_emptied).bucket (q.continues j (omega arith) m) (order-at (λ (x : Emptied). x.bucket) rows no_emptied o k j (omega arith) m) i place (pos_same next.pos (gens_at (get_or rows j no_emptied).bucket)) refl;
         ahead = λ j l m. omega (arith, ap (λ (x : Bpos). x.offset) place, order-at (λ (x : Emptied). x.bucket) rows no_emptied o k j (omega arith) m);
       }
@@ -184,8 +179,10 @@ module _ {gens : List Key} {generation_of : Bucket → ℕ} {rows : List Emptied
           ∙ f
           ∙ apart gens last c (here.0 / 256) (q.ahead k (omega arith) h) (omega arith) (λ x. y (sym x))
 
-pub queue-ends : {gens : List Key} {generation_of : Bucket → ℕ} {rows : List Emptied} {out₀ out : List ℕ} {at p k : ℕ} {last : std.Option Bkey} → Queue gens generation_of rows out₀ out at p k last
-    → length rows ≤ k → Emitted out₀ at (keys_bytes 14 (gens_queued generation_of gens (emptied_buckets rows))) out p
+pub queue-ends : {gens : List Key} {generation_of : Bucket → ℕ} {rows : List Emptied} {before out : Output} {k : ℕ} {last : std.Option Bkey} → Queue gens generation_of rows before out k last
+    → length rows ≤ k → out ≡ with_bytes before (keys_bytes 14 (gens_queued generation_of gens (emptied_buckets rows)))
 unfolding gens_queued
-queue-ends {generation_of = generation_of} {rows = rows} {k = k} q h =
-    done q.part (fields-none (key_field 14) (ap (gens_queued generation_of q.records) (emptied-none rows k h)))
+queue-ends {generation_of = generation_of} {rows = rows} {out = out} {k = k} q h =
+    sym (with-none out)
+    ∙ ap (with_bytes out) (sym (fields-none (key_field 14) (ap (gens_queued generation_of q.records) (emptied-none rows k h))))
+    ∙ q.part

@@ -5,7 +5,7 @@ ghost use Rattle.wire.specs.Held.{value_in, key_in};
 ghost use Rattle.wire.specs.Kinds.{bucket_below, bucket_in_range};
 ghost use Rattle.wire.specs.declared.kinds.Bucket as kinds;
 ghost use Rattle.wire.specs.Positions.{gens_at};
-ghost use Rattle.wire.specs.Output.{Emitted};
+ghost use Rattle.wire.specs.Output.{with_bytes};
 ghost use Rattle.format.specs.Gens.{with_gen, no_gens};
 ghost use Rattle.calls.specs.Lists.{all_of, in_order};
 ghost use Rattle.calls.specs.Generations.{gen_key};
@@ -21,7 +21,8 @@ use gens::records;
 use reader::key;
 use wire::keys::Bkey;
 use wire::kinds::Bucket;
-use wire::{bpos, emit_key, positions};
+use wire::output::Output;
+use wire::{bpos, positions};
 
 // A record that is started.
 fn new_record(b: Bucket) -> Bkey
@@ -42,11 +43,10 @@ fn old_record(s: &[u8], records: &[u32], b: Bucket) -> Bkey
     requires { Recorded s.now records.now × (bucket_in_range b ≡ true) }
     ensures { (result.value.len ≤ 256) × ((gens : List Key) → RecordsFound s.now gens records.now → key_in result ≡ gen_key gens b) }
 {
-    let at = records::record_of(records, b);
-    if at == 0 {
-        return new_record(b);
+    match records::record_of(records, b) {
+        Some(at) => key::key_at(s, at),
+        None => new_record(b),
     }
-    key::key_at(s, at)
 }
 
 // A record with a bucket's generation. A byte past its end, which refusal 19 rules out, changes nothing.
@@ -54,12 +54,10 @@ fn with_generation(k: Bkey, b: Bucket, generation: u8) -> Bkey
     requires { k.value.len ≤ 256 }
     ensures { (result.value.len ≤ 256) × (key_in result ≡ with_value (key_in k) (with_gen b generation (value_in k.value))) }
 {
-    let value = k.value;
-    if value.len <= positions::gens_byte(b) {
-        return k;
-    }
     let mut r = k;
-    r.value = format::gens::with_gen(value, b, generation);
+    if positions::gens_byte(b) < k.value.len {
+        r.value = format::gens::with_gen(k.value, b, generation);
+    }
     r
 }
 
@@ -76,16 +74,14 @@ fn next_record(s: &[u8], records: &[u32], last: Option<Bkey>, b: Bucket, generat
 }
 
 // The records of all emptied buckets, which ascend.
-pub fn put_gens(s: &[u8], records: &[u32], emptied: &[Emptied], out: &mut [u8], at: usize) -> usize
+pub fn put_gens(out: &mut Output, s: &[u8], records: &[u32], emptied: &[Emptied])
     requires { Recorded s.now records.now × (all_of bucket_in_range (emptied_buckets emptied.now) ≡ true) × (in_order bucket_below (emptied_buckets emptied.now) ≡ true) }
-    ensures { (gens : List Key) (generation_of : kinds.Bucket → ℕ) → RecordsFound s.now gens records.now → emptied.now ≡ map (emptied_row generation_of) (emptied_buckets emptied.now) → Emitted out.old at (keys_bytes 14 (gens_queued generation_of gens (emptied_buckets emptied.now))) out.new result }
+    ensures { (gens : List Key) (generation_of : kinds.Bucket → ℕ) → RecordsFound s.now gens records.now → emptied.now ≡ map (emptied_row generation_of) (emptied_buckets emptied.now) → out.new ≡ with_bytes out.old (keys_bytes 14 (gens_queued generation_of gens (emptied_buckets emptied.now))) }
 {
-    let mut p = at;
     let mut last = None;
     for e in emptied {
         let key = next_record(s, records, last, e.bucket, e.generation);
-        p = emit_key::put_key(out, p, 14, key);
+        out.put_key(14, &key);
         last = Some(key);
     }
-    p
 }

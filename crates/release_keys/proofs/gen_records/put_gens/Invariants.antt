@@ -11,4 +11,4 @@ abbrev pub invariant-loop-e : goal.invariant-loop-e
 invariant-loop-e l =
     IfSome l.last (λ k. k.value.len ≤ 256)
     × ((gens : List Key) (generation_of : Bucket → ℕ) → RecordsFound l.s gens l.records → l.emptied ≡ map (emptied_row generation_of) (emptied_buckets l.emptied)
-    → Queue gens generation_of l.emptied l.fn.out l.out l.at l.p l.e-index l.last)
+    → Queue gens generation_of l.emptied l.fn.out l.out l.e-index l.last)

@@ -1,27 +1,31 @@
 -- `refusals::refuse` meets its contract.
 use Rattle.std.proofs.Common.{◌∙◌, ap, sym, drop_of_length-le}
+use Rattle.std.proofs.lemmas.Result.{err_from_is_err_and}
 use Rattle.calls.specs.Release.{bucket_refusal}
 use Rattle.calls.proofs.answers.RefusalLaws.{verdict-map-stop, verdict-map-next, verdict-map-none}
 use Rattle.release_keys.specs.Tables.{buckets_of}
+use Rattle.release_keys.proofs.RefusalLaws.{refused-some}
 use Rattle.release_keys.proofs.RowLaws.{rows-next, rows-verdict}
 use Rattle.release_keys.proofs.refusals.refuse.Goals as goal
 
-pub bucket_refusal-n-requires : goal.bucket_refusal-n-requires
-bucket_refusal-n-requires c =
+pub bucket_refusal-requires : goal.bucket_refusal-requires
+bucket_refusal-requires c =
     let k = c.requires in
     record { volume = k.volume; requests = k.requests; entry = k.tabled.at c.loop-f.f-index c.loop-f-test.true; recorded = k.recorded; size = k.size }
 
-pub returns-then-n-ne0 : goal.returns-then-n-ne0
-returns-then-n-ne0 c v rs t r e =
-    let h = c.bucket_refusal-n.ensures v rs (t.at c.loop-f.f-index c.loop-f-test.true) r e in
+pub returns-in_err-bucket_refusal : goal.returns-in_err-bucket_refusal
+returns-in_err-bucket_refusal c v rs t r e =
+    let p = err_from_is_err_and c.from_residual.result c.from_residual.ensures.1 in
+    let h = c.in_err-bucket_refusal.ensures v rs (t.at c.loop-f.f-index c.loop-f-test.true) r e in
     let next = ap buckets_of (rows-next c.args.rows.now c.loop-f.f-index c.loop-f-test.true) in
-    h ∙ sym (verdict-map-stop (bucket_refusal v rs) next (λ z. c.if-n-ne0.true (h ∙ z))) ∙ c.loop-f.invariant v rs t r e ∙ rows-verdict t e
+    rw (p.1, p.2)
+    (h ∙ sym (verdict-map-stop (bucket_refusal v rs) next (λ z. refused-some c.in_err-bucket_refusal.field-0.0 (h ∙ z))) ∙ c.loop-f.invariant v rs t r e ∙ rows-verdict t e)
 
 pub loop-f-preserved : goal.loop-f-preserved
 loop-f-preserved c v rs t r e =
-    let h = c.bucket_refusal-n.ensures v rs (t.at c.loop-f.f-index c.loop-f-test.true) r e in
+    let h = c.in_ok-bucket_refusal.ensures v rs (t.at c.loop-f.f-index c.loop-f-test.true) r e in
     let next = ap buckets_of (rows-next c.args.rows.now c.loop-f.f-index c.loop-f-test.true) in
-    sym (verdict-map-next (bucket_refusal v rs) next (sym h ∙ c.if-n-ne0.false)) ∙ c.loop-f.invariant v rs t r e
+    sym (verdict-map-next (bucket_refusal v rs) next (sym h)) ∙ c.loop-f.invariant v rs t r e
 
 pub returns : goal.returns
 returns c v rs t r e =
