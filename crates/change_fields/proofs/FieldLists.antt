@@ -6,7 +6,6 @@ use Rattle.wire.specs.Fields.{Field}
 use Rattle.wire.specs.Keys.{Key}
 use Rattle.wire.specs.Encode.{encode, encode_field, key_field}
 use Rattle.wire.specs.Output.{Wrote, Emitted}
-use Rattle.wire.proofs.EmitLaws.{emitted}
 use Rattle.wire.proofs.EncodeLaws.{encode-none, encode-next, encode-append}
 
 module _ {A : Type 0} (f : A → Field) where
@@ -29,8 +28,3 @@ module _ {A : Type 0} (f : A → Field) where
   pub flat-none : {B : Type 0} (g : B → List A) {l : List B} → l ≡ [] → encode (map f (flat_map g l)) ≡ []
   unfolding flat_map
   flat-none g e = fields-none (ap (flat_map g) e)
-
--- an emitter of one key, told in another way
-pub emitted-key : {xs : List ℕ} {at n : ℕ} {ys : List ℕ} {r : ℕ} (tree : ℕ) {k l : Key} → k ≡ l → Wrote xs at n (encode_field (key_field tree k)) ys r
-    → Emitted xs at (encode_field (key_field tree l)) ys r
-emitted-key tree e w = emitted (ap (λ (x : Key). encode_field (key_field tree x)) e) w

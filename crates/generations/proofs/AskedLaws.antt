@@ -76,7 +76,3 @@ module _ (ns : List ℕ) where
       sym (ap (λ (t : Bool). t && all_of bucket_in_range (buckets_in ns)) (le-leb (length (buckets_in ns)) 1024 (omega (arith, table-length ns)))
       ∙ last-range 0 (buckets_in ns) i (order-up (buckets_in ns) o) (omega (arith, table-length ns))
       ∙ ap bucket_in_range (table_at ns i))
-
-  pub few-asked : buckets_within (buckets_in ns) ≡ true → length ns ≤ 1024
-  unfolding buckets_within
-  few-asked h = omega (arith, leb-true (length (buckets_in ns)) 1024 (parts (leb (length (buckets_in ns)) 1024) _ h).0, table-length ns)

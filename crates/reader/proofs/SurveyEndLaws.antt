@@ -293,15 +293,6 @@ laid-found {call = call} {any = any} {s = s} {counts = counts} {index = index} {
           subst (λ (o : Laid). LaidFound call any s counts index o.head o.over o.ordered) z f;
     }
 
--- the pass over a list in order, likewise
-pub unordered-found : {call : ℕ} {any : Bool} {s counts index : List ℕ} → Fits s index → OrderSurveyed call any s counts index None
-unordered-found w =
-    record {
-      found = λ p e. absurd (let z : ◌≡◌ {A = ℕ} 0 1 = cc in omega arith);
-      ordered = λ p e. absurd (let z : ◌≡◌ {A = ℕ} 0 1 = cc in omega arith);
-      fits = w;
-    }
-
 pub ordered-found : {call : ℕ} {any : Bool} {s counts index : List ℕ} {p : Laid}
     → Fits s index → LaidFound call any s counts index p.head p.over p.ordered → p.ordered ≡ true → OrderSurveyed call any s counts index (Some p)
 ordered-found {call = call} {any = any} {s = s} {counts = counts} {index = index} {p = p} w f t =

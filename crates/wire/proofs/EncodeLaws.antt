@@ -5,9 +5,7 @@ use Prim.Native.Nat.{ℕ, ◌*◌}
 use lib.ListN.{length}
 use Rattle.wire.specs.Numbers.{each, le_bytes, words_bytes}
 use Rattle.wire.specs.Fields.{Field}
-use Rattle.wire.specs.Encode.{encode, encode_field, key_start, key_body, key_field}
-use Rattle.wire.specs.Held.{key_with}
-use Rattle.wire.specs.declared.keys.KeyHead.{KeyHead}
+use Rattle.wire.specs.Encode.{encode, encode_field}
 use Rattle.wire.proofs.NumberLaws.{le-length}
 use Rattle.wire.proofs.OutputLaws.{each-length}
 
@@ -34,8 +32,3 @@ encode_one f = encode-next f [] ∙ ap (λ (l : List ℕ). encode_field f ++ l) 
 pub words_count : (w : List ℕ) → length (words_bytes w) ≡ length w * 8
 unfolding words_bytes
 words_count w = each-length 8 (le_bytes 8) (le-length 8) w
-
--- a key with no value
-pub bare-is : (tree : ℕ) (h : KeyHead) → encode_field (record { tag = tree; body = key_start (key_with h []) }) ≡ encode_field (key_field tree (key_with h []))
-unfolding key_body
-bare-is tree h = ap (λ (b : List ℕ). encode_field (record { tag = tree; body = b })) (sym (append-nil (key_start (key_with h []))))

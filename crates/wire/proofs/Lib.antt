@@ -1,7 +1,5 @@
 pub mod AppendLaws
 pub mod BucketTables
-pub mod DryRun
-pub mod EmitLaws
 pub mod EncodeLaws
 pub mod FieldLaws
 pub mod KeyLaws

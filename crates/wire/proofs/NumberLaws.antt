@@ -1,5 +1,5 @@
 -- Laws of little-endian numbers, and of lists of bytes.
-use Prim.Native.Nat.{ℕ, zero, suc, ◌+◌, ◌-◌, ◌*◌, ◌/◌, ◌%◌, ◌^◌, ◌<◌, ◌≤◌}
+use Prim.Native.Nat.{ℕ, zero, suc, ◌+◌, ◌*◌, ◌/◌, ◌%◌, ◌^◌, ◌<◌, ◌≤◌}
 use mathlib.Core.Path.{◌≡◌, refl, ap}
 use mathlib.Core.List.{List, [], ◌∷◌, ◌++◌}
 use lib.ListN.{length, get_or, drop, take, length-take, length-drop}
@@ -131,16 +131,6 @@ pub le-length : (n x : ℕ) → length (le_bytes n x) ≡ n
 unfolding le_bytes
 le-length zero x = refl
 le-length (suc n) x = ap suc (le-length n (x / 256))
-
--- a number of bytes that is not 0 has a first
-pub le-cons : (n x : ℕ) → 0 < n → le_bytes n x ≡ x % 256 ∷ le_bytes (n - 1) (x / 256)
-unfolding le_bytes
-le-cons zero x h = absurd (omega arith)
-le-cons (suc n) x h = let e : n ≡ suc n - 1 = omega arith in ap (λ (k : ℕ). x % 256 ∷ le_bytes k (x / 256)) e
-
-pub le-zero : (x : ℕ) → le_bytes 0 x ≡ []
-unfolding le_bytes
-le-zero x = refl
 
 -- two numbers side by side are one
 pub le_join : (m n x y : ℕ) (s : List ℕ) → x < 256 ^ m → le_bytes m x ++ (le_bytes n y ++ s) ≡ le_bytes (m + n) (x + 256 ^ m * y) ++ s
