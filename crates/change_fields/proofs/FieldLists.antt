@@ -1,11 +1,8 @@
 -- The fields of a list, one after the other.
 use mathlib.Core.Path.{◌≡◌, ap, ◌∙◌}
 use mathlib.Core.List.{List, [], ◌∷◌, ◌++◌, map, flat_map, map-append}
-use Prim.Native.Nat.{ℕ}
 use Rattle.wire.specs.Fields.{Field}
-use Rattle.wire.specs.Keys.{Key}
-use Rattle.wire.specs.Encode.{encode, encode_field, key_field}
-use Rattle.wire.specs.Output.{Wrote, Emitted}
+use Rattle.wire.specs.Encode.{encode, encode_field}
 use Rattle.wire.proofs.EncodeLaws.{encode-none, encode-next, encode-append}
 
 module _ {A : Type 0} (f : A → Field) where
