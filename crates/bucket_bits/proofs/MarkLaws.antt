@@ -59,6 +59,22 @@ module _ {A : Type 0} (is : A → Bucket → Bool) (all : List A) where
         told = λ b h. ap (λ (m : List ℕ). marked m b || any_of (λ a. is a b) all) e ∙ ap (λ (t : Bool). t || any_of (λ a. is a b) all) (mark-none 8192 b (omega (arith, ltb-true b.0 65536 h)));
       }
 
+  -- one element more: its buckets are marked
+  pub marking-on :
+      {rest xs : List A} {x : A} {bits next : List ℕ} → Marking is all rest bits → rest ≡ x ∷ xs → length next ≡ length bits
+      → ((b : Bucket) → bucket_in_range b ≡ true → marked next b ≡ is x b || marked bits b)
+      → Marking is all xs next
+  unfolding any_of
+  marking-on {rest} {xs} {x} {bits} {next} m e l n =
+      record {
+        size = l ∙ m.size;
+        told =
+            λ b h.
+            ap (λ (t : Bool). t || any_of (λ a. is a b) xs) (n b h) ∙ or_swap (is x b) (marked bits b) (any_of (λ a. is a b) xs)
+            ∙ ap (λ (r : List A). marked bits b || any_of (λ a. is a b) r) (sym e)
+            ∙ m.told b h;
+      }
+
   pub marking-end : {bits : List ℕ} (i : ℕ) → length all ≤ i → Marking is all (drop i all) bits → Marks bits (λ b. any_of (λ a. is a b) all)
   unfolding any_of
   marking-end {bits} i h m =

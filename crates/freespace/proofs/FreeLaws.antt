@@ -243,6 +243,31 @@ module _ {ks : List Key} {bs : List Bucket} {free j i : ℕ} (c : FreeCounting k
       ordered : (c.last.0 ≤ x.start.0) × (x.start.0 < x.end.0)
       ordered = (ltb-false x.start.0 c.last.0 parted.0, (run-here k x e).some)
 
+      pub counting-on : (end_in_range k ≡ true) → RunCounted ks bs free j i x
+      counting-on l =
+          let h = ordered in
+          let w = free-run bs r x.start x.end (omega arith) in
+          let m = count-mono x.start x.end bs (omega arith) in
+          let small = run_end k x e l in
+          record {
+            order = omega arith;
+            small = small;
+            start = omega (arith, c.below, count-mono c.last x.start bs h.0);
+            end = m;
+            fits = omega arith;
+            room = omega (arith, c.most);
+            on =
+                λ free' j' p q.
+                record {
+                  last = x.end;
+                  small = small;
+                  most = omega (arith, c.most);
+                  below = q;
+                  apart = parted.1;
+                  sum = omega (arith, c.sum, rw e at here);
+                };
+          }
+
 -- the run of a turn
 module _
     {s runs : List ℕ} (t : Checked s) (f : KeysAt s runs (read_volume s).trees.freespace) (i : ℕ) (h : i < length runs) {free j : ℕ}

@@ -143,6 +143,29 @@ module _ (R U : Bucket → Bool) (k : Key) (n : ℕ) (from : Walked) (before aft
     abbrev p : Passed
     p = pass_if R U k (n - from.count) (run_in k)
 
+    pub key-walked : (r : Result Walked Refusal) → WalkEnded p from before after r → WalkIs n (λ x. k ∷ []) (key_walk R U (n - from.count) k) from before after r
+    unfolding queue_of
+    key-walked r e =
+        let w = sym (key-is R U k (n - from.count) inside) in
+        record {
+          refusal = e.used ∙ ap (λ (y : calls.Walked). y.refusal) w;
+          took =
+              IfOk-weaker r (RunTook p from before after) (λ x. WalkTook n (k ∷ []) (key_walk R U (n - from.count) k) from before after x)
+              (λ x t.
+              record {
+                taken = t.taken ∙ ap (λ (y : calls.Walked). buckets_in (take from.count before) ++ y.taken) w;
+                count = t.many ∙ ap (λ (y : calls.Walked). from.count + length y.taken) w;
+                passed = t.passed;
+                queue = ap (λ (y : calls.Walked). y.queue) (sym w) ∙ ap (key_queue k) (sym t.rest);
+                short =
+                    λ l.
+                    t.rest
+                    ∙ pass-left R U (n - from.count) (run_buckets (run_in k))
+                    (λ y. omega (arith, most, l, y, t.many, pass-sum R U (n - from.count) (run_buckets (run_in k))));
+              })
+              e.took;
+        }
+
     -- a run, by the tables
     pub key-run :
         {M N : List ℕ} {x : Run} → run_in k ≡ Some x → end_in_range k ≡ true → Marks M R → Marks N U → (r : Result Walked Refusal)

@@ -9,7 +9,7 @@ use Rattle.place_keys.specs.declared.plan.Pieces.{Pieces}
 unfoldable pub placed_left : Pieces → List calls.Placed
 placed_left p = placed_from (read_call p.plan.list.now) p.next p.end
 
--- the first of some pieces, and those after it; nothing where there is none
+-- the first of some pieces, within the bounds that the words of a key ask for, and those after it; nothing where there is none
 abbrev pub Stepped : List calls.Placed → Option Placed → List calls.Placed → Type 0
 Stepped before (Some p) after = (before ≡ placed_in p ∷ after) × Bounded p
 Stepped before None after = before ≡ []

@@ -37,8 +37,7 @@ pub fn put_backpointer(out: &mut Output, h: Head, p: Placed)
 pub fn put_backpointers(out: &mut Output, plan: &Plan)
     ensures { out.new ≡ with_bytes out.old (encode (map (key_field 13) (map (backpointer_key (head_in plan.now.head)) (placed_of (read_call plan.now.list.now))))) }
 {
-    let mut pieces = plan.placed();
-    while let Some(p) = pieces.next() {
+    for p in plan.placed() {
         put_backpointer(out, plan.head, p);
     }
 }

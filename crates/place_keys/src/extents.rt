@@ -44,8 +44,7 @@ pub fn put_extent(out: &mut Output, h: Head, p: Placed)
 pub fn put_extents(out: &mut Output, plan: &Plan)
     ensures { out.new ≡ with_bytes out.old (encode (map (key_field 0) (map (extent_key (head_in plan.now.head)) (placed_of (read_call plan.now.list.now))))) }
 {
-    let mut pieces = plan.placed();
-    while let Some(p) = pieces.next() {
+    for p in plan.placed() {
         put_extent(out, plan.head, p);
     }
 }

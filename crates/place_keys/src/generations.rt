@@ -1,5 +1,5 @@
 // The generations of the buckets taken.
-ghost use Rattle.std.specs.Prelude.{◌≡◌, true, map, ◌<◌, ◌≤◌, length, take};
+ghost use Rattle.std.specs.Prelude.{◌≡◌, true, map, ◌≤◌, length, take};
 ghost use Rattle.calls.specs.Answers.{read_volume};
 ghost use Rattle.calls.specs.Lists.{all_of};
 ghost use Rattle.calls.specs.Generations.{gen_of};

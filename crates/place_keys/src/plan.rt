@@ -78,13 +78,18 @@ impl<'a> Plan<'a> {
     }
 }
 
-impl<'a> Pieces<'a> {
+impl<'a> Iterator for Pieces<'a> {
+    ghost use Rattle.std.specs.Iterator.{item_count};
     ghost use Rattle.place_keys.specs.Left.{placed_left, Stepped};
 
+    type Item = Placed;
+
+    ghost next_gives = { λ before p after. Stepped (placed_left before) p (placed_left after) };
+
+    ghost remaining = { item_count placed_left };
+
     // The next piece, if one is left.
-    pub fn next(&mut self) -> Option<Placed>
-        ensures { Stepped (placed_left self.old) result (placed_left self.new) }
-    {
+    fn next(&mut self) -> Option<Placed> {
         if self.next >= self.plan.pieces.len() {
             return None;
         }

@@ -26,8 +26,7 @@ pub fn put_spot(out: &mut Output, p: Placed)
 pub fn put_spots(out: &mut Output, plan: &Plan)
     ensures { out.new ≡ with_bytes out.old (encode (map spot_field (map spot_at (placed_of (read_call plan.now.list.now))))) }
 {
-    let mut pieces = plan.placed();
-    while let Some(p) = pieces.next() {
+    for p in plan.placed() {
         put_spot(out, p);
     }
 }

@@ -1,4 +1,4 @@
-use Rattle.std.proofs.Common.{◌≡◌, map, length}
+use Rattle.std.proofs.Common.{◌≡◌, map}
 use Rattle.wire.specs.Encode.{encode, key_field}
 use Rattle.calls.specs.Extents.{backpointer_key}
 use Rattle.reader.specs.Heads.{head_in}
@@ -10,8 +10,5 @@ use Rattle.place_keys.proofs.backpointers.put_backpointers.Given as goal
 
 abbrev pub invariant-loop-p : goal.invariant-loop-p
 invariant-loop-p l =
-    with_bytes l.out (encode (map (key_field 13) (map (backpointer_key (head_in l.plan.head)) (placed_left l.pieces))))
+    with_bytes l.out (encode (map (key_field 13) (map (backpointer_key (head_in l.plan.head)) (placed_left l.p-iterator))))
     ≡ with_bytes l.fn.out (encode (map (key_field 13) (map (backpointer_key (head_in l.plan.head)) (placed_of (read_call l.plan.list.now)))))
-
-abbrev pub decreases-loop-p : goal.decreases-loop-p
-decreases-loop-p l = length (placed_left l.pieces)

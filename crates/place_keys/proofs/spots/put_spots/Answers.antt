@@ -5,7 +5,7 @@ use Rattle.place_keys.proofs.WalkLaws.{field-put, fields-put}
 use Rattle.place_keys.proofs.spots.put_spots.Goals as goal
 
 pub loop-p-preserved : goal.loop-p-preserved
-loop-p-preserved c = field-put spot_field spot_at c.loop-p.out c.in-Some.ensures.0 c.put_spot.ensures ∙ c.loop-p.invariant
+loop-p-preserved c = field-put spot_field spot_at c.loop-p.out c.in-Some.ensures.steps.0 c.put_spot.ensures ∙ c.loop-p.invariant
 
 pub returns : goal.returns
-returns c = sym (fields-put spot_field spot_at c.loop-p.out c.in_default.ensures) ∙ c.loop-p.invariant
+returns c = sym (fields-put spot_field spot_at c.loop-p.out c.in-None.ensures.steps) ∙ c.loop-p.invariant

@@ -1,4 +1,4 @@
-use Rattle.std.proofs.Common.{◌≡◌, map, length}
+use Rattle.std.proofs.Common.{◌≡◌, map}
 use Rattle.wire.specs.Encode.{encode}
 use Rattle.calls.specs.ChangeList.{spot_field}
 use Rattle.calls.specs.Place.{spot_at}
@@ -10,8 +10,5 @@ use Rattle.place_keys.proofs.spots.put_spots.Given as goal
 
 abbrev pub invariant-loop-p : goal.invariant-loop-p
 invariant-loop-p l =
-    with_bytes l.out (encode (map spot_field (map spot_at (placed_left l.pieces))))
+    with_bytes l.out (encode (map spot_field (map spot_at (placed_left l.p-iterator))))
     ≡ with_bytes l.fn.out (encode (map spot_field (map spot_at (placed_of (read_call l.plan.list.now)))))
-
-abbrev pub decreases-loop-p : goal.decreases-loop-p
-decreases-loop-p l = length (placed_left l.pieces)
