@@ -10,13 +10,16 @@ use Rattle.std.proofs.Common.{None}
 use lib.Dec.{eqb}
 use borrow.Author.Tests.{eq-eqb, lt-ltb}
 use Rattle.wire.specs.Encode.{encode, encode_field}
-use Rattle.wire.specs.Rows.{row_field}
+use Rattle.wire.specs.Rows.{Counters, row_field}
 use Rattle.wire.specs.Kinds.{bucket_below, bucket_in_range, same_bucket}
 use Rattle.wire.specs.Positions.{backpointer_at}
 use Rattle.wire.specs.declared.kinds.Bucket.{Bucket}
+use Rattle.wire.specs.Output.{with_bytes}
+use Rattle.wire.specs.declared.output.Output.{Output}
+use Rattle.wire.proofs.AppendLaws.{with-with}
 use Rattle.wire.proofs.EncodeLaws.{encode-append, encode_one}
 use Rattle.calls.specs.Accounting.{counted_rows, sectors_row, buckets_row}
-use Rattle.calls.specs.CallList.{Head, Volume, Freed, tree_fields}
+use Rattle.calls.specs.CallList.{Volume, Freed, tree_fields}
 use Rattle.calls.specs.ChangeList.{Batch, end_field, batch_fields, change_fields, change_bytes}
 use Rattle.calls.specs.Freespace.{is_in}
 use Rattle.calls.specs.Lists.{all_of, any_of, those, total, in_order}
@@ -27,49 +30,73 @@ use Rattle.calls.specs.Trees.{deletion}
 use Rattle.calls.proofs.lists.MapLaws.{empty-length}
 use Rattle.calls.proofs.lists.ThoseLaws.{those-length}
 use Rattle.calls.proofs.freespace.UpLaws.{up-order, up-those}
-use Rattle.calls.proofs.lists.BoolLaws.{parts}
+use Rattle.calls.proofs.lists.BoolLaws.{parts as parts_of}
 use Rattle.calls.proofs.freespace.BucketLaws.{is_in-those, map-in, all_in}
 use Rattle.calls.proofs.release.ReleaseFits.{named-few}
 use Rattle.calls.proofs.release.ReleaseLaws.{named-range}
-use Rattle.release_sums.specs.Freeds.{freeds_in, PiecesBounded}
+use Rattle.release_sums.specs.Freeds.{PiecesBounded}
 use Rattle.release_sums.specs.Summing.{Sums, sum_of, summed_row, summed_buckets, Listed}
 use Rattle.release_sums.proofs.FoundLaws.{freed-up, found-freed}
-use Rattle.release_keys.specs.Counting.{kept_of, lost_of}
+use Rattle.release_keys.specs.Counting.{kept_of, lost_of, Unused-of}
+use Rattle.release_keys.specs.declared.counts.Unused.{Unused}
 use Rattle.change_fields.specs.FieldBytes.{keys_bytes, roots_bytes}
 use Rattle.release_sums.specs.declared.sums.FreedBucket.{FreedBucket}
 use Rattle.release_keys.specs.Emptied.{emptied_row, emptied_buckets}
 use Rattle.release_keys.specs.declared.freed_buckets.Emptied.{Emptied}
 use Rattle.release_keys.specs.Tables.{no_row, buckets_of, RowsHeld, RowsWithin}
 use Rattle.release_keys.proofs.RowLaws.{rows-held, rows-within}
-use Rattle.release.specs.Outcomes.{BatchTables}
+use Rattle.release.specs.Given.{volume_in, requests_in, change_of}
+use Rattle.release.specs.Outcomes.{Checked, VolumeTables, BatchTables}
+use Rattle.release.specs.declared.batch.Given.{Given}
+
+-- what is put after what was put
+pub then-put : (o : Output) (us bs : List ℕ) {p q : Output} → p ≡ with_bytes o us → q ≡ with_bytes p bs → q ≡ with_bytes o (us ++ bs)
+then-put o us bs e f = rw (f, e) (with-with o us bs)
+
+-- ---- the change list
+one_batch : (b : Batch) → change_bytes (b ∷ []) ≡ encode (batch_fields b)
+unfolding change_bytes change_fields
+one_batch b = ap encode (append-nil (batch_fields b))
 
 -- ---- the batch
 module _ (v : Volume) (rs : List Freed) where
   abbrev all : List Bucket
   all = freed_buckets v.head.bucket_sectors rs
 
-  -- its parts, where `emptied` are the emptied buckets
-  pub batch-bytes : (emptied : List Bucket) → emptied ≡ those (is_emptied v rs) all
-      → encode (batch_fields (release_batch v rs))
-      ≡ keys_bytes 4 (map (released_key v rs) all) ++ keys_bytes 10 (flat_map (released_lru v rs) all)
+  -- its parts, where `emptied` are the emptied buckets, so many
+  abbrev parts : List Bucket → ℕ → List Counters → List ℕ
+  parts emptied n rows =
+      keys_bytes 4 (map (released_key v rs) all) ++ keys_bytes 10 (flat_map (released_lru v rs) all)
       ++ keys_bytes 12 (map (need_discard_key v.head.journal) emptied)
       ++ keys_bytes 13 (map (λ r. deletion (backpointer_at r.first)) rs)
       ++ keys_bytes 14 (gens_queued (emptied_gen v.trees) v.trees.gens emptied)
-      ++ roots_bytes (roots_if (not (eqb (length emptied) 0) && root_missing v.head.roots 1) 12 ++ roots_if (not (eqb (length emptied) 0) && root_missing v.head.roots 2) 14)
-      ++ encode (map row_field (release_rows v rs all emptied))
+      ++ roots_bytes (roots_if (not (eqb n 0) && root_missing v.head.roots 1) 12 ++ roots_if (not (eqb n 0) && root_missing v.head.roots 2) 14)
+      ++ encode (map row_field rows)
       ++ encode_field end_field
+
+  batch-bytes : (emptied : List Bucket) → emptied ≡ those (is_emptied v rs) all → encode (batch_fields (release_batch v rs)) ≡ parts emptied (length emptied) (release_rows v rs all emptied)
   unfolding batch_fields release_batch tree_fields
   batch-bytes emptied e =
       rw (← e, ← empty-length emptied)
       (simp (encode-append, append-nil, encode_one))
 
   -- its rows, by the sums that they are made of
-  pub rows_are : (emptied : List Bucket) (n freed kept lost : ℕ) → n ≡ length emptied → freed ≡ total (λ (r : Freed). r.sectors) rs → kept ≡ total (kept_of v rs) all
-      → lost ≡ total (lost_of v rs) all
-      → counted_rows (sectors_row (neg_ℤ (pos freed)) ∷ buckets_row 4 (neg_ℤ (pos n)) (neg_ℤ (pos freed)) (pos kept +ℤ neg_ℤ (pos lost)) ∷ buckets_row 9 (pos n) (pos 0) (pos 0) ∷ [])
-      ≡ release_rows v rs all emptied
+  abbrev summed : ℕ → ℕ → ℕ → ℕ → List Counters
+  summed n freed kept lost =
+      counted_rows (sectors_row (neg_ℤ (pos freed)) ∷ buckets_row 4 (neg_ℤ (pos n)) (neg_ℤ (pos freed)) (pos kept +ℤ neg_ℤ (pos lost)) ∷ buckets_row 9 (pos n) (pos 0) (pos 0) ∷ [])
+
+  rows_are : (emptied : List Bucket) (n freed kept lost : ℕ) → n ≡ length emptied → freed ≡ total (λ (r : Freed). r.sectors) rs → kept ≡ total (kept_of v rs) all
+      → lost ≡ total (lost_of v rs) all → summed n freed kept lost ≡ release_rows v rs all emptied
   unfolding release_rows unused_change
   rows_are emptied n freed kept lost a b c d = rw (a, b, c, d)
+
+  -- the change list that has it alone
+  pub parts-are : (emptied : List Bucket) (n freed kept lost : ℕ) → emptied ≡ those (is_emptied v rs) all → n ≡ length emptied → freed ≡ total (λ (r : Freed). r.sectors) rs
+      → kept ≡ total (kept_of v rs) all → lost ≡ total (lost_of v rs) all → parts emptied n (summed n freed kept lost) ≡ change_bytes (release_batch v rs ∷ [])
+  parts-are emptied n freed kept lost e a b c d =
+      ap (parts emptied n) (rows_are emptied n freed kept lost a b c d)
+      ∙ ap (λ (m : ℕ). parts emptied m (release_rows v rs all emptied)) a
+      ∙ sym (one_batch (release_batch v rs) ∙ batch-bytes emptied e)
 
 -- ---- the rows
 -- a row's bucket is one of those of the rows
@@ -87,42 +114,44 @@ pub emptied-named : (generation : Bucket → ℕ) (bs : List Bucket) → emptied
 emptied-named generation [] = refl
 emptied-named generation (b ∷ bs) = λ x. b ∷ emptied-named generation bs x
 
-module _ {s : List ℕ} {h : Head} {requests : List ℕ} {rows : List FreedBucket} {records : List ℕ} {emptied : List Emptied} (d : BatchTables s h requests rows records emptied) where
+-- the requests that refusal 14 passed
+pub pieces-bounded : {g : Given} → Checked g → g.head.bucket_sectors < 65536 → PiecesBounded g.list.now g.requests.now
+pieces-bounded {g} p l = record { size = g.head.bucket_sectors; some-sectors = p.some-sectors; small = l; ok = p.checked }
+
+-- no more rows than requests
+pub tables-few : {g : Given} {rows : List FreedBucket} {records : List ℕ} → VolumeTables g rows records → length rows ≤ 1024
+tables-few {g} {rows} t =
+    omega (
+      arith,
+      length-map rows (λ (f : FreedBucket). f.bucket),
+      ap length t.tabled.named,
+      named-few g.head.bucket_sectors (requests_in g),
+      t.passed.requested.count,
+      t.passed.few,
+    )
+
+module _ {g : Given} {rows : List FreedBucket} {records : List ℕ} {emptied : List Emptied} (d : BatchTables g rows records emptied) where
+  abbrev v : Volume
+  v = volume_in g
+
   abbrev rs : List Freed
-  rs = freeds_in s requests
+  rs = requests_in g
 
-  pub sectors-are : d.tables.volume.head.bucket_sectors ≡ h.bucket_sectors
-  sectors-are = ap (λ (x : Head). x.bucket_sectors) d.tables.head
-
-  pub batch-held : RowsHeld s rows
+  pub batch-held : RowsHeld g.list.now rows
   batch-held = rows-held d.tables.tabled d.none-refuses
 
-  pub batch-within : RowsWithin s h.bucket_sectors rows
-  batch-within = rw (← sectors-are) (rows-within d.tables.tabled d.none-refuses)
+  pub batch-within : RowsWithin g.list.now g.head.bucket_sectors rows
+  batch-within = rows-within d.tables.tabled d.none-refuses
 
-  pub tables-bounded : h.bucket_sectors < 65536 → PiecesBounded s requests
-  tables-bounded l = record { size = h.bucket_sectors; some-sectors = d.tables.passed.some-sectors; small = l; ok = d.tables.passed.checked }
-
-  pub tables-few : length rows ≤ 1024
-  tables-few =
-      omega (
-        arith,
-        length-map rows (λ (f : FreedBucket). f.bucket),
-        ap length d.tables.tabled.named,
-        named-few d.tables.volume.head.bucket_sectors rs,
-        d.tables.passed.requested.count,
-        d.tables.passed.few,
-      )
-
-  chosen-buckets : emptied_buckets emptied ≡ those (is_emptied d.tables.volume rs) (buckets_of rows)
-  chosen-buckets = ap emptied_buckets d.chosen ∙ emptied-named (emptied_gen d.tables.volume.trees) (those (is_emptied d.tables.volume rs) (buckets_of rows))
+  chosen-buckets : emptied_buckets emptied ≡ those (is_emptied v rs) (buckets_of rows)
+  chosen-buckets = ap emptied_buckets d.chosen ∙ emptied-named (emptied_gen v.trees) (those (is_emptied v rs) (buckets_of rows))
 
   -- each with its generation
-  pub generations-are : emptied ≡ map (emptied_row (emptied_gen d.tables.volume.trees)) (emptied_buckets emptied)
-  generations-are = d.chosen ∙ ap (map (emptied_row (emptied_gen d.tables.volume.trees))) (sym chosen-buckets)
+  pub generations-are : emptied ≡ map (emptied_row (emptied_gen v.trees)) (emptied_buckets emptied)
+  generations-are = d.chosen ∙ ap (map (emptied_row (emptied_gen v.trees))) (sym chosen-buckets)
 
   -- as many as their buckets
-  pub emptied-count : length emptied ≡ length (emptied_buckets emptied)
+  emptied-count : length emptied ≡ length (emptied_buckets emptied)
   emptied-count = sym (length-map emptied (λ (e : Emptied). e.bucket))
 
   pub emptied-few : length emptied ≤ 1024
@@ -131,29 +160,34 @@ module _ {s : List ℕ} {h : Head} {requests : List ℕ} {rows : List FreedBucke
         arith,
         emptied-count,
         ap length chosen-buckets,
-        those-length (is_emptied d.tables.volume rs) (buckets_of rows),
+        those-length (is_emptied v rs) (buckets_of rows),
         length-map rows (λ (f : FreedBucket). f.bucket),
-        tables-few,
+        tables-few d.tables,
       )
 
   -- as the tree's part of the batch has them
-  pub emptied-are : emptied_buckets emptied ≡ those (is_emptied d.tables.volume rs) (freed_buckets d.tables.volume.head.bucket_sectors rs)
-  emptied-are = chosen-buckets ∙ ap (those (is_emptied d.tables.volume rs)) d.tables.tabled.named
+  emptied-are : emptied_buckets emptied ≡ those (is_emptied v rs) (freed_buckets g.head.bucket_sectors rs)
+  emptied-are = chosen-buckets ∙ ap (those (is_emptied v rs)) d.tables.tabled.named
 
   pub emptied-up : in_order bucket_below (emptied_buckets emptied) ≡ true
   emptied-up =
       rw emptied-are
-      (up-order 0 (those (is_emptied d.tables.volume rs) (freed_buckets d.tables.volume.head.bucket_sectors rs))
-      (up-those (is_emptied d.tables.volume rs) 0 (freed_buckets d.tables.volume.head.bucket_sectors rs) (freed-up d.tables.volume.head.bucket_sectors rs)))
+      (up-order 0 (those (is_emptied v rs) (freed_buckets g.head.bucket_sectors rs))
+      (up-those (is_emptied v rs) 0 (freed_buckets g.head.bucket_sectors rs) (freed-up g.head.bucket_sectors rs)))
 
   pub emptied-low : all_of bucket_in_range (emptied_buckets emptied) ≡ true
   emptied-low =
-      let n = d.tables.volume.head.bucket_sectors in
-      let ok : all_of (freed_ok n) rs ≡ true = rw sectors-are d.tables.passed.checked in
+      let n = g.head.bucket_sectors in
       all_in bucket_in_range (emptied_buckets emptied)
       (λ b i.
-      let m = sym (is_in-those (is_emptied d.tables.volume rs) (freed_buckets n rs) b) ∙ sym (ap (λ (x : List Bucket). is_in x b) emptied-are) ∙ i in
-      lt-ltb b.0 65536 (named-range n rs ok b (parts (is_emptied d.tables.volume rs b) (is_in (freed_buckets n rs) b) m).1))
+      let m = sym (is_in-those (is_emptied v rs) (freed_buckets n rs) b) ∙ sym (ap (λ (x : List Bucket). is_in x b) emptied-are) ∙ i in
+      lt-ltb b.0 65536 (named-range n rs d.tables.passed.checked b (parts_of (is_emptied v rs b) (is_in (freed_buckets n rs) b) m).1))
+
+  -- the bytes of the batch, by the sums of its rows
+  pub batch-is : (freed : ℕ) (u : Unused) → freed ≡ total (λ (r : Freed). r.sectors) rs → Unused-of v rs (buckets_of rows) u
+      → parts v rs (emptied_buckets emptied) (length emptied) (summed v rs (length emptied) freed u.kept u.lost) ≡ change_of g
+  batch-is freed u f o =
+      parts-are v rs (emptied_buckets emptied) (length emptied) freed u.kept u.lost emptied-are emptied-count f (o.kept ∙ ap (total (kept_of v rs)) d.tables.tabled.named) (o.lost ∙ ap (total (lost_of v rs)) d.tables.tabled.named)
 
 -- ---- the requests, listed
 -- a row's sum
@@ -175,11 +209,6 @@ listed-freed {sectors} {rs} {sums} s ok l =
           ∙ with-sum (sum_of sums) (freed_in sectors rs) (freed_buckets sectors rs)
           (map-in (sum_of sums) (freed_in sectors rs) (freed_buckets sectors rs) (λ b m. s.at b (lt-ltb b.0 65536 (named-range sectors rs ok b m))));
     }
-
--- ---- the change list
-pub one_batch : (b : Batch) → change_bytes (b ∷ []) ≡ encode (batch_fields b)
-unfolding change_bytes change_fields
-one_batch b = ap encode (append-nil (batch_fields b))
 
 -- no more are picked than there are
 pub listed-short : (t : Bucket → Bool) (rows : List FreedBucket) {A : Type 0} {row : Bucket → A} {table : List A} {n : ℕ} → Listed (those t (buckets_of rows)) row table n

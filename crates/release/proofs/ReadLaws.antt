@@ -11,7 +11,7 @@ use Rattle.wire.specs.Keys.{Key}
 use Rattle.calls.specs.CallList as calls
 use Rattle.calls.specs.CallList.{Volume, Freed, freed_of, keys_ok, call_laid_out, none_twice}
 use Rattle.calls.specs.Limits.{list_within}
-use Rattle.calls.specs.Answers.{Answer, answer, read_call, read_volume, release, made, outcome, scratch_after}
+use Rattle.calls.specs.Answers.{Answer, answer, read_call, read_volume, release, Outcome, made, outcome, scratch_after}
 use Rattle.calls.specs.ChangeList.{change_bytes}
 use Rattle.calls.specs.Refusals.{test}
 use Rattle.calls.specs.Release.{alloc_value, dirty_at, is_emptied, bucket_refusal, release_tests, released_key, released_lru, emptied_gen, unused_change, release_rows, release_batch}
@@ -32,7 +32,7 @@ use Rattle.reader.specs.Table.{between}
 use Rattle.release_sums.specs.Freeds.{freeds_in, Requested}
 use Rattle.release_sums.specs.Summing.{Cleared}
 use Rattle.release_keys.specs.Places.{Keyed}
-use Rattle.release.specs.Outcomes.{volume_of}
+use Rattle.release.specs.Given.{volume_of}
 use Rattle.release.proofs.TopLaws.{zeros-at}
 
 -- ---- what offsets find
@@ -176,15 +176,13 @@ module _ {s index : List ℕ} {h : Head} {e : Ends} (q : ListRead 2 s index h e)
   parts-few = omega (arith, length-take (e.requests - e.reserved) (drop e.reserved index), parts_within.2.few)
 
   -- its outcome is the call's
-  pub parts-outcome : (n : ℕ) → 65536 ≤ n → (out : List ℕ) {after : List ℕ} {written number : ℕ}
-      → made number written after ≡ outcome (answer_of (head_in h) (keys_here s allocs) (keys_here s records) (freeds_in s requests) (length out)) out
-      → made number written after ≡ outcome (release s n (length out)) out
+  pub parts-outcome : (n : ℕ) → 65536 ≤ n → (out : List ℕ) {m : Outcome} → m ≡ outcome (answer_of (head_in h) (keys_here s allocs) (keys_here s records) (freeds_in s requests) (length out)) out
+      → m ≡ outcome (release s n (length out)) out
   parts-outcome n l out p = p ∙ ap (λ (a : Answer). outcome a out) (parts-answer s n (length out) {h = h} l z q.head allocs-at records-at requests-at)
 
 -- ---- the outcome of a call that refusals 1 to 3 stop
 pub short_outcome : (s : List ℕ) (n : ℕ) (out : List ℕ) → n < 65536 → made 1 0 out ≡ outcome (release s n (length out)) out
 short_outcome s n out h = refused 1 out (short-answer s n (length out) h) refl
 
-pub read-outcome : (s : List ℕ) (n : ℕ) (out : List ℕ) {written : ℕ} → 65536 ≤ n → (m : ℕ) → m ≡ call_refusal 2 s → 0 < call_refusal 2 s → written ≡ 0
-    → made m written out ≡ outcome (release s n (length out)) out
-read-outcome s n out h m e l w = refused m out (refused-answer s n (length out) h m e l) w
+pub read-outcome : (s : List ℕ) (n : ℕ) (out : List ℕ) → 65536 ≤ n → (m : ℕ) → m ≡ call_refusal 2 s → 0 < call_refusal 2 s → made m 0 out ≡ outcome (release s n (length out)) out
+read-outcome s n out h m e l = refused m out (refused-answer s n (length out) h m e l) refl

@@ -4,38 +4,33 @@ use mathlib.Core.Bool.{Bool, true, false, not}
 use mathlib.Core.List.{List, [], ◌∷◌, ◌++◌, map}
 use Prim.Native.Nat.{ℕ, zero, suc, ◌≤◌, ◌<◌}
 use native.Mathlib.Omega.{arith}
-use lib.ListN.{length, get_or, take, drop, replicate, length-map}
+use lib.ListN.{length, get_or, drop, replicate, length-map}
 use borrow.Author.Tests.{eq-eqb, ne_eqb, lt-ltb}
 use Rattle.wire.specs.Kinds.{bucket_below}
 use Rattle.wire.specs.declared.kinds.Bucket.{Bucket}
-use Rattle.calls.specs.Answers.{Answer, answer, made, outcome}
-use Rattle.calls.specs.CallList.{Head, Volume, Freed}
+use Rattle.calls.specs.Answers.{Answer, answer, Outcome, made, outcome}
+use Rattle.calls.specs.CallList.{Volume, Freed}
 use Rattle.calls.specs.Freespace.{is_in}
-use Rattle.calls.specs.Lists.{all_of, those, in_order}
+use Rattle.calls.specs.Lists.{all_of, in_order}
 use Rattle.calls.specs.Refusals.{test, verdict}
-use Rattle.calls.specs.Release.{freed_ok, freed_buckets, freed_in, is_emptied, bucket_refusal, emptied_gen, release_tests}
+use Rattle.calls.specs.Release.{freed_ok, freed_buckets, freed_in, bucket_refusal, release_tests}
 use Rattle.calls.proofs.freespace.UpLaws.{up-order}
 use Rattle.calls.proofs.answers.OutcomeLaws.{answer-next, answer-stops, refused}
-use Rattle.calls.proofs.release.ReleaseFits.{named-few}
 use Rattle.calls.proofs.release.ReleaseLaws.{named-range}
 use Rattle.calls.proofs.history.View.{bucket}
-use Rattle.release_sums.specs.Freeds.{freeds_in, Requested}
-use Rattle.release_sums.specs.Summing.{Cleared, Listed, summed_row}
+use Rattle.release_sums.specs.Freeds.{Requested}
+use Rattle.release_sums.specs.Summing.{Cleared, summed_row}
 use Rattle.release_sums.proofs.FoundLaws.{freed-up}
 use Rattle.release_sums.specs.declared.sums.FreedBucket.{FreedBucket}
-use Rattle.release_keys.specs.Emptied.{emptied_row}
-use Rattle.release_keys.specs.declared.freed_buckets.Emptied.{Emptied}
-use Rattle.release_keys.specs.Tables.{no_row, buckets_of, PlacesOf, FreedTables, RowsHeld}
-use Rattle.release_keys.proofs.RowLaws.{rows-held}
-use Rattle.release.specs.Outcomes.{Summed, VolumeTables, BatchTables, bucket_tests}
+use Rattle.release_keys.specs.Tables.{no_row, buckets_of, PlacesOf, FreedTables}
+use Rattle.release.specs.Given.{volume_in, requests_in, change_of}
+use Rattle.release.specs.Outcomes.{Checked, Summed, bucket_tests}
+use Rattle.release.specs.declared.batch.Given.{Given}
 use Rattle.release.proofs.BatchLaws.{in-at}
 
 -- ---- the freed buckets, listed
-pub summed-made : {s : List ℕ} {sectors : ℕ} {requests : List ℕ} {rows : List FreedBucket} {n : ℕ} → Requested s requests → length requests ≤ 1024 → 0 < sectors
-    → all_of (freed_ok sectors) (freeds_in s requests) ≡ true
-    → Listed (freed_buckets sectors (freeds_in s requests)) (summed_row (freed_in sectors (freeds_in s requests))) rows n
-    → Summed s sectors requests (take n rows)
-summed-made q f h ok l = record { passed = record { requested = q; few = f; some-sectors = h; checked = ok }; listed = l.listed }
+pub checked-made : {g : Given} → Requested g.list.now g.requests.now → length g.requests.now ≤ 1024 → 0 < g.head.bucket_sectors → all_of (freed_ok g.head.bucket_sectors) (requests_in g) ≡ true → Checked g
+checked-made q f h ok = record { requested = q; few = f; some-sectors = h; checked = ok }
 
 -- each row's bucket, and its sum
 summed-named : (value : Bucket → ℕ) (bs : List Bucket) → buckets_of (map (summed_row value) bs) ≡ bs
@@ -56,9 +51,12 @@ placed-named [] (g ∷ after) e h = absurd (omega arith)
 placed-named (f ∷ before) [] e h = absurd (omega arith)
 placed-named (f ∷ before) (g ∷ after) e h = λ x. h 0 (omega arith) x ∷ placed-named before after (omega arith) (λ i l. h (suc i) (omega arith)) x
 
-module _ {s : List ℕ} {sectors : ℕ} {requests : List ℕ} {rows : List FreedBucket} (m : Summed s sectors requests rows) where
+module _ {g : Given} {rows : List FreedBucket} (m : Summed g rows) where
+  abbrev sectors : ℕ
+  sectors = g.head.bucket_sectors
+
   abbrev pieces : List Freed
-  pieces = freeds_in s requests
+  pieces = requests_in g
 
   named : buckets_of rows ≡ freed_buckets sectors pieces
   named = ap buckets_of m.listed ∙ summed-named (freed_in sectors pieces) (freed_buckets sectors pieces)
@@ -71,63 +69,38 @@ module _ {s : List ℕ} {sectors : ℕ} {requests : List ℕ} {rows : List Freed
       rw m.listed (summed-at (freed_in sectors pieces) (freed_buckets sectors pieces) i (omega (arith, ap length m.listed, length-map (freed_buckets sectors pieces) (summed_row (freed_in sectors pieces)))))
 
   -- the table
-  pub tables-made : {after : List FreedBucket} (v : Volume) → v.head.bucket_sectors ≡ sectors → PlacesOf s v.trees.alloc rows after → FreedTables s v pieces after
-  tables-made {after} v e p =
+  pub tables-made : {after : List FreedBucket} → PlacesOf g.list.now (volume_in g).trees.alloc rows after → FreedTables g.list.now (volume_in g) pieces after
+  tables-made {after} p =
       record {
-        named = placed-named rows after p.count (λ i h. (p.at i h).bucket) ∙ named ∙ ap (λ (n : ℕ). freed_buckets n pieces) (sym e);
+        named = placed-named rows after p.count (λ i h. (p.at i h).bucket) ∙ named;
         at = λ i l.
             let h : i < length rows = omega (arith, p.count) in
             let q = p.at i h in
             let b = (get_or rows i no_row).bucket in
             record {
               low = rw q.bucket (lt-ltb b.0 65536 (named-range sectors pieces m.passed.checked b (ap (λ (l : List Bucket). is_in l b) (sym named) ∙ in-at rows i h)));
-              freed = q.freed ∙ sums i h ∙ rw (e, q.bucket) refl;
+              freed = q.freed ∙ sums i h ∙ rw q.bucket refl;
               key = rw q.bucket q.key;
             };
       }
 
 -- ---- refusals 15 to 19, and what follows
-module _ {s : List ℕ} {h : Head} {requests : List ℕ} {rows : List FreedBucket} {records : List ℕ} (d : VolumeTables s h requests rows records) {r : ℕ}
-    (e : r ≡ verdict (map (bucket_refusal d.volume (freeds_in s requests)) (freed_buckets h.bucket_sectors (freeds_in s requests)))) where
-  pub same : verdict (map (bucket_refusal d.volume (freeds_in s requests)) (freed_buckets d.volume.head.bucket_sectors (freeds_in s requests))) ≡ r
-  same = ap (λ (x : Head). verdict (map (bucket_refusal d.volume (freeds_in s requests)) (freed_buckets x.bucket_sectors (freeds_in s requests)))) d.head ∙ sym e
+module _ (g : Given) (room : ℕ) (out : List ℕ) (r : ℕ) (e : r ≡ verdict (map (bucket_refusal (volume_in g) (requests_in g)) (freed_buckets g.head.bucket_sectors (requests_in g)))) where
+  pub tables-stop : (r ≡ 0 → ⊥) → made r 0 out ≡ outcome (answer (bucket_tests (volume_in g) (requests_in g)) (change_of g) room) out
+  tables-stop n = refused r out (ap (λ (x : ℕ). answer (x ∷ []) (change_of g) room) (sym e) ∙ answer-stops r [] (change_of g) room n) refl
 
-  pub volume-pass : r ≡ 0 → RowsHeld s rows
-  volume-pass z = rows-held d.tabled (same ∙ z)
-
-  pub volume-few : length rows ≤ 1024
-  volume-few =
-      omega (
-        arith,
-        length-map rows (λ (f : FreedBucket). f.bucket),
-        ap length d.tabled.named,
-        named-few d.volume.head.bucket_sectors (freeds_in s requests),
-        d.passed.requested.count,
-        d.passed.few,
-      )
-
-  abbrev pub batch-tables : {emptied : List Emptied} {m : ℕ} → r ≡ 0 → Listed (those (is_emptied d.volume (freeds_in s requests)) (buckets_of rows)) (emptied_row (emptied_gen d.volume.trees)) emptied m
-      → BatchTables s h requests rows records (take m emptied)
-  batch-tables z l = record { tables = d; none-refuses = same ∙ z; chosen = l.listed }
-
-  pub tables-stop : (bytes : List ℕ) (room : ℕ) (out : List ℕ) {written : ℕ} → (r ≡ 0 → ⊥) → written ≡ 0
-      → made r written out ≡ outcome (answer (bucket_tests d.volume (freeds_in s requests)) bytes room) out
-  tables-stop bytes room out n w =
-      refused r out (ap (λ (x : ℕ). answer (x ∷ []) bytes room) same ∙ answer-stops r [] bytes room n) w
-
-  pub tables-go : (bytes : List ℕ) (room : ℕ) (out : List ℕ) {after : List ℕ} {written number : ℕ} → r ≡ 0 → made number written after ≡ outcome (answer [] bytes room) out
-      → made number written after ≡ outcome (answer (bucket_tests d.volume (freeds_in s requests)) bytes room) out
-  tables-go bytes room out z o =
-      o ∙ ap (λ (a : Answer). outcome a out) (sym (ap (λ (x : ℕ). answer (x ∷ []) bytes room) (same ∙ z) ∙ answer-next 0 [] bytes room refl))
+  pub tables-go : {m : Outcome} → r ≡ 0 → m ≡ outcome (answer [] (change_of g) room) out → m ≡ outcome (answer (bucket_tests (volume_in g) (requests_in g)) (change_of g) room) out
+  tables-go z o =
+      o ∙ ap (λ (a : Answer). outcome a out) (sym (ap (λ (x : ℕ). answer (x ∷ []) (change_of g) room) (sym e ∙ z) ∙ answer-next 0 [] (change_of g) room refl))
 
 -- ---- refusals 4 and 14, and what follows
 module _ (v : Volume) (rs : List Freed) (bytes : List ℕ) (room : ℕ) (out : List ℕ) where
-  pub lists-4 : {written : ℕ} → v.head.bucket_sectors ≡ 0 → written ≡ 0 → made 4 written out ≡ outcome (answer (release_tests v rs) bytes room) out
+  pub lists-4 : v.head.bucket_sectors ≡ 0 → made 4 0 out ≡ outcome (answer (release_tests v rs) bytes room) out
   unfolding release_tests
-  lists-4 e w =
+  lists-4 e =
       refused 4 out
       (ap (λ (t : Bool). answer (test 4 (not t) ∷ test 14 (all_of (freed_ok v.head.bucket_sectors) rs) ∷ bucket_tests v rs) bytes room) (eq-eqb v.head.bucket_sectors 0 e)
-      ∙ answer-stops 4 (test 14 (all_of (freed_ok v.head.bucket_sectors) rs) ∷ bucket_tests v rs) bytes room (λ z. omega arith)) w
+      ∙ answer-stops 4 (test 14 (all_of (freed_ok v.head.bucket_sectors) rs) ∷ bucket_tests v rs) bytes room (λ z. omega arith)) refl
 
   module _ (n : v.head.bucket_sectors ≡ 0 → ⊥) where
     past-4 : answer (release_tests v rs) bytes room ≡ answer (test 14 (all_of (freed_ok v.head.bucket_sectors) rs) ∷ bucket_tests v rs) bytes room
@@ -136,13 +109,13 @@ module _ (v : Volume) (rs : List Freed) (bytes : List ℕ) (room : ℕ) (out : L
         ap (λ (t : Bool). answer (test 4 (not t) ∷ test 14 (all_of (freed_ok v.head.bucket_sectors) rs) ∷ bucket_tests v rs) bytes room) (ne_eqb v.head.bucket_sectors 0 n)
         ∙ answer-next 0 (test 14 (all_of (freed_ok v.head.bucket_sectors) rs) ∷ bucket_tests v rs) bytes room refl
 
-    pub lists-14 : {written : ℕ} → all_of (freed_ok v.head.bucket_sectors) rs ≡ false → written ≡ 0 → made 14 written out ≡ outcome (answer (release_tests v rs) bytes room) out
-    lists-14 e w =
+    pub lists-14 : all_of (freed_ok v.head.bucket_sectors) rs ≡ false → made 14 0 out ≡ outcome (answer (release_tests v rs) bytes room) out
+    lists-14 e =
         refused 14 out
-        (past-4 ∙ ap (λ (t : Bool). answer (test 14 t ∷ bucket_tests v rs) bytes room) e ∙ answer-stops 14 (bucket_tests v rs) bytes room (λ z. omega arith)) w
+        (past-4 ∙ ap (λ (t : Bool). answer (test 14 t ∷ bucket_tests v rs) bytes room) e ∙ answer-stops 14 (bucket_tests v rs) bytes room (λ z. omega arith)) refl
 
-    pub lists-go : {after : List ℕ} {written number : ℕ} → all_of (freed_ok v.head.bucket_sectors) rs ≡ true
-        → made number written after ≡ outcome (answer (bucket_tests v rs) bytes room) out → made number written after ≡ outcome (answer (release_tests v rs) bytes room) out
+    pub lists-go : {m : Outcome} → all_of (freed_ok v.head.bucket_sectors) rs ≡ true
+        → m ≡ outcome (answer (bucket_tests v rs) bytes room) out → m ≡ outcome (answer (release_tests v rs) bytes room) out
     lists-go e o =
         o ∙ ap (λ (a : Answer). outcome a out)
         (sym (past-4 ∙ ap (λ (t : Bool). answer (test 14 t ∷ bucket_tests v rs) bytes room) e ∙ answer-next 0 (bucket_tests v rs) bytes room refl))

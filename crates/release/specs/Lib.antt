@@ -1,1 +1,3 @@
+pub mod Given
 pub mod Outcomes
+pub mod BatchView

@@ -1,41 +1,46 @@
 -- `lists::release_tables` meets its contract.
-use Rattle.std.proofs.Common.{ap, arith}
-use Rattle.calls.specs.CallList.{Head}
+use Rattle.std.proofs.Common.{◌≤◌, refl, sym, arith, length, length-take-le}
+use Rattle.std.proofs.lemmas.Result.{err_from_is_err_and}
 use Rattle.calls.specs.Release.{is_emptied}
-use Rattle.release_sums.specs.Freeds.{freeds_in}
-use Rattle.release.proofs.BatchLaws.{listed-short}
-use Rattle.release.proofs.TopLaws.{volume-pass, volume-few, batch-tables, tables-stop, tables-go}
+use Rattle.release_keys.proofs.RefusalLaws.{refused-some}
+use Rattle.release_keys.proofs.RowLaws.{rows-held}
+use Rattle.release.specs.Given.{volume_in, requests_in}
+use Rattle.release.proofs.BatchLaws.{tables-few, listed-short}
+use Rattle.release.proofs.TopLaws.{tables-stop, tables-go}
 use Rattle.release.proofs.lists.release_tables.Goals as goal
 
-pub refuse-n-requires : goal.refuse-n-requires
-refuse-n-requires c =
-    let d = c.requires.0 in
-    record { volume = d.volume; requests = freeds_in c.args.s.now c.args.requests.now; tabled = d.tabled; recorded = d.recorded; size = ap (λ (h : Head). h.bucket_sectors) d.head }
+pub refuse-requires : goal.refuse-requires
+refuse-requires c =
+    let d = c.requires in
+    record { volume = volume_in c.args.g.now; requests = requests_in c.args.g.now; tabled = d.tabled; recorded = d.recorded; size = refl }
 
-pub returns-then-n-ne0 : goal.returns-then-n-ne0
-returns-then-n-ne0 c d =
-    let e = c.refuse-n.ensures d.volume _ d.tabled d.recorded (ap (λ (h : Head). h.bucket_sectors) d.head) in
-    tables-stop d e _ _ _ c.if-n-ne0.true c.requires.1
+pub returns-in_err-refuse : goal.returns-in_err-refuse
+returns-in_err-refuse c =
+    let p = err_from_is_err_and c.from_residual.result c.from_residual.ensures.1 in
+    let d = c.requires in
+    rw (p.1, p.2)
+    (tables-stop c.args.g.now _ _ _ (c.in_err-refuse.ensures _ _ d.tabled d.recorded refl) (refused-some c.in_err-refuse.field-0.0))
 
-pub find_emptied-m-requires : goal.find_emptied-m-requires
-find_emptied-m-requires c =
-    let d = c.requires.0 in
-    let e = c.refuse-n.ensures d.volume _ d.tabled d.recorded (ap (λ (h : Head). h.bucket_sectors) d.head) in
-    (volume-pass d e c.if-n-ne0.false, volume-few d e)
+pub find_emptied-n-requires : goal.find_emptied-n-requires
+find_emptied-n-requires c =
+    let d = c.requires in
+    (rows-held d.tabled (sym (c.in_ok-refuse.ensures _ _ d.tabled d.recorded refl)), tables-few d)
 
 pub slice_bounds-emptied-end : goal.slice_bounds-emptied-end
 slice_bounds-emptied-end c =
-    let d = c.requires.0 in
-    let e = c.refuse-n.ensures d.volume _ d.tabled d.recorded (ap (λ (h : Head). h.bucket_sectors) d.head) in
-    omega (arith, listed-short (is_emptied d.volume (freeds_in c.args.s.now c.args.requests.now)) c.args.rows.now (c.find_emptied-m.ensures d.volume _ d.tabled), volume-few d e)
+    omega (arith, listed-short (is_emptied (volume_in c.args.g.now) (requests_in c.args.g.now)) c.args.rows.now (c.find_emptied-n.ensures _ _ c.requires.tabled), tables-few c.requires)
 
-pub write_change-requires : goal.write_change-requires
-write_change-requires c =
-    let d = c.requires.0 in
-    let e = c.refuse-n.ensures d.volume _ d.tabled d.recorded (ap (λ (h : Head). h.bucket_sectors) d.head) in
-    (batch-tables d e c.if-n-ne0.false (c.find_emptied-m.ensures d.volume _ d.tabled), c.requires.1)
+pub slice_bounds-new-end : goal.slice_bounds-new-end
+slice_bounds-new-end c =
+    let few : c.find_emptied-n.result ≤ length c.find_emptied-n.new.emptied = omega (arith, listed-short (is_emptied (volume_in c.args.g.now) (requests_in c.args.g.now)) c.args.rows.now (c.find_emptied-n.ensures _ _ c.requires.tabled), tables-few c.requires) in
+    sym (length-take-le c.find_emptied-n.result c.find_emptied-n.new.emptied few)
+
+pub new-batch-requires : goal.new-batch-requires
+new-batch-requires c =
+    let d = c.requires in
+    record { tables = d; none-refuses = sym (c.in_ok-refuse.ensures _ _ d.tabled d.recorded refl); chosen = (c.find_emptied-n.ensures _ _ d.tabled).listed }
 
 pub returns : goal.returns
-returns c d =
-    let e = c.refuse-n.ensures d.volume _ d.tabled d.recorded (ap (λ (h : Head). h.bucket_sectors) d.head) in
-    tables-go d e _ _ _ c.if-n-ne0.false (c.write_change.ensures (batch-tables d e c.if-n-ne0.false (c.find_emptied-m.ensures d.volume _ d.tabled)))
+returns c =
+    let d = c.requires in
+    tables-go c.args.g.now _ _ _ (c.in_ok-refuse.ensures _ _ d.tabled d.recorded refl) refl (rw c.new-batch.ensures at c.written.ensures)

@@ -1,11 +1,11 @@
 -- `release::release` meets its contract.
-use Rattle.std.proofs.Common.{◌≤◌, ◌∙◌, ap, refl, arith, length, ℕ}
+use Rattle.std.proofs.Common.{◌≤◌, ◌∙◌, ap, arith, length, ℕ}
 use Rattle.calls.specs.Answers.{release, outcome}
 use Rattle.release.proofs.ReadLaws.{cleared, cleared-length, cleared-after}
 use Rattle.release.proofs.release.release.Goals as goal
 
 pub release_cleared-requires : goal.release_cleared-requires
-release_cleared-requires c = (cleared c.args.scratch.now _ (omega arith) c.clear.ensures, refl)
+release_cleared-requires c = cleared c.args.scratch.now _ (omega arith) c.clear.ensures
 
 pub returns : goal.returns
 returns c =

@@ -7,7 +7,7 @@ pub release_lists-requires-clause-keyed : goal.release_lists-requires-clause-key
 release_lists-requires-clause-keyed c = let p = c.requires in parts-keyed p.0 p.1
 
 pub release_lists-requires-clause-requested : goal.release_lists-requires-clause-requested
-release_lists-requires-clause-requested c = let p = c.requires in (parts-requested p.0 p.1, parts-few p.0 p.1, p.2, p.3)
+release_lists-requires-clause-requested c = let p = c.requires in (parts-requested p.0 p.1, parts-few p.0 p.1, p.2)
 
 pub returns : goal.returns
 returns c =

@@ -1,0 +1,87 @@
+// What a release writes: the one batch of its change list.
+ghost use Rattle.std.specs.Prelude.{◌≡◌};
+ghost use Rattle.wire.specs.Output.{with_bytes};
+ghost use Rattle.release.specs.Given.{change_of};
+ghost use Rattle.release.specs.Outcomes.{BatchTables};
+
+use accounting::released;
+use change_fields::batch_end;
+use reader::answer::Emit;
+use reader::head::Head;
+use release_keys::freed_buckets::Emptied;
+use release_keys::{alloc_keys, backpointers, counts, gen_records, lru_keys, need_discards, roots};
+use release_sums::sums::FreedBucket;
+use std::marker::Model;
+use wire::output::Output;
+
+// What a release is given: the list, its head, and the places of its alloc keys, its generation records and its requests.
+#[derive(Clone, Copy, Drop)]
+pub struct Given<'a> {
+    pub list: &'a [u8],
+    pub head: Head,
+    pub alloc: &'a [u32],
+    pub gens: &'a [u32],
+    pub requests: &'a [u32],
+}
+
+// A release that no refusal stops, with its tables: the freed buckets, the generation records, and the buckets that are emptied. A clause sees its change list.
+#[derive(Drop)]
+pub struct Batch<'a> {
+    given: Given<'a>,
+    rows: &'a [FreedBucket],
+    records: &'a [u32],
+    emptied: &'a [Emptied],
+}
+
+impl<'a> Model for Batch<'a> {
+    ghost use Rattle.std.specs.Prelude.{ℕ, List};
+
+    ghost Value = { List ℕ };
+
+    ghost use Rattle.release.specs.BatchView.{batch_view, IsBatch};
+
+    ghost view = { batch_view };
+
+    ghost invariant = { IsBatch };
+}
+
+impl<'a> Batch<'a> {
+    // The batch of the tables. The refusals show what is required.
+    pub fn new(
+        given: Given<'a>,
+        rows: &'a [FreedBucket],
+        records: &'a [u32],
+        emptied: &'a [Emptied],
+    ) -> Batch<'a>
+        requires { BatchTables given rows.now records.now emptied.now }
+        ensures { result ≡ change_of given.entry }
+    {
+        Batch {
+            given,
+            rows,
+            records,
+            emptied,
+        }
+    }
+}
+
+impl<'a> Emit for Batch<'a> {
+    ghost bytes = { λ b. b };
+
+    // free_and_cut.
+    fn emit(&self, out: &mut Output) {
+        let g = &self.given;
+        let sectors = g.head.bucket_sectors as u64;
+        let count = self.emptied.len();
+        let total = counts::total_freed(g.list, g.requests);
+        let unused = counts::unused_in(g.list, sectors, self.rows);
+        alloc_keys::put_allocs(out, g.list, g.head.journal, self.rows);
+        lru_keys::put_lrus(out, g.list, sectors, self.rows);
+        need_discards::put_need_discards(out, g.head.journal, self.emptied);
+        backpointers::put_backpointers(out, g.list, g.requests);
+        gen_records::put_gens(out, g.list, self.records, self.emptied);
+        roots::put_roots(out, count, g.head.roots);
+        released::put_rows(out, count as u64, total, unused.kept, unused.lost);
+        batch_end::put_end(out);
+    }
+}
