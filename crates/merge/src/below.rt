@@ -54,8 +54,8 @@ fn pass_below(
 {
     let mut end = start;
     let mut count = counted;
-    for n in 0..keys.len() {
-        let o = keys[n] as usize;
+    for (n, key) in keys.iter().enumerate() {
+        let o = *key as usize;
         if o != end + 3 || !bound::is_under(lim, entries::pos_at(vol, o, section)) {
             return Stretch { n, end, count };
         }
