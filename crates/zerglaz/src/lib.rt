@@ -50,10 +50,7 @@ pub fn zerglaz_sort(list: &[u8], out: &mut [u8]) -> Result<usize, Refusal>
 }
 
 // Writes the generations of up to 1,024 ascending buckets, in one walk of a volume's tree 14, and counts the keys that it visits.
-pub fn zerglaz_generations(
-    volume: &[u8],
-    buckets: &[u32],
-    out: &mut [u8]) -> Result<usize, Refusal>
+pub fn zerglaz_generations(volume: &[u8], buckets: &[u32], out: &mut [u8]) -> Result<usize, Refusal>
     ensures { looked_up_by result out.new ≡ generations_outcome (generations volume.now (buckets_in buckets.now) (length out.old)) out.old }
 {
     generations_call::generations(volume, buckets, out)
