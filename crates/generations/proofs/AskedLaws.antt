@@ -4,15 +4,14 @@ use mathlib.Core.Bool.{Bool, true, false, ◌&&◌, and-true, and-false}
 use mathlib.Core.List.{List, [], ◌∷◌}
 use Prim.Native.Nat.{ℕ, zero, suc, ◌+◌, ◌-◌, ◌≤◌, ◌<◌}
 use native.Mathlib.Omega.{arith}
-use lib.Dec.{leb, ltb}
+use lib.Dec.{ltb}
 use lib.ListN.{length, drop, get_or}
-use borrow.Author.Tests.{lt-ltb, le-ltb, ltb-true, le-leb, lt-leb, leb-true}
+use borrow.Author.Tests.{lt-ltb, le-ltb, ltb-true, le-leb, lt-leb}
 use Rattle.wire.specs.Kinds.{bucket_below, buckets_in, bucket_in_range, no_bucket}
 use Rattle.wire.specs.declared.kinds.Bucket.{Bucket}
 use Rattle.wire.proofs.BucketTables.{table-length, table_at}
 use Rattle.calls.specs.Lists.{all_of, in_order}
 use Rattle.calls.specs.Limits.{buckets_within}
-use Rattle.calls.proofs.lists.BoolLaws.{parts}
 use Rattle.calls.proofs.lists.OrderLaws.{order-nth, order-past}
 use Rattle.calls.proofs.freespace.UpLaws.{Up, order-up, up_from}
 
