@@ -1,5 +1,4 @@
 pub mod FreeLaws
-pub mod NumberLaws
 pub mod RunLaws
 pub mod TakeLaws
 pub mod TakenLaws

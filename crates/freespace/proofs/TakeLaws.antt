@@ -24,7 +24,7 @@ use Rattle.reader.specs.declared.refusal.Refusal.TheVariants.{RunBeforeBuckets}
 use Rattle.freespace.specs.Walks.{unwalked, thirteen, key_walk, left_of, key_queue, queue_of, RunTook, WalkEnded, WalkTook, WalkIs}
 use Rattle.freespace.specs.declared.runs.Run.{Run}
 use Rattle.freespace.specs.declared.take.Walked.{Walked}
-use Rattle.freespace.proofs.NumberLaws.{refused-some}
+use Rattle.reader.proofs.NumberLaws.{refused-some}
 use Rattle.freespace.proofs.RunLaws.{run_end, run_buckets, run-buckets, run_none}
 use Rattle.freespace.proofs.WalkLaws.{pass-none, pass-left, pass-sum, pass-agree}
 

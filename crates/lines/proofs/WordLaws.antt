@@ -22,10 +22,6 @@ line-is w [] = refl
 line-is w (v ∷ ws) =
     ap (λ (l : List ℕ). w ++ (32 ∷ l)) (line-is v ws ∙ sym (append_assoc v (blanked ws) (10 ∷ [])))
 
--- one run of bytes after another
-pub then : (o : Output) (us bs : List ℕ) {p q : Output} → p ≡ with_bytes o us → q ≡ with_bytes p bs → q ≡ with_bytes o (us ++ bs)
-then o us bs {p} {q} a b = b ∙ ap (λ (x : Output). with_bytes x bs) a ∙ with-with o us bs
-
 -- a number that is read from eight bytes
 pub from-le : (s : List ℕ) → from_le_bytes w64 s ≡ le 8 s
 from-le s = omega (arith, eight_bytes s 0)

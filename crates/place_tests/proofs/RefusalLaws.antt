@@ -18,7 +18,7 @@ use Rattle.reader.specs.Heads.{head_in}
 use Rattle.reader.specs.declared.head.Head.{Head}
 use Rattle.reader.specs.Refusals.{number_of}
 use Rattle.reader.specs.declared.refusal.Refusal.{Refusal}
-use Rattle.freespace.proofs.NumberLaws.{refused-some}
+use Rattle.reader.proofs.NumberLaws.{refused-some}
 
 -- ---- 4 to 9
 -- the first of six tests that fails

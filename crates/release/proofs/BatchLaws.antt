@@ -49,10 +49,6 @@ use Rattle.release.specs.Given.{volume_in, requests_in, change_of}
 use Rattle.release.specs.Outcomes.{Checked, VolumeTables, BatchTables}
 use Rattle.release.specs.declared.batch.Given.{Given}
 
--- what is put after what was put
-pub then-put : (o : Output) (us bs : List ℕ) {p q : Output} → p ≡ with_bytes o us → q ≡ with_bytes p bs → q ≡ with_bytes o (us ++ bs)
-then-put o us bs e f = rw (f, e) (with-with o us bs)
-
 -- ---- the change list
 one_batch : (b : Batch) → change_bytes (b ∷ []) ≡ encode (batch_fields b)
 unfolding change_bytes change_fields

@@ -26,10 +26,6 @@ use Rattle.release_sums.specs.declared.sums.FreedBucket.{FreedBucket}
 use Rattle.release_keys.specs.Tables.{FreedEntry}
 use Rattle.release_keys.proofs.PlaceLaws.{place-some, place_none}
 
--- a refusal's number is not 0
-pub refused-some : (e : Refusal) → number_of e ≡ 0 → ⊥
-refused-some e z = grind arith
-
 -- ---- 15 to 19 at a bucket
 -- of a value of n bytes with d dirty sectors, where f are freed of a bucket of so many sectors
 abbrev pub numbered : ℕ → ℕ → ℕ → ℕ → Bool → ℕ

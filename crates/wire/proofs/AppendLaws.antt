@@ -86,6 +86,10 @@ with-with o us bs =
     ap (λ (xs : List ℕ). moved o xs (max (max o.at (min (o.at + length us) cap)) (min (max o.at (min (o.at + length us) cap) + length bs) cap))) s
     ∙ ap (moved o (put o.bytes.now o.at (take (cap - o.at) (us ++ bs)))) n
 
+-- what is put after what was put
+pub then : (o : Output) (us bs : List ℕ) {p q : Output} → p ≡ with_bytes o us → q ≡ with_bytes p bs → q ≡ with_bytes o (us ++ bs)
+then o us bs e f = rw (f, e) (with-with o us bs)
+
 -- the low two bytes of a number
 pub low_16 : (n : ℕ) → le_bytes 2 (n % 65536) ≡ le_bytes 2 n
 unfolding le_bytes

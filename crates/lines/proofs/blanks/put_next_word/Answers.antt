@@ -1,4 +1,4 @@
-use Rattle.lines.proofs.WordLaws.{then}
+use Rattle.wire.proofs.AppendLaws.{then}
 use Rattle.lines.proofs.blanks.put_next_word.Goals as goal
 
 pub returns : goal.returns

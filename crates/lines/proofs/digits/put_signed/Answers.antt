@@ -1,7 +1,7 @@
 use Rattle.std.proofs.Common.{arith, ap, ◌∙◌}
 use Rattle.wire.specs.Output.{with_bytes}
 use Rattle.lines.proofs.DigitLaws.{signed-plus, signed-minus}
-use Rattle.lines.proofs.WordLaws.{then}
+use Rattle.wire.proofs.AppendLaws.{then}
 use Rattle.lines.proofs.digits.put_signed.Goals as goal
 
 pub returns-then-n-lt9223372036854775808 : goal.returns-then-n-lt9223372036854775808

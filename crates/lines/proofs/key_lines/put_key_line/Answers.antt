@@ -1,7 +1,7 @@
 use Rattle.std.proofs.Common.{ap, ◌∙◌}
 use Rattle.wire.specs.Keys.{key_of}
 use Rattle.wire.specs.Output.{with_bytes}
-use Rattle.lines.proofs.WordLaws.{then}
+use Rattle.wire.proofs.AppendLaws.{then}
 use Rattle.lines.proofs.LineLaws.{key-line, body-rest}
 use Rattle.lines.proofs.key_lines.put_key_line.Goals as goal
 

@@ -1,6 +1,6 @@
 use Rattle.std.proofs.Common.{ap, ◌∙◌}
 use Rattle.wire.specs.Output.{with_bytes}
-use Rattle.lines.proofs.WordLaws.{then}
+use Rattle.wire.proofs.AppendLaws.{then}
 use Rattle.lines.proofs.LineLaws.{named-line}
 use Rattle.lines.proofs.other_lines.put_named.Goals as goal
 

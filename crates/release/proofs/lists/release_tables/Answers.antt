@@ -2,7 +2,7 @@
 use Rattle.std.proofs.Common.{◌≤◌, refl, sym, arith, length, length-take-le}
 use Rattle.std.proofs.lemmas.Result.{err_from_is_err_and}
 use Rattle.calls.specs.Release.{is_emptied}
-use Rattle.release_keys.proofs.RefusalLaws.{refused-some}
+use Rattle.reader.proofs.NumberLaws.{refused-some}
 use Rattle.release_keys.proofs.RowLaws.{rows-held}
 use Rattle.release.specs.Given.{volume_in, requests_in}
 use Rattle.release.proofs.BatchLaws.{tables-few, listed-short}

@@ -4,7 +4,7 @@ use Rattle.std.proofs.lemmas.Result.{err_from_is_err_and}
 use Rattle.calls.specs.Release.{bucket_refusal}
 use Rattle.calls.proofs.answers.RefusalLaws.{verdict-map-stop, verdict-map-next, verdict-map-none}
 use Rattle.release_keys.specs.Tables.{buckets_of}
-use Rattle.release_keys.proofs.RefusalLaws.{refused-some}
+use Rattle.reader.proofs.NumberLaws.{refused-some}
 use Rattle.release_keys.proofs.RowLaws.{rows-next, rows-verdict}
 use Rattle.release_keys.proofs.refusals.refuse.Goals as goal
 

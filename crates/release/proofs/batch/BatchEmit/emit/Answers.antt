@@ -2,7 +2,8 @@
 use Rattle.std.proofs.Common.{refl, ap, arith, ◌∙◌}
 use Rattle.wire.specs.Output.{with_bytes}
 use Rattle.release.specs.Given.{volume_in, requests_in}
-use Rattle.release.proofs.BatchLaws.{then-put, pieces-bounded, tables-few, batch-held, batch-within, emptied-few, emptied-up, emptied-low, generations-are, batch-is}
+use Rattle.wire.proofs.AppendLaws.{then}
+use Rattle.release.proofs.BatchLaws.{pieces-bounded, tables-few, batch-held, batch-within, emptied-few, emptied-up, emptied-low, generations-are, batch-is}
 use Rattle.release.proofs.batch.BatchEmit.emit.Goals as goal
 
 pub total_freed-total-requires : goal.total_freed-total-requires
@@ -34,10 +35,10 @@ returns c =
     let t = d.tables.tabled in
     let u = c.unused_in-unused in
     let allocs = c.put_allocs.ensures (volume_in g) (requests_in g) t refl in
-    let lrus = then-put _ _ _ allocs (c.put_lrus.ensures (volume_in g) (requests_in g) t refl) in
-    let waits = then-put _ _ _ lrus c.put_need_discards.ensures in
-    let gone = then-put _ _ _ waits c.put_backpointers.ensures in
-    let records = then-put _ _ _ gone (c.put_gens.ensures (volume_in g).trees.gens _ d.tables.recorded (generations-are d)) in
-    let rooted = then-put _ _ _ records c.put_roots.ensures in
-    then-put _ _ _ (then-put _ _ _ rooted c.put_rows.ensures) c.put_end.ensures
+    let lrus = then _ _ _ allocs (c.put_lrus.ensures (volume_in g) (requests_in g) t refl) in
+    let waits = then _ _ _ lrus c.put_need_discards.ensures in
+    let gone = then _ _ _ waits c.put_backpointers.ensures in
+    let records = then _ _ _ gone (c.put_gens.ensures (volume_in g).trees.gens _ d.tables.recorded (generations-are d)) in
+    let rooted = then _ _ _ records c.put_roots.ensures in
+    then _ _ _ (then _ _ _ rooted c.put_rows.ensures) c.put_end.ensures
     ∙ ap (with_bytes c.args.out.now) (batch-is d c.total_freed-total.result u.result c.total_freed-total.ensures.1 (u.ensures.2 (volume_in g) (requests_in g) t refl) ∙ c.self.view_is)
