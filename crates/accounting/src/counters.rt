@@ -12,8 +12,11 @@ use wire::rows;
 // The data types whose buckets are counted.
 #[derive(Clone, Copy, PartialEq, Eq, Debug, Drop)]
 pub enum DataType {
+    // Free: 0.
     Free,
+    // In use, by file data: 4.
     User,
+    // Waiting for its discard: 9.
     NeedDiscard,
 }
 

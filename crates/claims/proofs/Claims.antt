@@ -110,8 +110,8 @@ use Rattle.lines.proofs.program.bucket_lines.Statement as lines_s
 -- ---- the six calls
 -- Of each call: the function meets its contract, in every model of memory (`statement`, which the toolchain makes of the contract in
 -- crates/zerglaz/src/lib.rt); its contract asks nothing of the arguments (`Asked`, what a caller must show); and what it says after the call (`Learnt`, what a caller
--- learns). There `a` are the arguments at entry, `e` the same at exit, `now` is what a reference refers to, and `r` is what the call answers: how many bytes it wrote, or the
--- refusal. The same of the functions that C calls, with the number that they return, is in crates/zerglaz_c/proofs/Exported.antt.
+-- learns). There `a` are the arguments at entry, `e` the same at exit, `now` is what a reference refers to, and `r` is what the call answers: how many bytes it wrote
+-- (generations: how many keys it visited), or the refusal. The same of the functions that C calls, with the number that they return, is in crates/zerglaz_c/proofs/Exported.antt.
 pub zerglaz-place : {M : Type 1} → place_s.statement M
 zerglaz-place = place_m.met
 

@@ -16,7 +16,7 @@ use reader::refusal::Refusal;
 use wire::kinds;
 use wire::kinds::Bucket;
 
-// What the walk makes, so far or in the end.
+// What the walk makes, so far or in the end, beside the buckets taken, which stand at the front of an array that is lent.
 #[derive(Clone, Copy, Drop)]
 pub struct Walked {
     // How many buckets are taken.

@@ -22,7 +22,7 @@ fn note_record(s: &[u8], at: u32, table: &mut [u32; 256])
     table[p.offset as usize] = if is_record { at } else { 0 };
 }
 
-// Fills a table of zeros: entry o is the offset of the record at inode 0, offset o, or 0. The reader shows where the keys stand.
+// Fills a table of zeros: entry o is the offset of the record at inode 0, offset o, or 0: an offset in four bytes, where an Option would take eight. The reader shows where the keys stand.
 pub fn find_records(s: &[u8], gens: &[u32], table: &mut [u32; 256])
     requires { KeysAt s.now gens.now (keys_here s.now gens.now) × (table.old ≡ replicate 256 0) }
     ensures { RecordsFound s.now (keys_here s.now gens.now) table.new }

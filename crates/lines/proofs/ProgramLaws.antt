@@ -32,9 +32,9 @@ answer-in {a = a} {written = written} {after = after} before e h =
     }
 
 -- the same of what a call answers
-pub answered-in : {a b : Answer} {after : List ℕ} (r : Result ℕ Refusal) (before : List ℕ) → a ≡ b → made_by r after ≡ outcome a before → AnsweredIn b r after
-answered-in (Ok n) before e h = answer-in before e h
-answered-in (Err x) before e h = answer-in before e h
+pub answered-in : {a b : Answer} (r : Result ℕ Refusal) (before after : List ℕ) → a ≡ b → made_by r after ≡ outcome a before → AnsweredIn b r after
+answered-in (Ok n) before after e h = answer-in before e h
+answered-in (Err x) before after e h = answer-in before e h
 
 -- the call that a list's call byte names
 module _ (s : List ℕ) where

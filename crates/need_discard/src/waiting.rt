@@ -1,6 +1,6 @@
 // The need-discard key that stands for each bucket: a table by bucket, or a search through the keys where there are at most 16 of them for at most 64
 // alloc keys, since to clear the table, 128 KiB, costs as much as a thousand comparisons. The table is filled in one pass, and has the place of a key in
-// two bytes, which is half the memory of its offset.
+// two bytes, which is half the memory of its offset, and 0 for none.
 ghost use Rattle.std.specs.Prelude.{◌≡◌, true, ◌≤◌, ◌<◌, length, replicate};
 ghost use Rattle.wire.specs.Bytes.{All};
 ghost use Rattle.wire.specs.Kinds.{bucket_in_range};

@@ -10,7 +10,7 @@ use crate::pieces;
 use reader::piece;
 use reader::piece::Piece;
 
-// The pieces at these offsets, one for one, at the front of an array.
+// The pieces at these offsets, one for one, at the front of an array: how many they are, the offsets tell.
 pub fn read_pieces(s: &[u8], offsets: &[u32]) -> [Piece; 1024]
     requires { PiecesAt s.now offsets.now (read_call s.now).pieces × (length offsets.now ≤ 1024) }
     ensures { map piece_in (take (length offsets.now) result) ≡ (read_call s.now).pieces }

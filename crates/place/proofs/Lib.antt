@@ -1,4 +1,5 @@
 pub mod CallLaws
 pub mod ChangeLaws
 pub mod ChosenLaws
+pub mod PreparedLaws
 pub mod ReadLaws

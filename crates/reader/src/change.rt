@@ -51,7 +51,7 @@ fn tag_after(last: u8, tag: u8) -> bool
     last == 76 || last <= tag
 }
 
-// Whether a change list keeps its layout.
+// Whether a change list keeps its layout. The place, not `next_field`, tells the end of the list from a field that passes it.
 pub fn check_change(s: &[u8]) -> bool
     ensures { result ≡ change_laid_out s.now }
 {

@@ -6,7 +6,7 @@ ghost use Rattle.reader.specs.Refusals.{number_of};
 pub enum Refusal {
     // 1: the scratch that is lent is too short.
     ShortScratch,
-    // 2: the list breaks the layout, or names another call.
+    // 2: the list breaks the layout, names another call or holds requests of another; or the buckets asked for do not ascend.
     Layout,
     // 3: a limit is passed.
     Limit,
@@ -14,11 +14,11 @@ pub enum Refusal {
     NoSectors,
     // 5: the checksum option is none that there is.
     ChecksumOption,
-    // 6: a piece's compression kind is none that there is.
+    // 6: a compression kind is none that there is.
     CompressionKind,
-    // 7: a piece is compressed and the option gives no checksum.
+    // 7: a kind other than 0 meets checksum option 0.
     NoChecksum,
-    // 8: the block sectors divide the bucket or 128 not.
+    // 8: the block sectors do not divide both the bucket sectors and 128.
     BlockSectors,
     // 9: a piece's sectors are not as a bucket, a block and its kind allow.
     PieceSectors,
@@ -26,13 +26,13 @@ pub enum Refusal {
     RunsOverlap,
     // 11: too few buckets are free.
     TooFewFree,
-    // 12: the walk meets a run that began before bucket 0.
+    // 12: the walk meets a run whose size is above its offset.
     RunBeforeBuckets,
-    // 13: the walk meets a bucket in use.
+    // 13: the walk would take a bucket that is in use.
     BucketInUse,
-    // 14: a released piece does not lie within a bucket.
+    // 14: a piece has 0 or over 128 sectors, passes the end of its bucket, or has a bucket that is none.
     OutsideBucket,
-    // 15: a freed bucket has no alloc key.
+    // 15: a bucket has no alloc key at inode 0.
     NoAlloc,
     // 16: its alloc value is too short.
     ShortAlloc,
@@ -40,7 +40,7 @@ pub enum Refusal {
     DirtyPastBucket,
     // 18: more is freed of it than is dirty.
     FreedPastDirty,
-    // 19: its generation record is too short.
+    // 19: it is emptied and its generation record is too short.
     ShortGens,
     // 20: a discard's batch has no buckets.
     NoBatch,

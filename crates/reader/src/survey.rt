@@ -61,7 +61,7 @@ fn passes(
         || !table::note(counts, index, table::rank_of(tag), n, start)
 }
 
-// The pass over a list in any order, of the call that is asked for, or of whatever call its head names: field 1 may stand anywhere, and no order is told; none where the list breaks the layout. The table that is lent shows the bound.
+// The pass over a list in any order, of the call that is asked for, or of whatever call its head names: field 1 may stand anywhere, and no order is told; none where the list breaks the layout. The table that is lent shows the bound. The place, not `next_field`, tells the end of a list from a field that passes it, here and below.
 fn survey_any(
     s: &[u8],
     asked: Option<u8>,
@@ -96,7 +96,7 @@ fn survey_any(
     })
 }
 
-// The pass over a list that begins with field 1 and whose other fields are in order, with counts of 0; none of any other list. The same shows the bound.
+// The pass over a list that begins with field 1 and whose other fields are in order, with counts of 0; none of any other list. The same shows the bound. 0 stands below every tag, so that the first field follows.
 fn survey_ordered(
     s: &[u8],
     asked: Option<u8>,

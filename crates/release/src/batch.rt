@@ -68,7 +68,7 @@ impl<'a> Batch<'a> {
 impl<'a> Emit for Batch<'a> {
     ghost bytes = { λ b. b };
 
-    // The one batch (free_and_cut), in the order of its tags.
+    // The one batch, in the order of its tags.
     fn emit(&self, out: &mut Output) {
         let g = &self.given;
         let sectors = g.head.bucket_sectors as u64;

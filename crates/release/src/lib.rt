@@ -1,4 +1,4 @@
-// Release: free_and_cut's tail, and the call.
+// Release: its tables, its batch, and the call.
 #![tactic(auto)]
 
 pub mod batch;

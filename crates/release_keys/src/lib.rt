@@ -1,4 +1,4 @@
-// The freed buckets of a release: the tests of each, its keys, what its rows count; and empty_bucket.
+// The freed buckets of a release: the tests of each, its keys, and what its rows count.
 #![tactic(auto)]
 
 pub mod alloc_keys;

@@ -10,7 +10,7 @@ use wire::{fields, keys, kinds, positions};
 // The section of the reserved buckets.
 pub const BUCKETS: u8 = 64;
 
-// The section at an index, in the order of a volume. The caller's loop shows the bound.
+// The section at an index, in the order of a volume: of tags, as the bytes of a list have them. The caller's loop shows the bound.
 pub fn section_at(i: usize) -> u8
     requires { i < 7 }
     ensures { result ≡ get_or sections i 0 }

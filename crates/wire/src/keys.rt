@@ -58,7 +58,7 @@ pub fn read_value(s: &[u8], from: usize, len: usize) -> Value
     Value { bytes, len }
 }
 
-// The key whose body of len bytes starts at a place of a list. `next_key`, or the layout that refusal 2 tests, shows the bounds.
+// The key whose body of len bytes starts at a place of a list. `key_sized`, or the layout that refusal 2 tests, shows the bounds.
 pub fn read_key(s: &[u8], start: usize, len: usize) -> Bkey
     requires { (start + len ≤ length s.now) × (37 ≤ len) × (len ≤ 293) }
     ensures { result ≡ held (key_of (take len (drop start s.now))) }

@@ -1,4 +1,4 @@
-// The C boundary: the exported functions, each with the promise of the call of crate zerglaz that it makes.
+// The C boundary: the exported functions, each with the promise of the call of crate zerglaz that it makes, of the number and the count that C is told.
 #![tactic(auto)]
 
 ghost use Rattle.std.specs.Prelude.{◌≡◌, List, ℕ, length};
