@@ -7,8 +7,7 @@ ghost use Rattle.calls.specs.ChangeList.{taken_field, sectors_field, change_byte
 ghost use Rattle.calls.specs.Place.{root_missing, roots_if};
 ghost use Rattle.change_fields.specs.FieldBytes.{roots_bytes};
 ghost use Rattle.place.specs.Change.{placement, root_is_wanted, key_fields, other_fields};
-ghost use Rattle.place.specs.Prepared.{Prepared};
-ghost use Rattle.place.proofs.PreparedLaws.{prepared-prop};
+ghost use Rattle.place.specs.Prepared.{Prepared, prepared-prop};
 
 use accounting::placement;
 use accounting::tally::Tallies;

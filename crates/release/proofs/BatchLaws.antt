@@ -14,9 +14,6 @@ use Rattle.wire.specs.Rows.{Counters, row_field}
 use Rattle.wire.specs.Kinds.{bucket_below, bucket_in_range, same_bucket}
 use Rattle.wire.specs.Positions.{backpointer_at}
 use Rattle.wire.specs.declared.kinds.Bucket.{Bucket}
-use Rattle.wire.specs.Output.{with_bytes}
-use Rattle.wire.specs.declared.output.Output.{Output}
-use Rattle.wire.proofs.AppendLaws.{with-with}
 use Rattle.wire.proofs.EncodeLaws.{encode-append, encode_one}
 use Rattle.calls.specs.Accounting.{counted_rows, sectors_row, buckets_row}
 use Rattle.calls.specs.CallList.{Volume, Freed, tree_fields}

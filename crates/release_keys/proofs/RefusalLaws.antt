@@ -20,8 +20,6 @@ use Rattle.calls.specs.Refusals.{test, verdict}
 use Rattle.calls.specs.Release.{freed_in, alloc_value, dirty_at, is_emptied, bucket_refusal}
 use Rattle.calls.specs.Trees.{lookup}
 use Rattle.reader.specs.KeyHere.{key_here}
-use Rattle.reader.specs.Refusals.{number_of}
-use Rattle.reader.specs.declared.refusal.Refusal.{Refusal}
 use Rattle.release_sums.specs.declared.sums.FreedBucket.{FreedBucket}
 use Rattle.release_keys.specs.Tables.{FreedEntry}
 use Rattle.release_keys.proofs.PlaceLaws.{place-some, place_none}
