@@ -65,16 +65,10 @@ pub fn put_sectors_row(out: &mut Output, sectors: i64)
     put_counted(out, 0x0204_0101_0000_0000, 0, &[sectors]);
 }
 
-// Buckets, sectors and unused sectors of a data type.
-pub fn put_buckets_row(
-    out: &mut Output,
-    data_type: DataType,
-    buckets: i64,
-    sectors: i64,
-    unused: i64,
-)
-    ensures { out.new ≡ with_bytes out.old (rows_bytes (buckets_row (number_of data_type) buckets sectors unused ∷ [])) }
+// Buckets, sectors and unused sectors of a data type, by its number.
+pub fn put_buckets_row(out: &mut Output, data_type: u8, buckets: i64, sectors: i64, unused: i64)
+    ensures { out.new ≡ with_bytes out.old (rows_bytes (buckets_row data_type buckets sectors unused ∷ [])) }
 {
-    let inode = 0x0300_0000_0000_0000 + data_type.number() as u64 * 0x0100_0000_0000;
+    let inode = 0x0300_0000_0000_0000 + data_type as u64 * 0x0100_0000_0000;
     put_counted(out, inode, 0, &[buckets, sectors, unused]);
 }

@@ -14,6 +14,12 @@ pub fn put_rows(out: &mut Output, buckets: u64)
     requires { buckets < 2 ^ 63 }
     ensures { out.new ≡ with_bytes out.old (rows_bytes (buckets_row 0 (pos buckets) (pos 0) (pos 0) ∷ buckets_row 9 (neg_ℤ (pos buckets)) (pos 0) (pos 0) ∷ [])) }
 {
-    counters::put_buckets_row(out, DataType::Free, rows::plus(buckets), 0, 0);
-    counters::put_buckets_row(out, DataType::NeedDiscard, rows::minus(buckets), 0, 0);
+    counters::put_buckets_row(out, DataType::Free.number(), rows::plus(buckets), 0, 0);
+    counters::put_buckets_row(
+        out,
+        DataType::NeedDiscard.number(),
+        rows::minus(buckets),
+        0,
+        0,
+    );
 }

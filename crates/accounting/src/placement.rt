@@ -42,8 +42,14 @@ pub fn put_taken_rows(out: &mut Output, taken: u64, sectors: u64, stored: u64)
     let unused = counters::difference(taken * sectors, stored);
     let stored = rows::plus(stored);
     counters::put_sectors_row(out, stored);
-    counters::put_buckets_row(out, DataType::Free, rows::minus(taken), 0, 0);
-    counters::put_buckets_row(out, DataType::User, rows::plus(taken), stored, unused);
+    counters::put_buckets_row(out, DataType::Free.number(), rows::minus(taken), 0, 0);
+    counters::put_buckets_row(
+        out,
+        DataType::User.number(),
+        rows::plus(taken),
+        stored,
+        unused,
+    );
 }
 
 // How many words an extent's value has, by the checksum option.

@@ -18,10 +18,16 @@ pub fn put_rows(out: &mut Output, emptied: u64, total: u64, kept: u64, lost: u64
     counters::put_sectors_row(out, freed);
     counters::put_buckets_row(
         out,
-        DataType::User,
+        DataType::User.number(),
         rows::minus(emptied),
         freed,
         counters::difference(kept, lost),
     );
-    counters::put_buckets_row(out, DataType::NeedDiscard, rows::plus(emptied), 0, 0);
+    counters::put_buckets_row(
+        out,
+        DataType::NeedDiscard.number(),
+        rows::plus(emptied),
+        0,
+        0,
+    );
 }

@@ -70,16 +70,16 @@ fn pass_below(
 }
 
 impl<'a> Rest<'a> {
-    // All keys of a section, by the table of the volume.
-    pub fn new(section: u8, vol: &'a [u8], keys: &'a [u32]) -> Rest<'a>
+    // All keys of a section, by the table of the volume, after as many written keys as `count`.
+    pub fn new(section: u8, vol: &'a [u8], keys: &'a [u32], count: usize) -> Rest<'a>
         requires { All (StandsWithin section vol.now) keys.now }
-        ensures { result ≡ left_in section vol.now keys.now 0 }
+        ensures { result ≡ left_in section vol.now keys.now count }
     {
         Rest {
             section,
             vol,
             keys,
-            count: 0,
+            count,
         }
     }
 

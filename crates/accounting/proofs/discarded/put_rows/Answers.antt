@@ -3,4 +3,4 @@ use Rattle.accounting.proofs.discarded.put_rows.Goals as goal
 
 pub returns : goal.returns
 returns c =
-    simp (c.put_buckets_row-2.ensures, c.put_buckets_row.ensures, passed c.plus.type_inv c.plus.ensures, passed c.minus.type_inv c.minus.ensures, rows-then)
+    simp (c.put_buckets_row-2.ensures, c.put_buckets_row.ensures, c.number-2.ensures, c.number.ensures, passed c.plus.type_inv c.plus.ensures, passed c.minus.type_inv c.minus.ensures, rows-then)
