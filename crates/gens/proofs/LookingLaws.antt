@@ -51,10 +51,13 @@ unfolding joint_lookup keys_visited
 visited-none ks [] h = refl
 visited-none ks (b ∷ bs) h = absurd (omega arith)
 
--- ---- the bucket that a table's number names, among the buckets that all of them name
-pub named-at : {N : Type 0} (named : N → Bucket) (ns : List N) (i : ℕ) {n : N} {b : Bucket} → i < length ns → n ≡ get_or ns i n → b ≡ named n
-    → b ≡ get_or (map named ns) i no_bucket
-named-at named ns i {n} h e f = f ∙ ap named e ∙ sym (get_or-map named ns i n no_bucket h)
+-- ---- the buckets in a table, which are those that its numbers name
+module _ {N : Type 0} (named : N → Bucket) (ns : List N) {bs : List Bucket} (each : bs ≡ map named ns) where
+  pub named-count : length bs ≡ length ns
+  named-count = ap length each ∙ length-map ns named
+
+  pub named-at : (i : ℕ) {n : N} {b : Bucket} → i < length ns → n ≡ get_or ns i n → b ≡ named n → b ≡ get_or bs i no_bucket
+  named-at i {n} h e f = f ∙ ap named e ∙ sym (ap (λ (cs : List Bucket). get_or cs i no_bucket) each ∙ get_or-map named ns i n no_bucket h)
 
 -- ---- the loop
 module _ (ks : List Key) (bs : List Bucket) where

@@ -23,12 +23,7 @@ bucket_gens-requires-clause-keys_at c =
     let k = (gens-part 0 true _ _ c.args.first c.args.ends (volume-kept _ c.requires.0) c.requires.1).1 in
     (keyed k, rw (keys-here k) at (gens-ascend _ (volume-passed _ c.requires.0).once))
 
-pub bucket_gens-requires-clause-buckets_value : goal.bucket_gens-requires-clause-buckets_value
-unfolding buckets_in
-bucket_gens-requires-clause-buckets_value c = (c.requires.2, omega (arith, c.if-out-buckets.false))
-
 pub returns : goal.returns
-unfolding buckets_in
 returns c =
     let k = (gens-part 0 true _ _ c.args.first c.args.ends (volume-kept _ c.requires.0) c.requires.1).1 in
     let ns = c.args.buckets.now in

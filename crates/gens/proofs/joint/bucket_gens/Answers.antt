@@ -1,30 +1,29 @@
 use Rattle.std.proofs.Common.{sym, arith, ◌∙◌}
-use Rattle.std.proofs.lemmas.List.{length-map}
 use borrow.Author.Tests.{eqb-true, eqb-false}
 use Rattle.gens.proofs.LookupLaws.{look-read, gen-read}
-use Rattle.gens.proofs.LookingLaws.{named-at, looking-within, looking-known, looking-next, looked-none, looked-some}
+use Rattle.gens.proofs.LookingLaws.{named-count, named-at, looking-within, looking-known, looking-next, looked-none, looked-some}
 use Rattle.gens.proofs.joint.bucket_gens.Goals as goal
 
 pub keys_up_to-k-requires : goal.keys_up_to-k-requires
 keys_up_to-k-requires g c =
-    let named = g.N.BucketNumber.named in
     let ns = c.args.buckets.now in
-    let next = named-at named ns c.loop-i.i c.loop-i-test.true c.index-buckets-i.is c.bucket-b.ensures in
-    (c.requires.keys_at.0, looking-known _ _ c.loop-i.invariant next c.requires.buckets_value.0 (omega (arith, length-map ns named, c.loop-i-test.true)))
+    let each = g.met.N.BucketNumber.each_named ns in
+    let next = named-at _ ns each c.loop-i.i c.loop-i-test.true c.index-buckets-i.is c.bucket-b.ensures in
+    (c.requires.keys_at.0, looking-known _ _ c.loop-i.invariant next c.requires.buckets_value.0 (omega (arith, named-count _ ns each, c.loop-i-test.true)))
 
 pub loop-i-preserved : goal.loop-i-preserved
 loop-i-preserved g c =
-    let named = g.N.BucketNumber.named in
     let ns = c.args.buckets.now in
-    let count = length-map ns named in
-    let next = named-at named ns c.loop-i.i c.loop-i-test.true c.index-buckets-i.is c.bucket-b.ensures in
+    let each = g.met.N.BucketNumber.each_named ns in
+    let count = named-count _ ns each in
+    let next = named-at _ ns each c.loop-i.i c.loop-i-test.true c.index-buckets-i.is c.bucket-b.ensures in
     looking-next _ _ c.loop-i.invariant next c.keys_up_to-k.result c.record_gen.result (omega (arith, count, c.loop-i-test.true))
     (omega (arith, count, c.requires.buckets_value.1)) c.keys_up_to-k.ensures
     (c.record_gen.ensures ∙ gen-read _ _ (look-read c.record_up_to.ensures))
 
 pub returns-then-is_empty : goal.returns-then-is_empty
 returns-then-is_empty g c =
-    let count = length-map c.args.buckets.now g.N.BucketNumber.named in
+    let count = named-count _ c.args.buckets.now (g.met.N.BucketNumber.each_named c.args.buckets.now) in
     looked-none _ _ c.loop-i.invariant c.requires.buckets_value.0 c.requires.keys_at.1 (omega (arith, count, c.loop-i-test.false))
     (count ∙ eqb-true _ 0 (sym c.if-is_empty.ensures))
 
@@ -33,6 +32,6 @@ overflow_add-k g c = omega (arith, looking-within _ _ c.loop-i.invariant, c.requ
 
 pub returns : goal.returns
 returns g c =
-    let count = length-map c.args.buckets.now g.N.BucketNumber.named in
+    let count = named-count _ c.args.buckets.now (g.met.N.BucketNumber.each_named c.args.buckets.now) in
     looked-some _ _ c.loop-i.invariant c.requires.buckets_value.0 c.requires.keys_at.1 (omega (arith, count, c.loop-i-test.false))
     (λ none. eqb-false _ 0 (sym c.if-is_empty.ensures) (sym count ∙ none)) (omega (arith, c.requires.keys_at.0.count))
