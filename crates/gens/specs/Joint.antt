@@ -1,6 +1,7 @@
 -- The joint lookup, key by key.
-use Rattle.std.specs.Prelude.{ℕ, suc, ◌≡◌, cond, List, [], ◌∷◌, ◌++◌, length, drop}
+use Rattle.std.specs.Prelude.{ℕ, suc, ◌≡◌, cond, List, [], ◌∷◌, ◌++◌, length, drop, map, refl}
 use Rattle.wire.specs.Keys.{Key}
+use Rattle.wire.specs.Kinds.{bucket_is, buckets_in}
 use Rattle.wire.specs.Order.{pos_less}
 use Rattle.wire.specs.declared.bpos.Bpos.{Bpos}
 use Rattle.wire.specs.declared.kinds.Bucket.{Bucket}
@@ -15,3 +16,8 @@ keys_up_to p (k ∷ ks) = cond (pos_less p k.pos) 0 (suc (keys_up_to p ks))
 pub record Looked (gens : List Key) (bs : List Bucket) (before after : List ℕ) (visited : ℕ) : Type 0 where
   pub output : after ≡ (joint_lookup gens bs).generations ++ drop (length bs) before
   pub count : visited ≡ (joint_lookup gens bs).visited
+
+-- the buckets in a table are those that its numbers name
+pub each_named : (ns : List ℕ) → buckets_in ns ≡ map bucket_is ns
+unfolding buckets_in
+each_named ns = refl

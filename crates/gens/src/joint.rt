@@ -1,19 +1,57 @@
 // The joint lookup: the generations of buckets that ascend, in one walk over the keys of tree 14.
-ghost use Rattle.std.specs.Prelude.{◌≡◌, true, ◌≤◌, ◌&&◌, eqb, length};
-ghost use Rattle.wire.specs.Kinds.{bucket_below, buckets_in};
+ghost use Rattle.std.specs.Prelude.{◌≡◌, true, ◌≤◌, ◌&&◌, eqb, List, length, map};
+ghost use Rattle.wire.specs.Kinds.{bucket_below, bucket_is, buckets_in};
 ghost use Rattle.wire.specs.Order.{pos_same};
+ghost use Rattle.wire.specs.declared.kinds.Bucket.{Bucket};
 ghost use Rattle.wire.specs.Positions.{gens_at};
 ghost use Rattle.calls.specs.CallList.{keys_ascend};
 ghost use Rattle.calls.specs.Lists.{in_order};
 ghost use Rattle.reader.specs.KeyHere.{key_here, keys_here, Whole};
 ghost use Rattle.reader.specs.Located.{KeysAt};
-ghost use Rattle.gens.specs.Joint.{keys_up_to, Looked};
+ghost use Rattle.gens.specs.Joint.{keys_up_to, Looked, each_named};
 ghost use Rattle.gens.specs.Records.{RecordIs};
 
 use crate::lookup;
 use reader::key;
 use wire::kinds::Bucket;
 use wire::{bpos, positions};
+
+// A number that names a bucket, in 32 bits or in 64. A table of such numbers is read as the buckets that they name.
+pub trait BucketNumber: Copy {
+    ghost named: { Self → Bucket };
+
+    ghost buckets_in: { List Self → List Bucket };
+
+    fn bucket(self) -> Bucket
+        ensures { result ≡ named self };
+
+    // The buckets in a table are those that its numbers name, one for each.
+    ghost each_named: { (ns : List Self) → buckets_in ns ≡ map named ns };
+}
+
+impl BucketNumber for u32 {
+    ghost named = { bucket_is };
+
+    ghost buckets_in = { buckets_in };
+
+    ghost each_named = { each_named };
+
+    fn bucket(self) -> Bucket {
+        Bucket(self as u64)
+    }
+}
+
+impl BucketNumber for u64 {
+    ghost named = { bucket_is };
+
+    ghost buckets_in = { buckets_in };
+
+    ghost each_named = { each_named };
+
+    fn bucket(self) -> Bucket {
+        Bucket(self)
+    }
+}
 
 // How many keys stand up to a bucket's record, where so many are known to. The reader shows where the keys stand, here and below.
 fn keys_up_to(s: &[u8], gens: &[u32], known: usize, b: Bucket) -> usize
@@ -47,14 +85,14 @@ fn record_up_to(s: &[u8], gens: &[u32], k: usize, b: Bucket) -> Option<usize>
 }
 
 // Fills in the generation of each bucket, and tells how many keys are visited: up to and with the first past the last bucket's record.
-pub fn bucket_gens(out: &mut [u8], s: &[u8], gens: &[u32], buckets: &[u32]) -> usize
+pub fn bucket_gens<N: BucketNumber>(out: &mut [u8], s: &[u8], gens: &[u32], buckets: &[N]) -> usize
     requires keys_at { KeysAt s.now gens.now (keys_here s.now gens.now) × (keys_ascend (keys_here s.now gens.now) ≡ true) }
-    requires buckets_value { (in_order bucket_below (buckets_in buckets.now) ≡ true) × (length buckets.now ≤ length out.old) }
-    ensures { Looked (keys_here s.now gens.now) (buckets_in buckets.now) out.old out.new result }
+    requires buckets_value { (in_order bucket_below (N.buckets_in buckets.now) ≡ true) × (length buckets.now ≤ length out.old) }
+    ensures { Looked (keys_here s.now gens.now) (N.buckets_in buckets.now) out.old out.new result }
 {
     let mut k: usize = 0;
     for (i, n) in buckets.iter().enumerate() {
-        let b = Bucket(*n as u64);
+        let b = n.bucket();
         k = keys_up_to(s, gens, k, b);
         out[i] = lookup::record_gen(s, record_up_to(s, gens, k, b), b);
     }

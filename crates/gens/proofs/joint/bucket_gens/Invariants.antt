@@ -4,4 +4,4 @@ use Rattle.gens.proofs.LookingLaws.{Looking}
 use Rattle.gens.proofs.joint.bucket_gens.Given as goal
 
 abbrev pub invariant-loop-i : goal.invariant-loop-i
-invariant-loop-i l = Looking (keys_here l.s l.gens) l.buckets l.fn.out l.out l.k l.i
+invariant-loop-i g l = Looking (keys_here l.s l.gens) (g.N.BucketNumber.buckets_in l.buckets) l.fn.out l.out l.k l.i
