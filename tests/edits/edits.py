@@ -39,9 +39,6 @@ FACT_FAILS = re.compile(
 # The same of a function that has no walk: the facts that are left of it are not found.
 NOT_FOUND = re.compile(r"^fn (\S+): no proof: .*; (`search` did not prove `.*)$", re.M)
 
-# What follows from another refusal: declarations that cite one that is not admitted.
-FOLLOWS = re.compile(r"declarations? that depends? on .*, which was not admitted, (was|were) not checked")
-
 # The name of a place, of a goal, of a step or of a test's outcome in a walk.
 STEP = re.compile(r"(Need|Then|Else|Joined|After)-[\w-]+|if-[\w-]+|(true|false)(-raw)?")
 
@@ -105,8 +102,7 @@ def fault_of(status, printed):
         return "NOT REFUSED: the crate is still proved", ""
     if status != 1 or not re.search(r"^logic=not-proved", printed, re.M):
         return "BAD EDIT: it did not reach the prover", printed.strip().splitlines()[-1][:200]
-    errors = re.finditer(r"^(?:\./)?(proofs/\S+?:\d+:\d+): error: ((?:.|\n  )*)", printed, re.M)
-    first = next((error for error in errors if not FOLLOWS.search(error.group(2))), None)
+    first = re.search(r"^(?:\./)?(proofs/\S+?:\d+:\d+): error: ((?:.|\n  )*)", printed, re.M)
     left = NOT_FOUND.search(printed)
     if first and not FACT_FAILS.search(first.group(2)):
         return f"NOT AT A FACT: {first.group(2)[:300]}", first.group(1)

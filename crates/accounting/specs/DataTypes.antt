@@ -4,7 +4,7 @@ use Rattle.accounting.specs.declared.counters.DataType.{DataType}
 use Rattle.accounting.specs.declared.counters.DataType.TheVariants.{Free, User, NeedDiscard}
 
 -- the number of a data type
-abbrev pub number_of : DataType → ℕ
-number_of Free = 0
-number_of User = 4
-number_of NeedDiscard = 9
+abbrev pub type_number : DataType → ℕ
+type_number Free = 0
+type_number User = 4
+type_number NeedDiscard = 9

@@ -3,7 +3,7 @@ ghost use Rattle.std.specs.Prelude.{◌≡◌, ◌<◌, ◌≤◌, ◌^◌, not,
 ghost use Rattle.wire.specs.Output.{with_bytes};
 ghost use Rattle.calls.specs.Lists.{any_of};
 ghost use Rattle.calls.specs.Accounting.{is_zero, sectors_row, buckets_row};
-ghost use Rattle.accounting.specs.DataTypes.{number_of};
+ghost use Rattle.accounting.specs.DataTypes.{type_number};
 ghost use Rattle.accounting.specs.RowBytes.{rows_bytes};
 
 use wire::output::Output;
@@ -23,7 +23,7 @@ pub enum DataType {
 impl DataType {
     // Its number.
     pub fn number(self) -> u8
-        ensures { result ≡ number_of self }
+        ensures { result ≡ type_number self }
     {
         match self {
             DataType::Free => 0,

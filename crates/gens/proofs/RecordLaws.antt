@@ -23,7 +23,7 @@ use Rattle.reader.specs.KeyHere.{key_here, Whole}
 use Rattle.reader.specs.Located.{KeysAt}
 use Rattle.reader.proofs.KeyHereLaws.{whole-at}
 use Rattle.wire.specs.Kinds.{bucket_in_range}
-use Rattle.gens.specs.Records.{record_noted, record_at, place_in, RecordStands, RecordsFound}
+use Rattle.gens.specs.Records.{record_noted, record_at, record_place, RecordStands, RecordsFound}
 
 -- no key yet
 pub noting-start : (s table : List ℕ) → table ≡ replicate 256 0 → RecordsFound s [] table
@@ -32,7 +32,7 @@ noting-start s table e =
     let z : (o : ℕ) → o < 256 → get_or table o 0 ≡ 0 = λ o h. ap (λ (t : List ℕ). get_or t o 0) e ∙ get_or-replicate {A = ℕ} 256 o 0 0 h in
     record {
       stand = record { count = ap length e ∙ length-replicate {A = ℕ} 256 0; whole = λ o h. rw (z o h) tt };
-      is = λ b h. ap (λ (n : ℕ). record_at s (place_in n)) (z (b.0 / 256) (omega (arith, ltb-true b.0 65536 h)));
+      is = λ b h. ap (λ (n : ℕ). record_at s (record_place n)) (z (b.0 / 256) (omega (arith, ltb-true b.0 65536 h)));
     }
 
 -- a key that no bucket's record is
@@ -63,17 +63,17 @@ module _ (s : List ℕ) (at : ℕ) (w : Whole s at) (ks : List Key) (table : Lis
   abbrev entry : ℕ
   entry = cond (eqb k.type 30) at 0
 
-  entry-is : record_at s (place_in entry) ≡ cond (eqb k.type 30) (some k) none
+  entry-is : record_at s (record_place entry) ≡ cond (eqb k.type 30) (some k) none
   entry-is = go (eqb k.type 30)
     where
-      go : (t : Bool) → record_at s (place_in (cond t at 0)) ≡ cond t (some (key_here s at)) none
+      go : (t : Bool) → record_at s (record_place (cond t at 0)) ≡ cond t (some (key_here s at)) none
       go true = rw (ne_eqb at 0 (λ z. omega (arith, w.after)))
       go false = refl
 
-  entry_whole : RecordStands s (place_in entry)
+  entry_whole : RecordStands s (record_place entry)
   entry_whole = go (eqb k.type 30)
     where
-      go : (t : Bool) → RecordStands s (place_in (cond t at 0))
+      go : (t : Bool) → RecordStands s (record_place (cond t at 0))
       go true = rw (ne_eqb at 0 (λ z. omega (arith, w.after))) w
       go false = tt
 
@@ -99,20 +99,20 @@ module _ (s : List ℕ) (at : ℕ) (w : Whole s at) (ks : List Key) (table : Lis
       same = get_or-set_same table k.pos.offset entry 0 inside
 
       at-index : (j : ℕ) → j < 256 → (t : Bool) → eqb j k.pos.offset ≡ t
-          → RecordStands s (place_in (get_or (set table k.pos.offset entry) j 0))
+          → RecordStands s (record_place (get_or (set table k.pos.offset entry) j 0))
       at-index j h true e = rw (eqb-true j k.pos.offset e, same) entry_whole
       at-index j h false e =
           rw (get_or-set_other table k.pos.offset j entry 0 (eqb-false j k.pos.offset e)) (n.stand.whole j h)
 
       of-bucket : (b : Bucket) → bucket_in_range b ≡ true → (t : Bool) → eqb (b.0 / 256) k.pos.offset ≡ t
-          → record_at s (place_in (get_or (set table k.pos.offset entry) (b.0 / 256) 0)) ≡ gen_record (k ∷ ks) b
+          → record_at s (record_place (get_or (set table k.pos.offset entry) (b.0 / 256) 0)) ≡ gen_record (k ∷ ks) b
       of-bucket b h true e =
           let q = eqb-true (b.0 / 256) k.pos.offset e in
-          ap (λ (m : ℕ). record_at s (place_in m)) (ap (λ (x : ℕ). get_or (set table k.pos.offset entry) x 0) q ∙ same) ∙ entry-is
+          ap (λ (m : ℕ). record_at s (record_place m)) (ap (λ (x : ℕ). get_or (set table k.pos.offset entry) x 0) q ∙ same) ∙ entry-is
           ∙ record-here k ks b (at-gens b k q i z)
       of-bucket b h false e =
           let d = eqb-false (b.0 / 256) k.pos.offset e in
-          ap (λ (m : ℕ). record_at s (place_in m)) (get_or-set_other table k.pos.offset (b.0 / 256) entry 0 d) ∙ n.is b h
+          ap (λ (m : ℕ). record_at s (record_place m)) (get_or-set_other table k.pos.offset (b.0 / 256) entry 0 d) ∙ n.is b h
           ∙ record_same k ks b (λ c. d (ap (λ (p : Bpos). p.offset) (pos-cmp.eq-path (gens_at b) k.pos c)))
 
   pub noting-on : (next : List ℕ) → next ≡ record_noted at k table → RecordsFound s (k ∷ ks) next

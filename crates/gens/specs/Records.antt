@@ -14,8 +14,8 @@ record_noted at k table =
     (set table k.pos.offset (cond (eqb k.type 30) at 0)) table
 
 -- the place that an entry names, or none where it is 0
-abbrev pub place_in : ℕ → Maybe ℕ
-place_in at = cond (eqb at 0) None (Some at)
+abbrev pub record_place : ℕ → Maybe ℕ
+record_place at = cond (eqb at 0) None (Some at)
 
 -- the key at a place, or none
 abbrev pub record_at : List ℕ → Maybe ℕ → Option Key
@@ -35,11 +35,11 @@ pub record RecordIs (s : List ℕ) (gens : List Key) (b : Bucket) (at : Maybe �
 -- each entry of a table stands for a key, or for none
 pub record RecordsStand (s table : List ℕ) : Type 0 where
   pub count : length table ≡ 256
-  pub whole : (o : ℕ) → o < 256 → RecordStands s (place_in (get_or table o 0))
+  pub whole : (o : ℕ) → o < 256 → RecordStands s (record_place (get_or table o 0))
 
 -- the place of a bucket's record
 abbrev pub record_entry : List ℕ → Bucket → Maybe ℕ
-record_entry table b = place_in (get_or table (b.0 / 256) 0)
+record_entry table b = record_place (get_or table (b.0 / 256) 0)
 
 -- the table finds the record that holds a bucket's generation
 pub record RecordsFound (s : List ℕ) (gens : List Key) (table : List ℕ) : Type 0 where

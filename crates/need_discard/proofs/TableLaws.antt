@@ -19,7 +19,7 @@ use Rattle.calls.specs.Lists.{is_none}
 use Rattle.calls.specs.Discard.{waiting_key}
 use Rattle.reader.specs.KeyHere.{key_here, keys_here}
 use Rattle.need_discard.specs.Kept.{bucket_here, NeedKept}
-use Rattle.need_discard.specs.Table.{is_of_bucket, Entry, place_in, Entries, WaitingTable, wait_noted}
+use Rattle.need_discard.specs.Table.{is_of_bucket, Entry, need_place, Entries, WaitingTable, wait_noted}
 
 -- one key more: the last that names a bucket stands
 pub waiting-more : (ks : List Key) (k : Key) (b : Bucket) → waiting_key (ks ++ k ∷ []) b ≡ cond (is_of_bucket k b) (some k) (waiting_key ks b)
@@ -41,7 +41,7 @@ entry_kept s needs ks ls b (Some i) n q = (n.0, q ∙ n.1)
 
 -- the table's entry of the key at place i
 entry_new : (s needs : List ℕ) (ls : List Key) (b : Bucket) {f : ℕ} (i : ℕ) → i < length needs → f ≡ i + 1
-    → waiting_key ls b ≡ some (key_here s (get_or needs i 0)) → Entry s needs ls b (place_in f)
+    → waiting_key ls b ≡ some (key_here s (get_or needs i 0)) → Entry s needs ls b (need_place f)
 entry_new s needs ls b {f} i h p q =
     let e : f - 1 ≡ i = omega arith in
     rw (ne_eqb f 0 (λ z. omega arith), e) (h, q)
@@ -67,29 +67,29 @@ module _ (s needs table : List ℕ) (ks : List Key) (i : ℕ) (h : i < length ne
   o = get_or needs i 0
 
   -- a key of another type names no bucket
-  other : is_set (key_here s o) ≡ false → Entry s needs (ks ++ key_here s o ∷ []) b (place_in (get_or table b.0 0))
-  other e = entry_kept s needs ks (ks ++ key_here s o ∷ []) b (place_in (get_or table b.0 0)) (t b m) (waiting-more ks (key_here s o) b ∙ rw e)
+  other : is_set (key_here s o) ≡ false → Entry s needs (ks ++ key_here s o ∷ []) b (need_place (get_or table b.0 0))
+  other e = entry_kept s needs ks (ks ++ key_here s o ∷ []) b (need_place (get_or table b.0 0)) (t b m) (waiting-more ks (key_here s o) b ∙ rw e)
 
   -- a key of type 25 names its own bucket and no other
-  this : is_set (key_here s o) ≡ true → Entry s needs (ks ++ key_here s o ∷ []) b (place_in (get_or (set table (bucket_here s o).0 (i + 1)) b.0 0))
+  this : is_set (key_here s o) ≡ true → Entry s needs (ks ++ key_here s o ∷ []) b (need_place (get_or (set table (bucket_here s o).0 (i + 1)) b.0 0))
   this e = go (same_bucket (bucket_here s o) b) refl
     where
       go : (q : Bool) → same_bucket (bucket_here s o) b ≡ q
-          → Entry s needs (ks ++ key_here s o ∷ []) b (place_in (get_or (set table (bucket_here s o).0 (i + 1)) b.0 0))
+          → Entry s needs (ks ++ key_here s o ∷ []) b (need_place (get_or (set table (bucket_here s o).0 (i + 1)) b.0 0))
       go true q =
           let p : (bucket_here s o).0 ≡ b.0 = eqb-true (bucket_here s o).0 b.0 q in
           entry_new s needs (ks ++ key_here s o ∷ []) b i h (rw p (get_or-set_same table b.0 (i + 1) 0 (omega (arith, ltb-true b.0 65536 m)))) (waiting-more ks (key_here s o) b ∙ rw (e, q))
       go false q =
           let p = eqb-false (bucket_here s o).0 b.0 q in
           rw (get_or-set_other table (bucket_here s o).0 b.0 (i + 1) 0 (λ z. p (sym z)))
-          (entry_kept s needs ks (ks ++ key_here s o ∷ []) b (place_in (get_or table b.0 0)) (t b m) (waiting-more ks (key_here s o) b ∙ rw (e, q)))
+          (entry_kept s needs ks (ks ++ key_here s o ∷ []) b (need_place (get_or table b.0 0)) (t b m) (waiting-more ks (key_here s o) b ∙ rw (e, q)))
 
-  noted-entry : Entry s needs (ks ++ key_here s o ∷ []) b (place_in (get_or (wait_noted s table o i) b.0 0))
+  noted-entry : Entry s needs (ks ++ key_here s o ∷ []) b (need_place (get_or (wait_noted s table o i) b.0 0))
   unfolding wait_noted
   noted-entry = go (is_set (key_here s o)) refl
     where
       go : (q : Bool) → is_set (key_here s o) ≡ q
-          → Entry s needs (ks ++ key_here s o ∷ []) b (place_in (get_or (cond q (set table (bucket_here s o).0 (i + 1)) table) b.0 0))
+          → Entry s needs (ks ++ key_here s o ∷ []) b (need_place (get_or (cond q (set table (bucket_here s o).0 (i + 1)) table) b.0 0))
       go true q = this q
       go false q = other q
 

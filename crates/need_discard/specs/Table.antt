@@ -27,12 +27,12 @@ Entry s needs ks b None = waiting_key ks b ≡ none
 Entry s needs ks b (Some i) = (i < length needs) × (waiting_key ks b ≡ some (key_here s (get_or needs i 0)))
 
 -- the place that an entry of the table names: none where it is 0, else it is counted from 1
-abbrev pub place_in : ℕ → Maybe ℕ
-place_in e = cond (eqb e 0) None (Some (e - 1))
+abbrev pub need_place : ℕ → Maybe ℕ
+need_place e = cond (eqb e 0) None (Some (e - 1))
 
 -- each bucket within the limit has the entry that these of the need-discard keys give it
 abbrev pub Entries : List ℕ → List ℕ → List Key → List ℕ → Type 0
-Entries s needs ks table = (b : Bucket) → bucket_in_range b ≡ true → Entry s needs ks b (place_in (get_or table b.0 0))
+Entries s needs ks table = (b : Bucket) → bucket_in_range b ≡ true → Entry s needs ks b (need_place (get_or table b.0 0))
 
 -- A table with an entry for each bucket is filled, and the need-discard keys stand where they are looked for.
 pub record WaitingTable (s needs table : List ℕ) : Type 0 where

@@ -40,7 +40,7 @@ use Rattle.change_fields.specs.FieldBytes.{keys_bytes, roots_bytes}
 use Rattle.release_sums.specs.declared.sums.FreedBucket.{FreedBucket}
 use Rattle.release_keys.specs.Emptied.{emptied_row, emptied_buckets}
 use Rattle.release_keys.specs.declared.freed_buckets.Emptied.{Emptied}
-use Rattle.release_keys.specs.Tables.{no_row, buckets_of, RowsHeld, RowsWithin}
+use Rattle.release_keys.specs.Tables.{no_row, row_buckets, RowsHeld, RowsWithin}
 use Rattle.release_keys.proofs.RowLaws.{rows-held, rows-within}
 use Rattle.release.specs.Given.{volume_in, requests_in, change_of}
 use Rattle.release.specs.Outcomes.{Checked, VolumeTables, BatchTables}
@@ -93,13 +93,13 @@ module _ (v : Volume) (rs : List Freed) where
 
 -- ---- the rows
 -- a row's bucket is one of those of the rows
-pub in-at : (rows : List FreedBucket) (j : ℕ) → j < length rows → is_in (buckets_of rows) (get_or rows j no_row).bucket ≡ true
+pub in-at : (rows : List FreedBucket) (j : ℕ) → j < length rows → is_in (row_buckets rows) (get_or rows j no_row).bucket ≡ true
 unfolding is_in any_of
 in-at [] j h = absurd (omega arith)
 in-at (f ∷ rows) zero h = rw (eq-eqb f.bucket.0 f.bucket.0 refl)
 in-at (f ∷ rows) (suc j) h = go (same_bucket f.bucket (get_or rows j no_row).bucket) (in-at rows j (omega arith))
   where
-    go : (t : Bool) → is_in (buckets_of rows) (get_or rows j no_row).bucket ≡ true → (t || is_in (buckets_of rows) (get_or rows j no_row).bucket) ≡ true
+    go : (t : Bool) → is_in (row_buckets rows) (get_or rows j no_row).bucket ≡ true → (t || is_in (row_buckets rows) (get_or rows j no_row).bucket) ≡ true
     go true h = refl
     go false h = h
 
@@ -136,8 +136,8 @@ module _ {g : Given} {rows : List FreedBucket} {records : List ℕ} {emptied : L
   pub batch-within : RowsWithin g.list.now g.head.bucket_sectors rows
   batch-within = rows-within d.tables.tabled d.none-refuses
 
-  chosen-buckets : emptied_buckets emptied ≡ those (is_emptied v rs) (buckets_of rows)
-  chosen-buckets = ap emptied_buckets d.chosen ∙ emptied-named (emptied_gen v.trees) (those (is_emptied v rs) (buckets_of rows))
+  chosen-buckets : emptied_buckets emptied ≡ those (is_emptied v rs) (row_buckets rows)
+  chosen-buckets = ap emptied_buckets d.chosen ∙ emptied-named (emptied_gen v.trees) (those (is_emptied v rs) (row_buckets rows))
 
   -- each with its generation
   pub generations-are : emptied ≡ map (emptied_row (emptied_gen v.trees)) (emptied_buckets emptied)
@@ -153,7 +153,7 @@ module _ {g : Given} {rows : List FreedBucket} {records : List ℕ} {emptied : L
         arith,
         emptied-count,
         ap length chosen-buckets,
-        those-length (is_emptied v rs) (buckets_of rows),
+        those-length (is_emptied v rs) (row_buckets rows),
         length-map rows (λ (f : FreedBucket). f.bucket),
         tables-few d.tables,
       )
@@ -177,7 +177,7 @@ module _ {g : Given} {rows : List FreedBucket} {records : List ℕ} {emptied : L
       lt-ltb b.0 65536 (named-range n rs d.tables.passed.checked b (parts_of (is_emptied v rs b) (is_in (freed_buckets n rs) b) m).1))
 
   -- the bytes of the batch, by the sums of its rows
-  pub batch-is : (freed : ℕ) (u : Unused) → freed ≡ total (λ (r : Freed). r.sectors) rs → Unused-of v rs (buckets_of rows) u
+  pub batch-is : (freed : ℕ) (u : Unused) → freed ≡ total (λ (r : Freed). r.sectors) rs → Unused-of v rs (row_buckets rows) u
       → parts v rs (emptied_buckets emptied) (length emptied) (summed v rs (length emptied) freed u.kept u.lost) ≡ change_of g
   batch-is freed u f o =
       parts-are v rs (emptied_buckets emptied) (length emptied) freed u.kept u.lost emptied-are emptied-count f (o.kept ∙ ap (total (kept_of v rs)) d.tables.tabled.named) (o.lost ∙ ap (total (lost_of v rs)) d.tables.tabled.named)
@@ -204,6 +204,6 @@ listed-freed {sectors} {rs} {sums} s ok l =
     }
 
 -- no more are picked than there are
-pub listed-short : (t : Bucket → Bool) (rows : List FreedBucket) {A : Type 0} {row : Bucket → A} {table : List A} {n : ℕ} → Listed (those t (buckets_of rows)) row table n
+pub listed-short : (t : Bucket → Bool) (rows : List FreedBucket) {A : Type 0} {row : Bucket → A} {table : List A} {n : ℕ} → Listed (those t (row_buckets rows)) row table n
     → n ≤ length rows
-listed-short t rows l = omega (arith, l.count, those-length t (buckets_of rows), length-map rows (λ (f : FreedBucket). f.bucket))
+listed-short t rows l = omega (arith, l.count, those-length t (row_buckets rows), length-map rows (λ (f : FreedBucket). f.bucket))

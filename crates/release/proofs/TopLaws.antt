@@ -22,7 +22,7 @@ use Rattle.release_sums.specs.Freeds.{Requested}
 use Rattle.release_sums.specs.Summing.{Cleared, summed_row}
 use Rattle.release_sums.proofs.FoundLaws.{freed-up}
 use Rattle.release_sums.specs.declared.sums.FreedBucket.{FreedBucket}
-use Rattle.release_keys.specs.Tables.{no_row, buckets_of, PlacesOf, FreedTables}
+use Rattle.release_keys.specs.Tables.{no_row, row_buckets, PlacesOf, FreedTables}
 use Rattle.release.specs.Given.{volume_in, requests_in, change_of}
 use Rattle.release.specs.Outcomes.{Checked, Summed, bucket_tests}
 use Rattle.release.specs.declared.batch.Given.{Given}
@@ -33,7 +33,7 @@ pub checked-made : {g : Given} → Requested g.list.now g.requests.now → lengt
 checked-made q f h ok = record { requested = q; few = f; some-sectors = h; checked = ok }
 
 -- each row's bucket, and its sum
-summed-named : (value : Bucket → ℕ) (bs : List Bucket) → buckets_of (map (summed_row value) bs) ≡ bs
+summed-named : (value : Bucket → ℕ) (bs : List Bucket) → row_buckets (map (summed_row value) bs) ≡ bs
 summed-named value [] = refl
 summed-named value (b ∷ bs) = λ x. b ∷ summed-named value bs x
 
@@ -45,7 +45,7 @@ summed-at value (b ∷ bs) (suc i) h = summed-at value bs i (omega arith)
 
 -- rows whose keys are placed have the buckets that they had
 placed-named : (before after : List FreedBucket) → length after ≡ length before
-    → ((i : ℕ) → i < length before → (get_or after i no_row).bucket ≡ (get_or before i no_row).bucket) → buckets_of after ≡ buckets_of before
+    → ((i : ℕ) → i < length before → (get_or after i no_row).bucket ≡ (get_or before i no_row).bucket) → row_buckets after ≡ row_buckets before
 placed-named [] [] e h = refl
 placed-named [] (g ∷ after) e h = absurd (omega arith)
 placed-named (f ∷ before) [] e h = absurd (omega arith)
@@ -58,10 +58,10 @@ module _ {g : Given} {rows : List FreedBucket} (m : Summed g rows) where
   abbrev pieces : List Freed
   pieces = requests_in g
 
-  named : buckets_of rows ≡ freed_buckets sectors pieces
-  named = ap buckets_of m.listed ∙ summed-named (freed_in sectors pieces) (freed_buckets sectors pieces)
+  named : row_buckets rows ≡ freed_buckets sectors pieces
+  named = ap row_buckets m.listed ∙ summed-named (freed_in sectors pieces) (freed_buckets sectors pieces)
 
-  pub summed-up : in_order bucket_below (buckets_of rows) ≡ true
+  pub summed-up : in_order bucket_below (row_buckets rows) ≡ true
   summed-up = rw named (up-order 0 (freed_buckets sectors pieces) (freed-up sectors pieces))
 
   sums : (i : ℕ) → i < length rows → (get_or rows i no_row).freed ≡ freed_in sectors pieces (get_or rows i no_row).bucket

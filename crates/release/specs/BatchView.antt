@@ -2,7 +2,7 @@
 use Rattle.std.specs.Prelude.{ℕ, List}
 use Rattle.release.specs.Given.{change_of}
 use Rattle.release.specs.Outcomes.{BatchTables}
-use Rattle.release.specs.declared.batch.Batch.TheInside.{Inside}
+use Rattle.release.specs.declared.batch.ReleaseBatch.TheInside.{Inside}
 
 abbrev pub batch_view : Inside → List ℕ
 batch_view b = change_of b.given

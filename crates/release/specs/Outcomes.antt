@@ -10,7 +10,7 @@ use Rattle.release_sums.specs.Summing.{summed_row}
 use Rattle.release_sums.specs.declared.sums.FreedBucket.{FreedBucket}
 use Rattle.release_keys.specs.Emptied.{emptied_row}
 use Rattle.release_keys.specs.declared.freed_buckets.Emptied.{Emptied}
-use Rattle.release_keys.specs.Tables.{buckets_of, FreedTables}
+use Rattle.release_keys.specs.Tables.{row_buckets, FreedTables}
 use Rattle.release.specs.Given.{volume_in, requests_in}
 use Rattle.release.specs.declared.batch.Given.{Given}
 
@@ -40,4 +40,4 @@ pub record VolumeTables (g : Given) (rows : List FreedBucket) (records : List �
 pub record BatchTables (g : Given) (rows : List FreedBucket) (records : List ℕ) (emptied : List Emptied) : Type 0 where
   pub tables : VolumeTables g rows records
   pub none-refuses : verdict (map (bucket_refusal (volume_in g) (requests_in g)) (freed_buckets g.head.bucket_sectors (requests_in g))) ≡ 0
-  pub chosen : emptied ≡ map (emptied_row (emptied_gen (volume_in g).trees)) (those (is_emptied (volume_in g) (requests_in g)) (buckets_of rows))
+  pub chosen : emptied ≡ map (emptied_row (emptied_gen (volume_in g).trees)) (those (is_emptied (volume_in g) (requests_in g)) (row_buckets rows))

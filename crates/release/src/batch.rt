@@ -26,14 +26,14 @@ pub struct Given<'a> {
 
 // A release that no refusal stops, with its tables: the freed buckets, the generation records, and the buckets that are emptied. A clause sees its change list.
 #[derive(Drop)]
-pub struct Batch<'a> {
+pub struct ReleaseBatch<'a> {
     given: Given<'a>,
     rows: &'a [FreedBucket],
     records: &'a [u32],
     emptied: &'a [Emptied],
 }
 
-impl<'a> Model for Batch<'a> {
+impl<'a> Model for ReleaseBatch<'a> {
     ghost use Rattle.std.specs.Prelude.{ℕ, List};
 
     ghost Value = { List ℕ };
@@ -45,18 +45,18 @@ impl<'a> Model for Batch<'a> {
     ghost invariant = { IsBatch };
 }
 
-impl<'a> Batch<'a> {
+impl<'a> ReleaseBatch<'a> {
     // The batch of the tables. The refusals show what is required.
     pub fn new(
         given: Given<'a>,
         rows: &'a [FreedBucket],
         records: &'a [u32],
         emptied: &'a [Emptied],
-    ) -> Batch<'a>
+    ) -> ReleaseBatch<'a>
         requires { BatchTables given rows.now records.now emptied.now }
         ensures { result ≡ change_of given.entry }
     {
-        Batch {
+        ReleaseBatch {
             given,
             rows,
             records,
@@ -65,7 +65,7 @@ impl<'a> Batch<'a> {
     }
 }
 
-impl<'a> Emit for Batch<'a> {
+impl<'a> Emit for ReleaseBatch<'a> {
     ghost bytes = { λ b. b };
 
     // The one batch, in the order of its tags.

@@ -11,7 +11,7 @@ ghost use Rattle.release_keys.specs.Places.{Keyed};
 ghost use Rattle.release.specs.Given.{volume_in, requests_in, change_of};
 ghost use Rattle.release.specs.Outcomes.{Checked, Summed, VolumeTables, bucket_tests};
 
-use crate::batch::{Batch, Given};
+use crate::batch::{ReleaseBatch, Given};
 use gens::records;
 use reader::answer;
 use reader::refusal::Refusal;
@@ -38,7 +38,7 @@ fn release_tables(
         generation: 0,
     }; 1024];
     let n = freed_buckets::find_emptied(g.list, rows, &mut emptied);
-    let batch = Batch::new(*g, rows, records, &emptied[..n]);
+    let batch = ReleaseBatch::new(*g, rows, records, &emptied[..n]);
     answer::written(&batch, out)
 }
 

@@ -29,7 +29,7 @@ use Rattle.reader.specs.Located.{no_key}
 use Rattle.release_sums.specs.declared.sums.FreedBucket.{FreedBucket}
 use Rattle.release_keys.specs.Places.{Keyed, PlaceOf, missing, found}
 use Rattle.release_keys.specs.Skipping.{KeysSkipped}
-use Rattle.release_keys.specs.Tables.{no_row, buckets_of, RowPlaced}
+use Rattle.release_keys.specs.Tables.{no_row, row_buckets, RowPlaced}
 use Rattle.release_keys.proofs.PlaceLaws.{keyed-next}
 
 -- a key that stands before p is not at q, which does not
@@ -133,7 +133,7 @@ pub record AllocWalking (s : List ℕ) (ks : List Key) (before rows : List Freed
   pub ahead : (j : ℕ) → k ≤ j → j < length before → lookup (alloc_at (get_or before j no_row).bucket) (drop i ks) ≡ lookup (alloc_at (get_or before j no_row).bucket) ks
 
 pub walk_turn :
-    {s : List ℕ} {ks : List Key} {before rows : List FreedBucket} {i k : ℕ} → in_order bucket_below (buckets_of before) ≡ true → AllocWalking s ks before rows i k
+    {s : List ℕ} {ks : List Key} {before rows : List FreedBucket} {i k : ℕ} → in_order bucket_below (row_buckets before) ≡ true → AllocWalking s ks before rows i k
     → k < length before → (r : ℕ) (p : std.Option ℕ) → KeysSkipped ks i (alloc_at (get_or rows k no_row).bucket) r
     → PlaceOf s p (lookup (alloc_at (get_or rows k no_row).bucket) (drop r ks))
     → AllocWalking s ks before (set rows k (record { bucket = (get_or rows k no_row).bucket; freed = (get_or rows k no_row).freed; place = p })) r (k + 1)

@@ -26,7 +26,7 @@ use Rattle.release_sums.proofs.FoundLaws.{Picking, pick_ends}
 use Rattle.release_keys.specs.declared.freed_buckets.Emptied.{Emptied}
 use Rattle.release_keys.specs.Counting.{kept_of, lost_of, row_kept, row_lost}
 use Rattle.release_keys.specs.Emptied.{emptied_row}
-use Rattle.release_keys.specs.Tables.{no_row, buckets_of, row_key, row_dirty, row_emptied, row_gen, freed_key, row_lru, FreedEntry, FreedTables, RowHeld, RowsHeld, RowsWithin}
+use Rattle.release_keys.specs.Tables.{no_row, row_buckets, row_key, row_dirty, row_emptied, row_gen, freed_key, row_lru, FreedEntry, FreedTables, RowHeld, RowsHeld, RowsWithin}
 use Rattle.release_keys.proofs.PlaceLaws.{place-some, place_found, placed-value, member-there}
 use Rattle.release_keys.proofs.RefusalLaws.{dirty-is}
 
@@ -34,8 +34,8 @@ use Rattle.release_keys.proofs.RefusalLaws.{dirty-is}
 pub rows-next : (rows : List FreedBucket) (i : ℕ) → i < length rows → drop i rows ≡ get_or rows i no_row ∷ drop (i + 1) rows
 rows-next rows i h = drop-next no_row rows i h
 
-buckets-next : (rows : List FreedBucket) (i : ℕ) → i < length rows → drop i (buckets_of rows) ≡ (get_or rows i no_row).bucket ∷ buckets_of (drop (i + 1) rows)
-buckets-next rows i h = drop-map (λ (f : FreedBucket). f.bucket) i rows ∙ ap buckets_of (rows-next rows i h)
+buckets-next : (rows : List FreedBucket) (i : ℕ) → i < length rows → drop i (row_buckets rows) ≡ (get_or rows i no_row).bucket ∷ row_buckets (drop (i + 1) rows)
+buckets-next rows i h = drop-map (λ (f : FreedBucket). f.bucket) i rows ∙ ap row_buckets (rows-next rows i h)
 
 -- ---- a row
 module _ {s : List ℕ} {v : Volume} {rs : List Freed} {f : FreedBucket} (e : FreedEntry s v rs f) where
@@ -92,30 +92,30 @@ module _ {s : List ℕ} {f : FreedBucket} (r : RowHeld s f) {at : ℕ} (e : f.pl
 
 -- ---- all rows
 module _ {A : Type 0} (g : FreedBucket → A) (h : Bucket → A) where
-  pub map-rows : (rows : List FreedBucket) → ((i : ℕ) → i < length rows → g (get_or rows i no_row) ≡ h (get_or rows i no_row).bucket) → map g rows ≡ map h (buckets_of rows)
+  pub map-rows : (rows : List FreedBucket) → ((i : ℕ) → i < length rows → g (get_or rows i no_row) ≡ h (get_or rows i no_row).bucket) → map g rows ≡ map h (row_buckets rows)
   map-rows [] k = refl
   map-rows (f ∷ rows) k = λ x. k 0 (omega arith) x ∷ map-rows rows (λ i l. k (suc i) (omega arith)) x
 
   pub those-rows : (t : FreedBucket → Bool) (u : Bucket → Bool) (rows : List FreedBucket) → ((i : ℕ) → i < length rows → t (get_or rows i no_row) ≡ u (get_or rows i no_row).bucket)
-      → ((i : ℕ) → i < length rows → g (get_or rows i no_row) ≡ h (get_or rows i no_row).bucket) → map g (those t rows) ≡ map h (those u (buckets_of rows))
+      → ((i : ℕ) → i < length rows → g (get_or rows i no_row) ≡ h (get_or rows i no_row).bucket) → map g (those t rows) ≡ map h (those u (row_buckets rows))
   unfolding those
   those-rows t u [] j k = refl
   those-rows t u (f ∷ rows) j k =
       rw (← j 0 (omega arith)) (go (t f) (k 0 (omega arith)) (those-rows t u rows (λ i l. j (suc i) (omega arith)) (λ i l. k (suc i) (omega arith))))
     where
-      go : (b : Bool) → g f ≡ h f.bucket → map g (those t rows) ≡ map h (those u (buckets_of rows))
-          → map g (cond b (f ∷ those t rows) (those t rows)) ≡ map h (cond b (f.bucket ∷ those u (buckets_of rows)) (those u (buckets_of rows)))
+      go : (b : Bool) → g f ≡ h f.bucket → map g (those t rows) ≡ map h (those u (row_buckets rows))
+          → map g (cond b (f ∷ those t rows) (those t rows)) ≡ map h (cond b (f.bucket ∷ those u (row_buckets rows)) (those u (row_buckets rows)))
       go true p q = rw (p, q) refl
       go false p q = q
 
 pub total-rows : (g : FreedBucket → ℕ) (h : Bucket → ℕ) (rows : List FreedBucket) → ((i : ℕ) → i < length rows → g (get_or rows i no_row) ≡ h (get_or rows i no_row).bucket)
-    → total g rows ≡ total h (buckets_of rows)
+    → total g rows ≡ total h (row_buckets rows)
 unfolding total
 total-rows g h [] k = refl
 total-rows g h (f ∷ rows) k = rw (k 0 (omega arith), total-rows g h rows (λ i l. k (suc i) (omega arith))) refl
 
 pub flat-rows : {A : Type 0} (g : FreedBucket → List A) (h : Bucket → List A) (rows : List FreedBucket) → ((i : ℕ) → i < length rows → g (get_or rows i no_row) ≡ h (get_or rows i no_row).bucket)
-    → flat_map g rows ≡ flat_map h (buckets_of rows)
+    → flat_map g rows ≡ flat_map h (row_buckets rows)
 unfolding flat_map
 flat-rows g h [] k = refl
 flat-rows g h (f ∷ rows) k = rw (k 0 (omega arith), flat-rows g h rows (λ i l. k (suc i) (omega arith))) refl
@@ -149,7 +149,7 @@ module _ {s : List ℕ} {v : Volume} {rs : List Freed} {rows : List FreedBucket}
 
 -- ---- sums, keys and choices over the rows of a table
 module _ {s : List ℕ} {v : Volume} {rs : List Freed} {rows : List FreedBucket} (t : FreedTables s v rs rows) where
-  pub rows-verdict : {sectors : ℕ} → v.head.bucket_sectors ≡ sectors → verdict (map (bucket_refusal v rs) (buckets_of rows)) ≡ verdict (map (bucket_refusal v rs) (freed_buckets sectors rs))
+  pub rows-verdict : {sectors : ℕ} → v.head.bucket_sectors ≡ sectors → verdict (map (bucket_refusal v rs) (row_buckets rows)) ≡ verdict (map (bucket_refusal v rs) (freed_buckets sectors rs))
   rows-verdict e = ap (λ (l : List Bucket). verdict (map (bucket_refusal v rs) l)) (t.named ∙ ap (λ (n : ℕ). freed_buckets n rs) e)
 
   pub keys-are : {journal : ℕ} → RowsHeld s rows → v.head.journal ≡ journal → map (freed_key journal s) rows ≡ map (released_key v rs) (freed_buckets v.head.bucket_sectors rs)
@@ -160,18 +160,18 @@ module _ {s : List ℕ} {v : Volume} {rs : List Freed} {rows : List FreedBucket}
   lrus-are e =
       rw (← e) (flat-rows (row_lru v.head.bucket_sectors s) (released_lru v rs) rows (λ i l. lru-row (t.at i l)) ∙ ap (flat_map (released_lru v rs)) t.named)
 
-  pub kept-are : total (row_kept s) rows ≡ total (kept_of v rs) (buckets_of rows)
+  pub kept-are : total (row_kept s) rows ≡ total (kept_of v rs) (row_buckets rows)
   kept-are = total-rows (row_kept s) (kept_of v rs) rows (λ i l. kept-row (t.at i l))
 
-  pub lost-are : {sectors : ℕ} → v.head.bucket_sectors ≡ sectors → total (row_lost s sectors) rows ≡ total (lost_of v rs) (buckets_of rows)
+  pub lost-are : {sectors : ℕ} → v.head.bucket_sectors ≡ sectors → total (row_lost s sectors) rows ≡ total (lost_of v rs) (row_buckets rows)
   lost-are e = rw (← e) (total-rows (row_lost s v.head.bucket_sectors) (lost_of v rs) rows (λ i l. lost-row (t.at i l)))
 
   pub listed-rows : {rest : List FreedBucket} {table : List Emptied} {n : ℕ} → Picking (those (row_emptied s) rows) rest (row_gen s) table n → rest ≡ []
-      → Listed (those (is_emptied v rs) (buckets_of rows)) (emptied_row (emptied_gen v.trees)) table n
+      → Listed (those (is_emptied v rs) (row_buckets rows)) (emptied_row (emptied_gen v.trees)) table n
   listed-rows p e =
       let l = pick_ends p e in
       let d = those-rows (row_gen s) (emptied_row (emptied_gen v.trees)) (row_emptied s) (is_emptied v rs) rows (λ i l. emptied-row (t.at i l)) (λ i l. gen-row (t.at i l)) in
       record {
-        count = l.count ∙ sym (length-map (those (row_emptied s) rows) (row_gen s)) ∙ ap length d ∙ length-map (those (is_emptied v rs) (buckets_of rows)) (emptied_row (emptied_gen v.trees));
+        count = l.count ∙ sym (length-map (those (row_emptied s) rows) (row_gen s)) ∙ ap length d ∙ length-map (those (is_emptied v rs) (row_buckets rows)) (emptied_row (emptied_gen v.trees));
         listed = l.listed ∙ d;
       }

@@ -21,8 +21,8 @@ abbrev pub no_row : FreedBucket
 no_row = record { bucket = no_bucket; freed = 0; place = None }
 
 -- the buckets of some rows
-abbrev pub buckets_of : List FreedBucket → List Bucket
-buckets_of rows = map (λ f. f.bucket) rows
+abbrev pub row_buckets : List FreedBucket → List Bucket
+row_buckets rows = map (λ f. f.bucket) rows
 
 -- the alloc key of a row, and how many sectors its bucket holds
 abbrev pub row_key : List ℕ → FreedBucket → Key
@@ -72,7 +72,7 @@ pub record FreedEntry (s : List ℕ) (v : Volume) (rs : List Freed) (f : FreedBu
 
 -- the rows hold the freed buckets of a volume and its requests
 pub record FreedTables (s : List ℕ) (v : Volume) (rs : List Freed) (rows : List FreedBucket) : Type 0 where
-  pub named : buckets_of rows ≡ freed_buckets v.head.bucket_sectors rs
+  pub named : row_buckets rows ≡ freed_buckets v.head.bucket_sectors rs
   pub at : (i : ℕ) → i < length rows → FreedEntry s v rs (get_or rows i no_row)
 
 -- they hold those of some volume and requests, with so many sectors to a bucket, and its generation records

@@ -9,7 +9,7 @@ ghost use Rattle.reader.specs.KeyHere.{keys_here};
 ghost use Rattle.reader.specs.Located.{no_key};
 ghost use Rattle.release_keys.specs.Places.{Keyed, PlaceOf};
 ghost use Rattle.release_keys.specs.Skipping.{KeysSkipped};
-ghost use Rattle.release_keys.specs.Tables.{buckets_of, PlacesOf};
+ghost use Rattle.release_keys.specs.Tables.{row_buckets, PlacesOf};
 
 use crate::places;
 use release_sums::sums::FreedBucket;
@@ -44,7 +44,7 @@ fn place_here(s: &[u8], offsets: &[u32], i: usize, p: Bpos) -> Option<u32>
 // Notes the place of each bucket's alloc key. `take_freed` shows that buckets ascend.
 pub fn find_allocs(s: &[u8], alloc: &[u32], rows: &mut [FreedBucket])
     requires keyed { Keyed s.now alloc.now × (keys_ok (keys_here s.now alloc.now) ≡ true) }
-    requires buckets_value { in_order bucket_below (buckets_of rows.old) ≡ true }
+    requires buckets_value { in_order bucket_below (row_buckets rows.old) ≡ true }
     ensures { PlacesOf s.now (keys_here s.now alloc.now) rows.old rows.new }
 {
     let mut i: usize = 0;

@@ -4,7 +4,7 @@ ghost use Rattle.calls.specs.CallList.{Volume, Freed};
 ghost use Rattle.calls.specs.Lists.{total};
 ghost use Rattle.release_sums.specs.Freeds.{freeds_in, Requested, PiecesBounded};
 ghost use Rattle.release_keys.specs.Counting.{Unused-of};
-ghost use Rattle.release_keys.specs.Tables.{buckets_of, FreedTables, RowsHeld, RowsWithin};
+ghost use Rattle.release_keys.specs.Tables.{row_buckets, FreedTables, RowsHeld, RowsWithin};
 
 use crate::freed_buckets;
 use release_sums::requests;
@@ -33,7 +33,7 @@ pub fn total_freed(s: &[u8], requests: &[u32]) -> u64
 // The two sums over all freed buckets. Refusals 17 and 18 show that each holds what is freed, and no more than fits.
 pub fn unused_in(s: &[u8], sectors: u64, rows: &[FreedBucket]) -> Unused
     requires { RowsHeld s.now rows.now × RowsWithin s.now sectors rows.now × (length rows.now ≤ 1024) × (sectors < 65536) }
-    ensures { (result.kept < 2 ^ 62) × (result.lost < 2 ^ 62) × ((v : Volume) (rs : List Freed) → FreedTables s.now v rs rows.now → v.head.bucket_sectors ≡ sectors → Unused-of v rs (buckets_of rows.now) result) }
+    ensures { (result.kept < 2 ^ 62) × (result.lost < 2 ^ 62) × ((v : Volume) (rs : List Freed) → FreedTables s.now v rs rows.now → v.head.bucket_sectors ≡ sectors → Unused-of v rs (row_buckets rows.now) result) }
 {
     let mut u = Unused { kept: 0, lost: 0 };
     for &f in rows {

@@ -7,7 +7,7 @@ ghost use Rattle.calls.specs.Lists.{those};
 ghost use Rattle.calls.specs.Release.{is_emptied, emptied_gen};
 ghost use Rattle.release_sums.specs.Summing.{Listed};
 ghost use Rattle.release_keys.specs.Emptied.{emptied_row};
-ghost use Rattle.release_keys.specs.Tables.{buckets_of, row_key, row_dirty, FreedTables, RowHeld, RowsHeld};
+ghost use Rattle.release_keys.specs.Tables.{row_buckets, row_key, row_dirty, FreedTables, RowHeld, RowsHeld};
 
 use format::alloc;
 use reader::key;
@@ -40,7 +40,7 @@ fn emptied_gen(s: &[u8], f: FreedBucket) -> u8
 // Lists the emptied buckets with their new generations: how many there are.
 pub fn find_emptied(s: &[u8], rows: &[FreedBucket], emptied: &mut [Emptied]) -> usize
     requires { RowsHeld s.now rows.now × (length rows.now ≤ length emptied.old) }
-    ensures { (v : Volume) (rs : List Freed) → FreedTables s.now v rs rows.now → Listed (those (is_emptied v rs) (buckets_of rows.now)) (emptied_row (emptied_gen v.trees)) emptied.new result }
+    ensures { (v : Volume) (rs : List Freed) → FreedTables s.now v rs rows.now → Listed (those (is_emptied v rs) (row_buckets rows.now)) (emptied_row (emptied_gen v.trees)) emptied.new result }
 {
     let mut n: usize = 0;
     for &f in rows {

@@ -24,21 +24,9 @@ held k =
       value = padded k.value;
     }
 
--- the key that the code holds
-abbrev pub key_in : Bkey → Key
-key_in k =
-    record {
-      type = k.key_type;
-      size = k.size;
-      version_hi = k.version_hi;
-      version_lo = k.version_lo;
-      pos = k.pos;
-      value = value_in k.value;
-    }
-
 -- what stands before its value
-abbrev pub head_in : Bkey → KeyHead
-head_in k =
+abbrev pub key_head : Bkey → KeyHead
+key_head k =
     record {
       key_type = k.key_type;
       size = k.size;
@@ -58,3 +46,7 @@ key_with h v =
       pos = h.pos;
       value = v;
     }
+
+-- the key that the code holds
+abbrev pub key_in : Bkey → Key
+key_in k = key_with (key_head k) (value_in k.value)

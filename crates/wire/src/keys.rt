@@ -2,7 +2,7 @@
 ghost use Rattle.std.specs.Prelude.{◌≡◌, ◌+◌, ◌≤◌, ◌&&◌, leb, length, take, drop};
 ghost use Rattle.wire.specs.Numbers.{le};
 ghost use Rattle.wire.specs.Keys.{key_of, pos_of};
-ghost use Rattle.wire.specs.Held.{padded, held, head_in};
+ghost use Rattle.wire.specs.Held.{padded, held, key_head};
 
 use crate::bpos::Bpos;
 use crate::{bpos, le};
@@ -36,7 +36,7 @@ pub struct KeyHead {
 impl Bkey {
     // What stands before the value.
     pub fn head(&self) -> KeyHead
-        ensures { result ≡ head_in self.now }
+        ensures { result ≡ key_head self.now }
     {
         KeyHead {
             key_type: self.key_type,

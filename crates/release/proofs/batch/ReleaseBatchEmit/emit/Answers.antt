@@ -1,10 +1,10 @@
--- `batch::Batch::emit` meets its contract.
+-- `batch::ReleaseBatch::emit` meets its contract.
 use Rattle.std.proofs.Common.{refl, ap, arith, ◌∙◌}
 use Rattle.wire.specs.Output.{with_bytes}
 use Rattle.release.specs.Given.{volume_in, requests_in}
 use Rattle.wire.proofs.AppendLaws.{then}
 use Rattle.release.proofs.BatchLaws.{pieces-bounded, tables-few, batch-held, batch-within, emptied-few, emptied-up, emptied-low, generations-are, batch-is}
-use Rattle.release.proofs.batch.BatchEmit.emit.Goals as goal
+use Rattle.release.proofs.batch.ReleaseBatchEmit.emit.Goals as goal
 
 pub total_freed-total-requires : goal.total_freed-total-requires
 total_freed-total-requires c = let p = c.self.invariant.tables.passed in (p.requested, pieces-bounded p (omega arith), p.few)
