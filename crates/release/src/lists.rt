@@ -11,7 +11,7 @@ ghost use Rattle.release_keys.specs.Places.{Keyed};
 ghost use Rattle.release.specs.Given.{volume_in, requests_in, change_of};
 ghost use Rattle.release.specs.Outcomes.{Checked, Summed, VolumeTables, bucket_tests};
 
-use crate::batch::{ReleaseBatch, Given};
+use crate::batch::{Given, ReleaseBatch};
 use gens::records;
 use reader::answer;
 use reader::refusal::Refusal;
