@@ -23,8 +23,12 @@ fn store(bytes: &mut [u8], at: usize, b: &[u8])
     ensures { bytes.new ≡ put bytes.old at (take (cap - at) b.now) }
 {
     if at < bytes.len() {
-        let n = b.len().min(bytes.len() - at);
-        bytes[at..at + n].copy_from_slice(&b[..n]);
+        let room = bytes.len() - at;
+        if b.len() <= room {
+            bytes[at..at + b.len()].copy_from_slice(b);
+        } else {
+            bytes[at..].copy_from_slice(&b[..room]);
+        }
     }
 }
 
