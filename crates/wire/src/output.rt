@@ -1,5 +1,5 @@
 // The bytes that are written one after the other into a slice. What has no room is left out, and counted all the same, so that a run into no room tells the length.
-// One function for each width, as std has to_le_bytes for each type, and no trait that joins them.
+// One function for each width, as the type of a number tells how many bytes it has: std has no trait that joins them, and a clause over that of num_traits would name its members in place of `le_bytes`.
 ghost use Rattle.std.specs.Prelude.{◌≡◌, ◌+◌, ◌-◌, ◌≤◌, min, max, [], ◌∷◌, length, take};
 ghost use Rattle.wire.specs.Numbers.{le_bytes, words_bytes};
 ghost use Rattle.wire.specs.Held.{value_in, key_in, key_with};
@@ -23,8 +23,12 @@ fn store(bytes: &mut [u8], at: usize, b: &[u8])
     ensures { bytes.new ≡ put bytes.old at (take (cap - at) b.now) }
 {
     if at < bytes.len() {
-        let n = b.len().min(bytes.len() - at);
-        bytes[at..at + n].copy_from_slice(&b[..n]);
+        let room = bytes.len() - at;
+        if b.len() <= room {
+            bytes[at..at + b.len()].copy_from_slice(b);
+        } else {
+            bytes[at..].copy_from_slice(&b[..room]);
+        }
     }
 }
 
