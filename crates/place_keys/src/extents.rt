@@ -10,6 +10,7 @@ ghost use Rattle.place_keys.specs.Plan.{Bounded, placed_in};
 
 use crate::placed::Placed;
 use crate::plan::Plan;
+use format::checksums::ChecksumOption;
 use format::entries;
 use reader::head::Head;
 use wire::key_types::KeyType;
@@ -25,7 +26,7 @@ pub fn put_extent(out: &mut Output, h: Head, p: Placed)
 {
     let piece = p.piece;
     let v = entries::extent_words(
-        h.option,
+        ChecksumOption::named(h.option).unwrap(),
         piece.kind as u64,
         piece.stored as u64,
         piece.file as u64,
