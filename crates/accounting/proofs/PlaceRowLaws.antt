@@ -1,14 +1,14 @@
 -- Laws of the rows of a placement.
-use mathlib.Core.Path.{◌≡◌, refl, sym, ap, ◌∙◌}
+use mathlib.Core.Path.{◌≡◌, sym, ap, ◌∙◌}
 use mathlib.Core.List.{List, [], ◌∷◌, ◌++◌, map}
-use Prim.Native.Nat.{ℕ, zero, suc, ◌≤◌, ◌<◌, ◌+◌, ◌*◌, ◌^◌}
+use Prim.Native.Nat.{ℕ, ◌≤◌, ◌<◌, ◌+◌, ◌*◌, ◌^◌}
 use native.Mathlib.Omega.{arith}
 use lib.IntN.{pos, neg_ℤ, ◌+ℤ◌}
 use lib.ListN.{length, length-map, get_or, drop, drop_of_length-le}
 use lib.Dec.{eqb}
 use Rattle.wire.specs.Keys.{Key}
 use Rattle.wire.specs.declared.kinds.Bucket.{Bucket}
-use Rattle.format.specs.Entries.{pointer, checksum_entry, extent_words}
+use Rattle.format.specs.Entries.{pointer, extent_words}
 use Rattle.calls.specs.Lists.{those, total}
 use Rattle.calls.specs.CallList.{Head, Piece}
 use Rattle.calls.specs.Extents.{Placed, extent_key}
@@ -29,23 +29,6 @@ use Rattle.wire.proofs.EncodeLaws.{words_count, encode-none}
 use Rattle.accounting.specs.RowBytes.{rows_bytes}
 use Rattle.accounting.proofs.RowLaws.{rows-then}
 use Rattle.accounting.proofs.TallyLaws.{tally-equal}
-
--- how many words an extent's value has
-
-module _ {option : ℕ} (kind stored file checksum word : ℕ) where
-  pub words-none : option ≡ 0 → length (extent_words option kind stored file checksum word) ≡ 1
-  unfolding extent_words checksum_entry
-  words-none e = rw e
-
-  pub words-one : option ≡ 1 → length (extent_words option kind stored file checksum word) ≡ 2
-  unfolding extent_words checksum_entry
-  words-one e = rw e
-
-pub words-two : (option kind stored file checksum word : ℕ) → (option ≡ 0 → ⊥) → (option ≡ 1 → ⊥) → length (extent_words option kind stored file checksum word) ≡ 3
-unfolding extent_words checksum_entry
-words-two zero kind stored file checksum word h k = absurd (h refl)
-words-two (suc zero) kind stored file checksum word h k = absurd (k refl)
-words-two (suc (suc n)) kind stored file checksum word h k = refl
 
 -- the extents' row: each key has 40 bytes and its value's
 pub extents-row :

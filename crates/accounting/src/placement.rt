@@ -5,6 +5,7 @@ ghost use Rattle.wire.specs.Encode.{encode};
 ghost use Rattle.wire.specs.Rows.{row_field};
 ghost use Rattle.wire.specs.declared.kinds.Bucket.{Bucket};
 ghost use Rattle.wire.specs.Output.{with_bytes};
+ghost use Rattle.format.specs.Checksums.{option_byte};
 ghost use Rattle.format.specs.Entries.{extent_words};
 ghost use Rattle.calls.specs.Extents as calls;
 ghost use Rattle.calls.specs.Extents.{extent_key};
@@ -17,6 +18,7 @@ ghost use Rattle.accounting.specs.Tally.{counts_row, kind_rows, owner_counts, ta
 use crate::counters;
 use crate::counters::DataType;
 use crate::tally::{Tallies, Tally};
+use format::checksums::ChecksumOption;
 use reader::head::Head;
 use wire::output::Output;
 use wire::rows;
@@ -53,14 +55,14 @@ pub fn put_taken_rows(out: &mut Output, taken: u64, sectors: u64, stored: u64)
 }
 
 // How many words an extent's value has, by the checksum option.
-pub fn extent_size(option: u8) -> u64
-    requires { option ≤ 3 }
-    ensures { (result ≤ 3) × ((kind stored file checksum word : ℕ) → length (extent_words option kind stored file checksum word) ≡ result) }
+#[tactic(auto, unfolding(format::specs::Entries::checksum_entry, format::specs::Entries::extent_words))]
+pub fn extent_size(option: ChecksumOption) -> u64
+    ensures { (result ≤ 3) × ((kind stored file checksum word : ℕ) → length (extent_words (option_byte option) kind stored file checksum word) ≡ result) }
 {
     match option {
-        0 => 1,
-        1 => 2,
-        _ => 3,
+        ChecksumOption::Off => 1,
+        ChecksumOption::Crc32c => 2,
+        ChecksumOption::Crc64 | ChecksumOption::Xxhash => 3,
     }
 }
 
@@ -69,7 +71,8 @@ pub fn put_extents_row(out: &mut Output, h: Head, t: Tally)
     requires { (h.option ≤ 3) × Small 1024 t }
     ensures { (ps : List calls.Placed) → length ps ≡ t.count → out.new ≡ with_bytes out.old (rows_bytes (extents_row (map (extent_key (head_in h)) ps) t.stored ∷ [])) }
 {
-    let file = t.count * (40 + 8 * extent_size(h.option));
+    let option = ChecksumOption::named(h.option).unwrap();
+    let file = t.count * (40 + 8 * extent_size(option));
     put_counts(out, 0x05ff_ffff_ff00_0000, 0, Tally { file, ..t });
 }
 

@@ -19,6 +19,7 @@ use format::alloc;
 use need_discard::waiting as waiting_keys;
 use reader::key;
 use wire::output::Output;
+use wire::trees::Tree;
 
 // Alloc keys that are discarded: the list that they stand in, their offsets, those of the need-discard keys, and their table.
 #[derive(Clone, Copy, Drop)]
@@ -36,7 +37,7 @@ fn put_alloc_key(out: &mut Output, s: &[u8], o: u32)
 {
     let mut k = key::key_at(s, o as usize);
     k.value = alloc::discarded(k.value);
-    out.put_key(4, &k);
+    out.put_key(Tree::Alloc, &k);
 }
 
 // Tree 4.
@@ -56,7 +57,7 @@ fn put_waiting(out: &mut Output, d: &Discarded, o: u32)
 {
     let b = key::bucket_at(d.list, o as usize);
     if let Some(pos) = waiting_keys::waiting_at(d.list, d.needs, d.table, b) {
-        new_keys::put_deletion(out, 12, pos);
+        new_keys::put_deletion(out, Tree::NeedDiscard, pos);
     }
 }
 

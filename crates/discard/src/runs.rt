@@ -10,8 +10,10 @@ ghost use Rattle.discard.specs.Emitted.{buckets_at, shown_run, ended_run, with_b
 
 use change_fields::new_keys;
 use reader::key;
+use wire::key_types::KeyType;
 use wire::kinds::Bucket;
 use wire::output::Output;
+use wire::trees::Tree;
 use wire::{kinds, positions};
 
 // A run that is not ended yet: its end, which is left out, and how many buckets it has.
@@ -26,7 +28,13 @@ fn put_run(out: &mut Output, r: Run)
     ensures { out.new ≡ with_bytes out.old (keys_bytes 11 (shown_run r)) }
 {
     if r.size != 0 {
-        new_keys::put_new_key(out, 11, 25, r.size, positions::run_at(r.end));
+        new_keys::put_new_key(
+            out,
+            Tree::Freespace,
+            KeyType::Set,
+            r.size,
+            positions::run_at(r.end),
+        );
     }
 }
 

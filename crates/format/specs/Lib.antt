@@ -1,5 +1,6 @@
 pub mod Packing
 pub mod AllocV4
+pub mod Checksums
 pub mod Entries
 pub mod Backpointer
 pub mod Gens

@@ -1,8 +1,10 @@
 // The entries of an extent: its checksum entry and its pointer.
 ghost use Rattle.std.specs.Prelude.{◌≡◌, ◌^◌, ◌<◌, ◌≤◌, take};
 ghost use Rattle.wire.specs.Kinds.{sector_number};
+ghost use Rattle.format.specs.Checksums.{option_byte};
 ghost use Rattle.format.specs.Entries.{pointer, crc32, crc64, csum_type_of, extent_words};
 
+use crate::checksums::ChecksumOption;
 use wire::kinds;
 use wire::kinds::DeviceSector;
 
@@ -42,33 +44,39 @@ pub fn crc64(stored: u64, file: u64, ctype: u64, kind: u64) -> u64
     4 + ((stored - 1) << 3) + ((file - 1) << 12) + (ctype << 40) + (kind << 44)
 }
 
-// The checksum type of an option. Refusal 5 shows the bound.
-pub fn csum_type(option: u8) -> u64
-    requires { option ≤ 3 }
-    ensures { result ≡ csum_type_of option }
+// The checksum type of an option.
+#[tactic(auto, unfolding(crate::specs::Entries::csum_type_of))]
+pub fn csum_type(option: ChecksumOption) -> u64
+    ensures { result ≡ csum_type_of (option_byte option) }
 {
-    if option == 0 { 0 } else { option as u64 + 4 }
+    match option {
+        ChecksumOption::Off => 0,
+        ChecksumOption::Crc32c => 5,
+        ChecksumOption::Crc64 => 6,
+        ChecksumOption::Xxhash => 7,
+    }
 }
 
 // An extent's value: by option, the checksum entry and then the pointer.
+#[tactic(auto, unfolding(crate::specs::Entries::csum_type_of, crate::specs::Entries::checksum_entry, crate::specs::Entries::extent_words))]
 pub fn extent_words(
-    option: u8,
+    option: ChecksumOption,
     kind: u64,
     stored: u64,
     file: u64,
     checksum: u64,
     word: u64,
 ) -> Words
-    requires { (option ≤ 3) × ((1 ≤ stored) × (stored ≤ 128)) × ((1 ≤ file) × (file ≤ 128)) × (kind < 16) }
-    ensures { (result.n ≤ 3) × (take result.n result.w ≡ extent_words option kind stored file checksum word) }
+    requires { ((1 ≤ stored) × (stored ≤ 128)) × ((1 ≤ file) × (file ≤ 128)) × (kind < 16) }
+    ensures { (result.n ≤ 3) × (take result.n result.w ≡ extent_words (option_byte option) kind stored file checksum word) }
 {
     let t = csum_type(option);
     match option {
-        0 => Words {
+        ChecksumOption::Off => Words {
             w: [word, 0, 0, 0, 0, 0, 0, 0],
             n: 1,
         },
-        1 => Words {
+        ChecksumOption::Crc32c => Words {
             w: [
                 crc32(stored, file, t, kind, checksum),
                 word,
@@ -81,7 +89,7 @@ pub fn extent_words(
             ],
             n: 2,
         },
-        _ => Words {
+        ChecksumOption::Crc64 | ChecksumOption::Xxhash => Words {
             w: [crc64(stored, file, t, kind), checksum, word, 0, 0, 0, 0, 0],
             n: 3,
         },

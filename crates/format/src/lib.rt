@@ -3,6 +3,7 @@
 
 pub mod alloc;
 pub mod backpointer;
+pub mod checksums;
 pub mod entries;
 pub mod gens;
 pub mod lru;

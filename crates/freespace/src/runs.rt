@@ -9,6 +9,7 @@ ghost use Rattle.reader.specs.Checked.{Checked};
 ghost use Rattle.freespace.specs.Runs.{began_early, run_in, count_below};
 
 use reader::key;
+use wire::key_types::KeyType;
 use wire::kinds;
 use wire::kinds::Bucket;
 
@@ -24,7 +25,7 @@ pub fn is_run(s: &[u8], at: usize) -> bool
     requires { Whole s.now at }
     ensures { result ≡ is_run (key_here s.now at) }
 {
-    key::type_at(s, at) == 25 && key::pos_at(s, at).inode == 0
+    key::type_at(s, at) == KeyType::Set.number() && key::pos_at(s, at).inode == 0
 }
 
 // Whether it is one that began before bucket 0.

@@ -13,6 +13,7 @@ ghost use Rattle.gens.specs.Records.{RecordIs};
 
 use crate::lookup;
 use reader::key;
+use wire::key_types::KeyType;
 use wire::kinds::Bucket;
 use wire::{bpos, positions};
 
@@ -72,7 +73,8 @@ fn is_record(s: &[u8], at: usize, b: Bucket) -> bool
     requires { Whole s.now at }
     ensures { result ≡ (pos_same (gens_at b) (key_here s.now at).pos && eqb (key_here s.now at).type 30) }
 {
-    bpos::pos_same(positions::gens_at(b), key::pos_at(s, at)) && key::type_at(s, at) == 30
+    bpos::pos_same(positions::gens_at(b), key::pos_at(s, at))
+        && key::type_at(s, at) == KeyType::BucketGens.number()
 }
 
 // The place of a bucket's record, which is the last of the keys up to it, if there is one. Refusal 22 shows that keys ascend, here and below.

@@ -6,6 +6,7 @@ ghost use Rattle.reader.specs.Located.{KeysAt};
 ghost use Rattle.gens.specs.Records.{record_noted, record_entry, RecordsFound};
 
 use reader::key;
+use wire::key_types::KeyType;
 use wire::kinds::Bucket;
 
 // Notes the offset of a key, if it is a record; another key at a record's place takes out what was noted. The reader shows that a key stands there.
@@ -18,7 +19,7 @@ fn note_record(s: &[u8], at: u32, table: &mut [u32; 256])
     if p.inode != 0 || p.snapshot != 0 || 256 <= p.offset {
         return;
     }
-    let is_record = key::type_at(s, at as usize) == 30;
+    let is_record = key::type_at(s, at as usize) == KeyType::BucketGens.number();
     table[p.offset as usize] = if is_record { at } else { 0 };
 }
 

@@ -3,6 +3,7 @@ ghost use Rattle.std.specs.Prelude.{◌≡◌, ◌+◌, min};
 ghost use Rattle.merge.specs.Counts.{key_fits, count_of};
 
 use wire::bpos::Bpos;
+use wire::key_types::KeyType;
 use wire::{kinds, positions};
 
 // Whether a key of a section is within FORMAT.md's limits.
@@ -14,8 +15,8 @@ fn key_fits(section: u8, ty: u8, pos: Bpos) -> bool
     match section {
         64 => kinds::bucket_in_range(b),
         4 => pos.inode != 0 || kinds::bucket_in_range(b),
-        12 => ty != 25 || kinds::bucket_in_range(b),
-        11 => ty != 25 || pos.inode != 0 || kinds::run_end_in_range(b),
+        12 => ty != KeyType::Set.number() || kinds::bucket_in_range(b),
+        11 => ty != KeyType::Set.number() || pos.inode != 0 || kinds::run_end_in_range(b),
         _ => true,
     }
 }

@@ -12,6 +12,7 @@ ghost use Rattle.need_discard.specs.Chosen.{is_value_taken, is_discarded_at, dis
 use crate::waiting;
 use format::alloc;
 use reader::key;
+use wire::key_types::KeyType;
 use wire::kinds::Bucket;
 use wire::positions;
 
@@ -50,7 +51,7 @@ fn is_discarded(s: &[u8], o: u32, needs: &[u32], table: &[u16]) -> bool
 {
     let at = o as usize;
     let pos = key::pos_at(s, at);
-    key::type_at(s, at) == 27
+    key::type_at(s, at) == KeyType::AllocV4.number()
         && pos.inode == 0
         && value_taken(s, at)
         && is_waiting(s, needs, table, positions::bucket_in(pos))

@@ -11,6 +11,7 @@ ghost use Rattle.need_discard.specs.Table.{waits_of, is_of_bucket, Entry, Waitin
 
 use reader::key;
 use wire::bpos::Bpos;
+use wire::key_types::KeyType;
 use wire::kinds;
 use wire::kinds::Bucket;
 
@@ -20,7 +21,7 @@ fn note(table: &mut [u16; 65536], s: &[u8], o: u32, i: usize)
     requires { NeedKept s.now o × (i < 4096) }
     ensures { table.new ≡ wait_noted s.now table.old o i }
 {
-    if key::type_at(s, o as usize) != 25 {
+    if key::type_at(s, o as usize) != KeyType::Set.number() {
         return;
     }
     let b = key::bucket_at(s, o as usize);
@@ -42,7 +43,8 @@ fn names_bucket(s: &[u8], o: u32, b: Bucket) -> bool
     requires { NeedKept s.now o }
     ensures { result ≡ is_of_bucket (key_here s.now o) b }
 {
-    kinds::same_bucket(key::bucket_at(s, o as usize), b) && key::type_at(s, o as usize) == 25
+    kinds::same_bucket(key::bucket_at(s, o as usize), b)
+        && key::type_at(s, o as usize) == KeyType::Set.number()
 }
 
 // The place of the last key that names a bucket, by a search through the keys.

@@ -17,6 +17,7 @@ use place_keys::{allocs, backpointers, extents, lru, queue, spots};
 use reader::answer::Emit;
 use wire::kinds::Bucket;
 use wire::output::Output;
+use wire::trees::Tree;
 
 // What a change list is written from: a plan, the dirty counts of its buckets, the runs and how far the walk over them is, the tallies of the pieces, and the write clock.
 #[derive(Clone, Copy, Drop)]
@@ -91,7 +92,7 @@ impl<'a> Emit for ChangeList<'a> {
 pub fn put_lru_root(out: &mut Output, wanted: bool, roots: u8)
     ensures { out.new ≡ with_bytes out.old (roots_bytes (roots_if (wanted && root_missing roots 0) 10)) }
 {
-    root_fields::put_root(out, wanted && roots % 2 == 0, 10);
+    root_fields::put_root(out, wanted && roots % 2 == 0, Tree::Lru);
 }
 
 // Fields 71: the buckets taken.

@@ -12,24 +12,26 @@ ghost use Rattle.wire.specs.Output.{with_bytes};
 ghost use Rattle.place_keys.specs.Plan.{Dirty, DirtyKnown, AllocsOf, AllocsKnown};
 
 use format::alloc;
+use wire::key_types::KeyType;
 use wire::keys::KeyHead;
 use wire::kinds::Bucket;
 use wire::output::Output;
 use wire::positions;
+use wire::trees::Tree;
 
 // The alloc key of a bucket.
 pub fn put_alloc(out: &mut Output, b: Bucket, journal: u64, generation: u8, dirty: u32, clock: u64)
     ensures { out.new ≡ with_bytes out.old (encode_field (key_field 4 (new_key 27 0 (alloc_at b) (new_alloc journal generation dirty clock)))) }
 {
     let head = KeyHead {
-        key_type: 27,
+        key_type: KeyType::AllocV4.number(),
         size: 0,
         version_hi: 0,
         version_lo: 0,
         pos: positions::alloc_at(b),
     };
     out.put_words_key(
-        4,
+        Tree::Alloc,
         head,
         &alloc::new_alloc(journal, generation, dirty, clock),
     );

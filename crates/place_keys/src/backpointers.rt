@@ -12,9 +12,11 @@ use crate::placed::Placed;
 use crate::plan::Plan;
 use format::backpointer;
 use reader::head::Head;
+use wire::key_types::KeyType;
 use wire::keys::KeyHead;
 use wire::output::Output;
 use wire::positions;
+use wire::trees::Tree;
 
 // The backpointer of a piece's extent.
 pub fn put_backpointer(out: &mut Output, h: Head, p: Placed)
@@ -24,13 +26,13 @@ pub fn put_backpointer(out: &mut Output, h: Head, p: Placed)
     let extent = positions::extent_at(h.inode, p.end);
     let w = backpointer::backpointer(p.generation, p.piece.stored as u32, extent);
     let head = KeyHead {
-        key_type: 28,
+        key_type: KeyType::Backpointer.number(),
         size: 0,
         version_hi: 0,
         version_lo: 0,
         pos: positions::backpointer_at(p.first),
     };
-    out.put_words_key(13, head, &w[..4]);
+    out.put_words_key(Tree::Backpointers, head, &w[..4]);
 }
 
 // The backpointers of all pieces, in order.

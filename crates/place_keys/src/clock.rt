@@ -8,13 +8,14 @@ ghost use Rattle.place_keys.specs.Times.{later_of};
 
 use format::alloc;
 use reader::key;
+use wire::key_types::KeyType;
 
 // The largest clock so far, where a key had one, after one key more.
 fn later(s: &[u8], at: usize, latest: Option<u64>) -> Option<u64>
     requires { Whole s.now at }
     ensures { result ≡ later_of latest (key_here s.now at) }
 {
-    if key::type_at(s, at) != 27 || key::value_len(s, at) < 40 {
+    if key::type_at(s, at) != KeyType::AllocV4.number() || key::value_len(s, at) < 40 {
         return latest;
     }
     let time = alloc::write_time(s, key::value_at(s, at));

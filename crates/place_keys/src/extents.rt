@@ -10,11 +10,14 @@ ghost use Rattle.place_keys.specs.Plan.{Bounded, placed_in};
 
 use crate::placed::Placed;
 use crate::plan::Plan;
+use format::checksums::ChecksumOption;
 use format::entries;
 use reader::head::Head;
+use wire::key_types::KeyType;
 use wire::keys::KeyHead;
 use wire::output::Output;
 use wire::positions;
+use wire::trees::Tree;
 
 // The extent of a piece: its checksum entry, if it has one, and its pointer.
 pub fn put_extent(out: &mut Output, h: Head, p: Placed)
@@ -23,7 +26,7 @@ pub fn put_extent(out: &mut Output, h: Head, p: Placed)
 {
     let piece = p.piece;
     let v = entries::extent_words(
-        h.option,
+        ChecksumOption::named(h.option).unwrap(),
         piece.kind as u64,
         piece.stored as u64,
         piece.file as u64,
@@ -31,13 +34,13 @@ pub fn put_extent(out: &mut Output, h: Head, p: Placed)
         entries::pointer(p.first, p.generation),
     );
     let head = KeyHead {
-        key_type: 6,
+        key_type: KeyType::Extent.number(),
         size: piece.file as u32,
         version_hi: 0,
         version_lo: 0,
         pos: positions::extent_at(h.inode, p.end),
     };
-    out.put_words_key(0, head, &v.w[..v.n]);
+    out.put_words_key(Tree::Extents, head, &v.w[..v.n]);
 }
 
 // The extents of all pieces, in order.

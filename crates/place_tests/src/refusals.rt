@@ -12,6 +12,7 @@ ghost use Rattle.reader.specs.Checked.{Checked};
 ghost use Rattle.place_tests.specs.Choice.{ChosenIs};
 
 use crate::requests;
+use format::checksums::ChecksumOption;
 use freespace::take::Walked;
 use freespace::{runs, take};
 use next_fit::needed;
@@ -28,13 +29,13 @@ fn refuse_requests(s: &[u8], h: Head, pieces: &[u32]) -> Result<(), Refusal>
     if h.bucket_sectors == 0 {
         return Err(Refusal::NoSectors);
     }
-    if 3 < h.option {
+    let Some(option) = ChecksumOption::named(h.option) else {
         return Err(Refusal::ChecksumOption);
-    }
+    };
     if !requests::kinds_listed(s, pieces) {
         return Err(Refusal::CompressionKind);
     }
-    if !requests::option_fits(s, pieces, h.option) {
+    if !requests::option_fits(s, pieces, option) {
         return Err(Refusal::NoChecksum);
     }
     let block = requests::block_of(h.block_sectors);

@@ -3,6 +3,7 @@ ghost use Rattle.std.specs.Prelude.{◌≡◌, ◌+◌, ◌≤◌, length, drop}
 ghost use Rattle.wire.specs.Keys.{key_of};
 ghost use Rattle.reader.specs.CallFields.{alloc_within, run_within, waiting_within, field_within, field_from, least_of};
 
+use wire::key_types::KeyType;
 use wire::{keys, kinds, positions};
 
 // Whether an alloc key at inode 0 is of a bucket in range. A key's length shows the bound here and below.
@@ -21,7 +22,7 @@ fn run_within(s: &[u8], start: usize) -> bool
     requires { start + 37 ≤ length s.now }
     ensures { result ≡ run_within (key_of (drop start s.now)) }
 {
-    if keys::type_at(s, start) != 25 {
+    if keys::type_at(s, start) != KeyType::Set.number() {
         return true;
     }
     let pos = keys::pos_at(s, start);
@@ -34,7 +35,7 @@ fn waiting_within(s: &[u8], start: usize) -> bool
     requires { start + 37 ≤ length s.now }
     ensures { result ≡ waiting_within (key_of (drop start s.now)) }
 {
-    keys::type_at(s, start) != 25
+    keys::type_at(s, start) != KeyType::Set.number()
         || kinds::bucket_in_range(positions::bucket_in(keys::pos_at(s, start)))
 }
 

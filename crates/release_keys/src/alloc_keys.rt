@@ -13,6 +13,7 @@ use reader::key;
 use release_sums::sums::FreedBucket;
 use wire::keys::Bkey;
 use wire::output::Output;
+use wire::trees::Tree;
 
 // The alloc key of a freed bucket: emptied, or with what is left of it. The refusals show that it is there, how long it is, and that the bucket holds what is freed.
 fn freed_key(s: &[u8], f: FreedBucket, journal: u64) -> Bkey
@@ -35,6 +36,6 @@ pub fn put_allocs(out: &mut Output, s: &[u8], journal: u64, rows: &[FreedBucket]
     ensures { (v : Volume) (rs : List Freed) → FreedTables s.now v rs rows.now → v.head.journal ≡ journal → out.new ≡ with_bytes out.old (keys_bytes 4 (map (released_key v rs) (freed_buckets v.head.bucket_sectors rs))) }
 {
     for &f in rows {
-        out.put_key(4, &freed_key(s, f, journal));
+        out.put_key(Tree::Alloc, &freed_key(s, f, journal));
     }
 }

@@ -10,6 +10,7 @@ use change_fields::new_keys;
 use release_sums::requests;
 use wire::output::Output;
 use wire::positions;
+use wire::trees::Tree;
 
 // Tree 13: a deletion for each request, in their order. Refusal 14 shows that sectors are low enough.
 pub fn put_backpointers(out: &mut Output, s: &[u8], requests: &[u32])
@@ -18,6 +19,6 @@ pub fn put_backpointers(out: &mut Output, s: &[u8], requests: &[u32])
 {
     for &place in requests {
         let r = requests::read_freed(s, place as usize);
-        new_keys::put_deletion(out, 13, positions::backpointer_at(r.first));
+        new_keys::put_deletion(out, Tree::Backpointers, positions::backpointer_at(r.first));
     }
 }

@@ -19,9 +19,11 @@ ghost use Rattle.release_keys.specs.GenRecords.{next_queued};
 use crate::freed_buckets::Emptied;
 use gens::records;
 use reader::key;
+use wire::key_types::KeyType;
 use wire::keys::Bkey;
 use wire::kinds::Bucket;
 use wire::output::Output;
+use wire::trees::Tree;
 use wire::{bpos, positions};
 
 // A record that is started.
@@ -29,7 +31,7 @@ fn new_record(b: Bucket) -> Bkey
     ensures { (result.value.len ≤ 256) × (key_in result ≡ new_key 30 0 (gens_at b) no_gens) }
 {
     Bkey {
-        key_type: 30,
+        key_type: KeyType::BucketGens.number(),
         size: 0,
         version_hi: 0,
         version_lo: 0,
@@ -81,7 +83,7 @@ pub fn put_gens(out: &mut Output, s: &[u8], records: &[u32], emptied: &[Emptied]
     let mut last = None;
     for e in emptied {
         let key = next_record(s, records, last, e.bucket, e.generation);
-        out.put_key(14, &key);
+        out.put_key(Tree::BucketGens, &key);
         last = Some(key);
     }
 }

@@ -7,8 +7,10 @@ ghost use Rattle.release_keys.specs.Emptied.{emptied_buckets};
 
 use crate::freed_buckets::Emptied;
 use change_fields::new_keys;
+use wire::key_types::KeyType;
 use wire::output::Output;
 use wire::positions;
+use wire::trees::Tree;
 
 // Tree 12: a key for each emptied bucket.
 pub fn put_need_discards(out: &mut Output, journal: u64, emptied: &[Emptied])
@@ -17,8 +19,8 @@ pub fn put_need_discards(out: &mut Output, journal: u64, emptied: &[Emptied])
     for e in emptied {
         new_keys::put_new_key(
             out,
-            12,
-            25,
+            Tree::NeedDiscard,
+            KeyType::Set,
             0,
             positions::need_discard_at(journal, e.bucket),
         );

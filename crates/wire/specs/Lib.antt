@@ -4,6 +4,8 @@ pub mod Kinds
 pub mod Positions
 pub mod Order
 pub mod Fields
+pub mod TreeTags
+pub mod KeyTypes
 pub mod Keys
 pub mod Held
 pub mod Encode

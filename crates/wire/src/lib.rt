@@ -1,11 +1,13 @@
-// Bytes and numbers, fields, kinds, positions, keys and rows: how each is read and how each is emitted.
+// Bytes and numbers, fields, kinds, positions, trees, keys and rows: how each is read and how each is emitted.
 #![tactic(auto)]
 
 pub mod bpos;
 pub mod fields;
+pub mod key_types;
 pub mod keys;
 pub mod kinds;
 pub mod le;
 pub mod output;
 pub mod positions;
 pub mod rows;
+pub mod trees;

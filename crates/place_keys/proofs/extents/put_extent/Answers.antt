@@ -4,4 +4,6 @@ use Rattle.place_keys.proofs.extents.put_extent.Goals as goal
 
 pub returns : goal.returns
 unfolding extent_key
-returns c = rw (c.put_words_key.ensures, c.extent_words-v.ensures.1, c.pointer.ensures, c.extent_at.ensures) refl
+returns c =
+    let named = rw c.unwrap.ensures at c.named.ensures in
+    rw (c.put_words_key.ensures, c.number.ensures, c.extent_words-v.ensures.1, named, c.pointer.ensures, c.extent_at.ensures) refl

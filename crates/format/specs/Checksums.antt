@@ -1,0 +1,16 @@
+-- FORMAT.md, "Call list": the checksum options of a head.
+use Rattle.std.specs.Prelude.{◌≡◌, ℕ, ◌<◌, Option, Some, None}
+use Rattle.format.specs.declared.checksums.ChecksumOption.{ChecksumOption}
+use Rattle.format.specs.declared.checksums.ChecksumOption.TheVariants.{Off, Crc32c, Crc64, Xxhash}
+
+-- the byte of an option
+abbrev pub option_byte : ChecksumOption → ℕ
+option_byte Off = 0
+option_byte Crc32c = 1
+option_byte Crc64 = 2
+option_byte Xxhash = 3
+
+-- what a byte names: the option that has it, and none above 3
+abbrev pub Names : ℕ → Option ChecksumOption → Type 0
+Names byte (Some o) = option_byte o ≡ byte
+Names byte None = 3 < byte
