@@ -22,8 +22,8 @@ module _ {s : List ℕ} {left next : Fields} (o : left.list.now ≡ s) where
     pub steps-to : step_of left.at (drop left.at s) ≡ r
     steps-to = sym (rw o at w.here)
 
-  pub field-here : {f : FieldPlace} → FieldStepped left (Some f) next → FieldAt s left.at f.tag f.start f.len
-  field-here {f} w = field-at s left.at f.tag f.start f.len (steps-to w)
+  pub field-found : {f : FieldPlace} → FieldStepped left (Some f) next → FieldAt s left.at f.tag f.start f.len
+  field-found {f} w = field-at s left.at f.tag f.start f.len (steps-to w)
 
   -- where no field is left, the place tells whether the list ends there
   pub ended : {t : Bool} → FieldStepped left None next → t ≡ eqb next.at (length next.list.now) → eqb left.at (length s) ≡ t

@@ -1,5 +1,5 @@
 use Rattle.std.proofs.Common.{sym, ◌∙◌}
-use Rattle.wire.proofs.FieldStepLaws.{field-here, list-stays, steps-to, ended}
+use Rattle.wire.proofs.FieldStepLaws.{field-found, list-stays, steps-to, ended}
 use Rattle.reader.proofs.ChangeLaws.{start, ends, bad, back, goes_on}
 use Rattle.reader.proofs.change.check_change.Goals.{then-not-field_ok-via-then-not-field_ok, then-not-field_ok-via-else-not-field_ok+then-not-tag_after}
 use Rattle.reader.proofs.change.check_change.Goals as goal
@@ -8,11 +8,11 @@ pub loop-tag-init : goal.loop-tag-init
 loop-tag-init c = let o = c.of-fields.ensures in (o.0, rw o.1 (start _))
 
 pub field_ok-requires : goal.field_ok-requires
-field_ok-requires c = (field-here c.loop-tag.invariant.0 c.in-Some.ensures.steps).within
+field_ok-requires c = (field-found c.loop-tag.invariant.0 c.in-Some.ensures.steps).within
 
 pub returns-then-not-field_ok : goal.returns-then-not-field_ok
 returns-then-not-field_ok c =
-    let f = field-here c.loop-tag.invariant.0 c.in-Some.ensures.steps in
+    let f = field-found c.loop-tag.invariant.0 c.in-Some.ensures.steps in
     elim c.then-not-field_ok.branch [
       | then-not-field_ok-via-then-not-field_ok w ↦
           sym (bad _ _ _ c.loop-tag.invariant.1 _ _ _ f (sym c.field_ok.ensures ∙ w.if-not-field_ok.true))
@@ -23,7 +23,7 @@ returns-then-not-field_ok c =
 pub loop-tag-preserved : goal.loop-tag-preserved
 loop-tag-preserved c =
     let w = c.in-Some.ensures.steps in
-    let f = field-here c.loop-tag.invariant.0 w in (
+    let f = field-found c.loop-tag.invariant.0 w in (
       list-stays c.loop-tag.invariant.0 w,
       rw w.at
       (goes_on _ _ _ c.loop-tag.invariant.1 _ _ _ f (sym c.field_ok.ensures ∙ c.if-not-field_ok.false)

@@ -1,6 +1,6 @@
 use Rattle.std.proofs.Common.{sym, ◌∙◌, refl, arith, false}
 use Rattle.calls.proofs.lists.BoolLaws.{clash}
-use Rattle.wire.proofs.FieldStepLaws.{field-here, list-stays, steps-to, ended, at_end}
+use Rattle.wire.proofs.FieldStepLaws.{field-found, list-stays, steps-to, ended, at_end}
 use Rattle.reader.proofs.SurveyLaws.{going_start, breaks, second, bad-head, goes-head, bad-beside, next-within, next-free, goes_on}
 use Rattle.reader.proofs.SurveyStartLaws.{loosen}
 use Rattle.reader.proofs.SurveyEndLaws.{no-head, ends_found, broken-found, laid-found}
@@ -11,14 +11,14 @@ pub loop-tag-init : goal.loop-tag-init
 loop-tag-init c = let o = c.of-fields.ensures in (o.0, rw o.1 (loosen (going_start _ _ _ _ _ c.requires refl)))
 
 pub field_ok-requires : goal.field_ok-requires
-field_ok-requires c = (field-here c.loop-tag.invariant.0 c.in-Some.ensures.steps).within
+field_ok-requires c = (field-found c.loop-tag.invariant.0 c.in-Some.ensures.steps).within
 
 pub passes-over-requires : goal.passes-over-requires
 passes-over-requires c =
     let w = c.in-Some.ensures.steps in
     let i = c.loop-tag.invariant in
     let ok = sym c.field_ok.ensures ∙ c.if-field_ok.true in (
-      next-within _ _ _ _ _ _ _ _ _ _ _ i.1 _ _ _ (field-here i.0 w) ok,
+      next-within _ _ _ _ _ _ _ _ _ _ _ i.1 _ _ _ (field-found i.0 w) ok,
       next-free _ _ _ _ _ _ _ _ _ _ _ i.1 _ _ _ (steps-to i.0 w) ok,
     )
 
@@ -34,12 +34,12 @@ loop-tag-preserved-then-field_ok c =
     )
 
 pub head_field_ok-requires : goal.head_field_ok-requires
-head_field_ok-requires c = (field-here c.loop-tag.invariant.0 c.in-Some.ensures.steps).within
+head_field_ok-requires c = (field-found c.loop-tag.invariant.0 c.in-Some.ensures.steps).within
 
 pub returns-then-tag-ne1 : goal.returns-then-tag-ne1
 returns-then-tag-ne1 c =
     let i = c.loop-tag.invariant in
-    let f = field-here i.0 c.in-Some.ensures.steps in
+    let f = field-found i.0 c.in-Some.ensures.steps in
     broken-found
     (elim c.then-tag-ne1.branch [
       | then-tag-ne1-via-then-tag-ne1 w ↦
@@ -55,7 +55,7 @@ loop-tag-preserved c =
     let i = c.loop-tag.invariant in (
       list-stays i.0 w,
       rw w.at
-      (goes-head _ _ _ _ _ _ _ _ _ _ _ i.1 _ _ _ (field-here i.0 w) c.if-tag-ne1.false (sym c.is_some.ensures ∙ c.if-is_some.false)
+      (goes-head _ _ _ _ _ _ _ _ _ _ _ i.1 _ _ _ (field-found i.0 w) c.if-tag-ne1.false (sym c.is_some.ensures ∙ c.if-is_some.false)
       (sym c.head_field_ok.ensures ∙ c.if-not-head_field_ok.false)),
     )
 

@@ -1,5 +1,5 @@
 use Rattle.std.proofs.Common.{sym, ◌∙◌, refl, arith, true}
-use Rattle.wire.proofs.FieldStepLaws.{field-here, list-stays, steps-to, at_end}
+use Rattle.wire.proofs.FieldStepLaws.{field-found, list-stays, steps-to, at_end}
 use Rattle.reader.proofs.SurveyLaws.{next-within, last_within, next-free, next-below, goes_after}
 use Rattle.reader.proofs.SurveyStartLaws.{first-going}
 use Rattle.reader.proofs.SurveyEndLaws.{ends_found, ordered-found}
@@ -17,12 +17,12 @@ loop-tag-init c =
     (o.0, rw o.1 (first-going _ _ _ _ _ _ (c.head_first.ensures _ c.in_ok-head.was) c.requires.0 c.requires.1), λ z. omega arith)
 
 pub field_ok-requires : goal.field_ok-requires
-field_ok-requires c = (field-here c.loop-tag.invariant.0 c.in-Some.ensures.steps).within
+field_ok-requires c = (field-found c.loop-tag.invariant.0 c.in-Some.ensures.steps).within
 
 pub follows-requires : goal.follows-requires
 follows-requires c =
     let i = c.loop-tag.invariant in
-    let f = field-here i.0 c.in-Some.ensures.steps in
+    let f = field-found i.0 c.in-Some.ensures.steps in
     let ok = sym c.field_ok.ensures ∙ c.if-not-field_ok.false in (
       last_within _ _ _ _ _ _ _ _ _ _ _ i.1 _ _ _ f ok,
       next-within _ _ _ _ _ _ _ _ _ _ _ i.1 _ _ _ f ok,
@@ -33,7 +33,7 @@ passes-over-requires c =
     let w = c.in-Some.ensures.steps in
     let i = c.loop-tag.invariant in
     let ok = sym c.field_ok.ensures ∙ c.if-not-field_ok.false in (
-      next-within _ _ _ _ _ _ _ _ _ _ _ i.1 _ _ _ (field-here i.0 w) ok,
+      next-within _ _ _ _ _ _ _ _ _ _ _ i.1 _ _ _ (field-found i.0 w) ok,
       next-free _ _ _ _ _ _ _ _ _ _ _ i.1 _ _ _ (steps-to i.0 w) ok,
     )
 
@@ -45,7 +45,7 @@ loop-tag-preserved c =
       list-stays i.0 w,
       rw w.at
       (goes_after _ _ _ _ _ _ _ _ _ _ _ i.1 _ _ _ (steps-to i.0 w) ok _ _ _ (sym c.follows.ensures ∙ c.if-not-follows.false) c.passes-over.ensures),
-      next-below _ _ _ _ _ _ _ _ _ _ _ i.1 _ _ _ (field-here i.0 w) ok,
+      next-below _ _ _ _ _ _ _ _ _ _ _ i.1 _ _ _ (field-found i.0 w) ok,
     )
 
 pub returns : goal.returns
