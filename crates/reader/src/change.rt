@@ -51,7 +51,7 @@ fn tag_after(last: u8, tag: u8) -> bool
     last == 76 || last <= tag
 }
 
-// Whether a change list keeps its layout. A field that passes the end is none.
+// Whether a change list keeps its layout; a field that passes the end breaks it.
 pub fn check_change(s: &[u8]) -> bool
     ensures { result ≡ change_laid_out s.now }
 {

@@ -5,7 +5,6 @@ ghost use Rattle.reader.specs.Table.{rank_of, Free, FieldNoted, Fits};
 ghost use Rattle.reader.specs.Surveyed.{HeadFirst, Surveyed, OrderSurveyed};
 
 use crate::{head, limits, order, table};
-use wire::fields;
 use wire::fields::{FieldPlace, Fields};
 
 // What the pass finds of a list that keeps the layout.
@@ -36,7 +35,7 @@ fn head_field_ok(s: &[u8], asked: Option<u8>, start: usize, len: usize) -> bool
 fn head_first(s: &[u8], asked: Option<u8>) -> Option<usize>
     ensures { HeadFirst (unwrap_or asked 0) (is_none asked) s.now result }
 {
-    let FieldPlace { tag, start, len } = fields::next_field(s, 0)?;
+    let FieldPlace { tag, start, len } = Fields::of(s).next()?;
     if tag == 1 && head_field_ok(s, asked, start, len) {
         Some(start)
     } else {
