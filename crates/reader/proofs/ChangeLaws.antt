@@ -1,14 +1,14 @@
 -- The layout of a change list, found field by field.
-use Prim.Native.Nat.{ℕ, ◌+◌, ◌≤◌, ◌<◌}
+use Prim.Native.Nat.{ℕ, ◌+◌, ◌≤◌}
 use mathlib.Core.Path.{◌≡◌, refl, sym, ◌∙◌, ap}
 use Rattle.std.proofs.Common.{None}
 use mathlib.Core.List.{List, [], ◌∷◌}
 use mathlib.Core.Bool.{Bool, true, false, ◌&&◌, ◌||◌, cond, and-false, and-true, and_assoc}
-use lib.ListN.{length, drop, drop_of_length-le}
+use lib.ListN.{length, drop}
 use lib.Dec.{leb, eqb}
 use borrow.Author.Tests.{eqb-true, le-leb}
 use native.Mathlib.Omega.{arith}
-use Rattle.wire.specs.Fields.{Field, fields_after, fields, field_at, step_of, whole}
+use Rattle.wire.specs.Fields.{Field, fields, field_at, step_of, whole}
 use Rattle.wire.proofs.FieldLaws.{FieldAt, stop-at, FieldsWalked, walked_none, walked_more, whole-stop}
 use Rattle.calls.specs.Lists.{all_of, in_order}
 use Rattle.calls.specs.CallList.{shaped}

@@ -26,8 +26,8 @@ loop-tag-preserved c =
     let f = field-found c.loop-tag.invariant.0 w in (
       list-stays c.loop-tag.invariant.0 w,
       rw w.at
-      (goes_on _ _ _ c.loop-tag.invariant.1 _ _ _ f (sym c.field_ok.ensures ∙ c.if-not-field_ok.false)
-      (sym c.tag_after.ensures ∙ c.if-not-tag_after.false)),
+          (goes_on _ _ _ c.loop-tag.invariant.1 _ _ _ f (sym c.field_ok.ensures ∙ c.if-not-field_ok.false)
+          (sym c.tag_after.ensures ∙ c.if-not-tag_after.false)),
     )
 
 pub returns-then-at_end : goal.returns-then-at_end

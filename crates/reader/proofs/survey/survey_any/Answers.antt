@@ -1,4 +1,4 @@
-use Rattle.std.proofs.Common.{sym, ◌∙◌, refl, arith, false}
+use Rattle.std.proofs.Common.{sym, ◌∙◌, refl, false}
 use Rattle.calls.proofs.lists.BoolLaws.{clash}
 use Rattle.wire.proofs.FieldStepLaws.{field-found, list-stays, steps-to, ended, at_end}
 use Rattle.reader.proofs.SurveyLaws.{going_start, breaks, second, bad-head, goes-head, bad-beside, next-within, next-free, goes_on}
@@ -28,9 +28,9 @@ loop-tag-preserved-then-field_ok c =
     let i = c.loop-tag.invariant in (
       list-stays i.0 w,
       rw w.at
-      (loosen
-      (goes_on _ _ _ _ _ _ _ _ _ _ _ i.1 _ _ _ (steps-to i.0 w) (sym c.field_ok.ensures ∙ c.if-field_ok.true) _ _ _ _ refl
-      c.passes-over.ensures)),
+          (loosen
+          (goes_on _ _ _ _ _ _ _ _ _ _ _ i.1 _ _ _ (steps-to i.0 w) (sym c.field_ok.ensures ∙ c.if-field_ok.true) _ _ _ _ refl
+          c.passes-over.ensures)),
     )
 
 pub head_field_ok-requires : goal.head_field_ok-requires
@@ -55,8 +55,8 @@ loop-tag-preserved c =
     let i = c.loop-tag.invariant in (
       list-stays i.0 w,
       rw w.at
-      (goes-head _ _ _ _ _ _ _ _ _ _ _ i.1 _ _ _ (field-found i.0 w) c.if-tag-ne1.false (sym c.is_some.ensures ∙ c.if-is_some.false)
-      (sym c.head_field_ok.ensures ∙ c.if-not-head_field_ok.false)),
+          (goes-head _ _ _ _ _ _ _ _ _ _ _ i.1 _ _ _ (field-found i.0 w) c.if-tag-ne1.false (sym c.is_some.ensures ∙ c.if-is_some.false)
+          (sym c.head_field_ok.ensures ∙ c.if-not-head_field_ok.false)),
     )
 
 pub returns-then-not-at_end : goal.returns-then-not-at_end

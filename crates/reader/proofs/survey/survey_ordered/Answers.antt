@@ -44,7 +44,7 @@ loop-tag-preserved c =
     let ok = sym c.field_ok.ensures ∙ c.if-not-field_ok.false in (
       list-stays i.0 w,
       rw w.at
-      (goes_after _ _ _ _ _ _ _ _ _ _ _ i.1 _ _ _ (steps-to i.0 w) ok _ _ _ (sym c.follows.ensures ∙ c.if-not-follows.false) c.passes-over.ensures),
+          (goes_after _ _ _ _ _ _ _ _ _ _ _ i.1 _ _ _ (steps-to i.0 w) ok _ _ _ (sym c.follows.ensures ∙ c.if-not-follows.false) c.passes-over.ensures),
       next-below _ _ _ _ _ _ _ _ _ _ _ i.1 _ _ _ (field-found i.0 w) ok,
     )
 

@@ -1,5 +1,5 @@
 -- A field is passed over, or is the next key.
-use Rattle.std.proofs.Common.{arith, sym}
+use Rattle.std.proofs.Common.{sym}
 use Rattle.sorting.proofs.EntryStepLaws.{none-passed, passes, finds, ends, nearer}
 use Rattle.sorting.proofs.entries.EntriesIterator.next.Goals as goal
 
