@@ -1,4 +1,4 @@
--- A step over what is left of the fields of a list.
+-- A step over what is left of the fields of a list s.
 use mathlib.Core.Path.{◌≡◌, sym, ◌∙◌}
 use mathlib.Core.List.{List, []}
 use Prim.Native.Nat.{ℕ, ◌≤◌}
@@ -9,7 +9,7 @@ use lib.Dec.{eqb}
 use lib.ListN.{length, drop}
 use Rattle.std.proofs.Common.{Option, Some, None}
 use Rattle.wire.specs.Fields.{fields, step_of}
-use Rattle.wire.specs.Steps.{FieldStepped}
+use Rattle.wire.specs.FieldSteps.{FieldStepped}
 use Rattle.wire.specs.declared.fields.FieldPlace.{FieldPlace}
 use Rattle.wire.specs.declared.fields.Fields.{Fields}
 use Rattle.wire.proofs.FieldLaws.{FieldAt, field-at, stop-at}
@@ -29,8 +29,9 @@ module _ {s : List ℕ} {left next : Fields} (o : left.list.now ≡ s) where
   pub ended : {t : Bool} → FieldStepped left None next → t ≡ eqb next.at (length next.list.now) → eqb left.at (length s) ≡ t
   ended w e = sym (rw (w.at, list-stays w) at e)
 
-  pub at_end : FieldStepped left None next → true ≡ eqb next.at (length next.list.now) → length s ≤ left.at
-  at_end w e = omega (arith, eqb-true left.at (length s) (ended w e))
+  pub to-the-end : FieldStepped left None next → true ≡ eqb next.at (length next.list.now) → length s ≤ left.at
+  to-the-end w e = omega (arith, eqb-true left.at (length s) (ended w e))
 
+  -- no field is left there
   pub none-here : FieldStepped left None next → fields (drop left.at s) ≡ []
   none-here w = stop-at (drop left.at s) left.at (steps-to w)

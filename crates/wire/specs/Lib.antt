@@ -4,7 +4,7 @@ pub mod Kinds
 pub mod Positions
 pub mod Order
 pub mod Fields
-pub mod Steps
+pub mod FieldSteps
 pub mod Keys
 pub mod Held
 pub mod Encode

@@ -1,6 +1,6 @@
 use Rattle.std.proofs.Common.{sym, ◌∙◌, refl, false}
 use Rattle.calls.proofs.lists.BoolLaws.{clash}
-use Rattle.wire.proofs.FieldStepLaws.{field-found, list-stays, steps-to, ended, at_end}
+use Rattle.wire.proofs.FieldStepLaws.{field-found, list-stays, steps-to, ended, to-the-end}
 use Rattle.reader.proofs.SurveyLaws.{going_start, breaks, second, bad-head, goes-head, bad-beside, next-within, next-free, goes_on}
 use Rattle.reader.proofs.SurveyStartLaws.{loosen}
 use Rattle.reader.proofs.SurveyEndLaws.{no-head, ends_found, broken-found, laid-found}
@@ -68,11 +68,11 @@ returns-then-not-at_end c =
 pub returns-in_err-head : goal.returns-in_err-head
 returns-in_err-head c =
     let i = c.loop-tag.invariant in
-    let e = at_end i.0 c.in_default.ensures.steps c.if-not-at_end.ensures in
+    let e = to-the-end i.0 c.in_default.ensures.steps c.if-not-at_end.ensures in
     rw c.from_residual.ensures (broken-found (no-head _ _ _ _ _ _ _ _ _ _ _ i.1 e c.in_err-head.was))
 
 pub returns : goal.returns
 returns c =
     let i = c.loop-tag.invariant in
-    let e = at_end i.0 c.in_default.ensures.steps c.if-not-at_end.ensures in
+    let e = to-the-end i.0 c.in_default.ensures.steps c.if-not-at_end.ensures in
     laid-found (ends_found _ _ _ _ _ _ _ _ _ _ _ i.1 e _ c.in_ok-head.was false (λ z. absurd (clash z refl)))

@@ -1,5 +1,5 @@
 use Rattle.std.proofs.Common.{sym, ◌∙◌, refl, arith, true}
-use Rattle.wire.proofs.FieldStepLaws.{field-found, list-stays, steps-to, at_end}
+use Rattle.wire.proofs.FieldStepLaws.{field-found, list-stays, steps-to, to-the-end}
 use Rattle.reader.proofs.SurveyLaws.{next-within, last_within, next-free, next-below, goes_after}
 use Rattle.reader.proofs.SurveyStartLaws.{first-going}
 use Rattle.reader.proofs.SurveyEndLaws.{ends_found, ordered-found}
@@ -51,5 +51,5 @@ loop-tag-preserved c =
 pub returns : goal.returns
 returns c =
     let i = c.loop-tag.invariant in
-    let e = at_end i.0 c.in_default.ensures.steps c.if-not-at_end.ensures in
+    let e = to-the-end i.0 c.in_default.ensures.steps c.if-not-at_end.ensures in
     ordered-found i.1.fits (ends_found _ _ _ _ _ _ _ _ _ _ _ i.1 e _ refl true (λ z. i.2)) refl
