@@ -85,7 +85,6 @@ abbrev Named : Field → Type 0
 Named f = f.tag ≡ 70 → (length f.body ≡ 1) × (is_root (le 1 f.body) ≡ true)
 
 pub record Rooting (list : List ℕ) (roots at r : ℕ) : Type 0 where
-  pub within : at ≤ length list
   pub low : r < 8
   pub rest : set_roots (roots_in (fields (drop at list))) r ≡ set_roots (roots_in (fields list)) roots
   pub named : All Named (fields (drop at list))
@@ -108,7 +107,7 @@ all-named-in list h =
     all_join named-field (test-all (shaped change_shapes) fs b.0) (test-all field_ok fs c.0)
 
 pub rooting-start : (list : List ℕ) (roots : ℕ) → roots < 8 → change_laid_out list ≡ true → Rooting list roots 0 roots
-rooting-start list roots l h = record { within = omega arith; low = l; rest = refl; named = all-named-in list h }
+rooting-start list roots l h = record { low = l; rest = refl; named = all-named-in list h }
 
 pub rooting-end : {list : List ℕ} {roots at r : ℕ} → Rooting list roots at r → fields (drop at list) ≡ [] → Rooted r (set_roots (roots_in (fields list)) roots)
 unfolding roots_in bodies those set_roots
@@ -133,7 +132,6 @@ module _ {list : List ℕ} {roots at r : ℕ} (p : Rooting list roots at r) {tag
   unfolding roots_in bodies those set_roots after_field with_root with_root_bit root_missing
   rooting-on {q} k =
       record {
-        within = h.field.within;
         low = k.low;
         rest = ap (set_roots (roots_in (fields (drop (b + n) list)))) k.same ∙ sym passed ∙ p.rest;
         named = all_tail all_named;

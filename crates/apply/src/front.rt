@@ -7,7 +7,7 @@ ghost use Rattle.apply.specs.Roots.{with_root, is_root, roots_after, NamesRoot, 
 
 use reader::head;
 use reader::head::Head;
-use wire::fields;
+use wire::fields::Fields;
 use wire::output::Output;
 
 // The bit of a root set. The layout of the change list shows the id, that of the volume the bits.
@@ -39,11 +39,9 @@ pub fn roots_after(list: &[u8], roots: u8) -> u8
     requires { (roots < 8) × (change_laid_out list.now ≡ true) }
     ensures { Rooted result (roots_after list.now roots) }
 {
-    let mut at = 0;
     let mut r = roots;
-    while let Some(field) = fields::next_field(list, at) {
+    for field in Fields::of(list) {
         r = after_field(list, r, field.tag, field.start);
-        at = field.start + field.len;
     }
     r
 }

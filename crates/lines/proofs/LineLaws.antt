@@ -173,12 +173,11 @@ module _ (t : ℕ) (b : List ℕ) (h : change_field_ok (record { tag = t; body =
 
 -- the loop over a change list: what is put, and what is left are the lines of the fields from place `at` on
 pub record LinesLeft (s : List ℕ) (o : Output) (at : ℕ) (p : Output) : Type 0 where
-  pub within : at ≤ length s
   pub shapes : All (λ f. change_field_ok f ≡ true) (fields (drop at s))
   pub left : with_bytes p (change_lines (drop at s)) ≡ with_bytes o (change_lines s)
 
 pub left-all : (s : List ℕ) (o : Output) → change_laid_out s ≡ true → LinesLeft s o 0 o
-left-all s o h = record { within = omega arith; shapes = fields-ok s h; left = refl }
+left-all s o h = record { shapes = fields-ok s h; left = refl }
 
 module _ {s : List ℕ} {o p : Output} {at t b n : ℕ} (l : LinesLeft s o at p) (f : FieldAt s at t b n) where
   same-body : record { tag = t; body = take (b + n - b) (drop b s) } ≡ field_at s t b n
@@ -199,7 +198,6 @@ module _ {s : List ℕ} {o p : Output} {at t b n : ℕ} (l : LinesLeft s o at p)
       let a : change_lines (drop at s) ≡ line (field_words (field_at s t b n)) ++ change_lines (drop (b + n) s) =
       ap (each (λ (f : Field). line (field_words f))) f.here in
       record {
-        within = f.within;
         shapes = all_tail here-ok;
         left = rw (w, same-body, with-with) (ap (with_bytes p) (sym a) ∙ l.left);
       }

@@ -6,8 +6,9 @@ ghost use Rattle.reader.specs.Bodies.{change_field_ok};
 ghost use Rattle.lines.specs.Lines.{line, field_words, change_lines};
 
 use crate::{key_lines, other_lines};
+use wire::fields::Fields;
+use wire::le;
 use wire::output::Output;
-use wire::{fields, le};
 
 // The line of a field, by its tag. The layout of a change list shows the shape.
 fn put_line(out: &mut Output, tag: u8, body: &[u8])
@@ -31,10 +32,8 @@ pub fn put_lines(out: &mut Output, change: &[u8])
     requires { change_laid_out change.now ≡ true }
     ensures { out.new ≡ with_bytes out.old (change_lines change.now) }
 {
-    let mut next: usize = 0;
-    while let Some(field) = fields::next_field(change, next) {
+    for field in Fields::of(change) {
         let end = field.start + field.len;
         put_line(out, field.tag, &change[field.start..end]);
-        next = end;
     }
 }

@@ -1,15 +1,15 @@
 -- The layout of a change list, found field by field.
-use Prim.Native.Nat.{ℕ, ◌+◌, ◌≤◌, ◌<◌}
+use Prim.Native.Nat.{ℕ, ◌+◌, ◌≤◌}
 use mathlib.Core.Path.{◌≡◌, refl, sym, ◌∙◌, ap}
 use Rattle.std.proofs.Common.{None}
 use mathlib.Core.List.{List, [], ◌∷◌}
 use mathlib.Core.Bool.{Bool, true, false, ◌&&◌, ◌||◌, cond, and-false, and-true, and_assoc}
-use lib.ListN.{length, drop, drop_of_length-le}
+use lib.ListN.{length, drop}
 use lib.Dec.{leb, eqb}
 use borrow.Author.Tests.{eqb-true, le-leb}
 use native.Mathlib.Omega.{arith}
-use Rattle.wire.specs.Fields.{Field, fields_after, fields, field_at, step_of, whole}
-use Rattle.wire.proofs.FieldLaws.{FieldAt, FieldsWalked, walked_none, walked_more, whole-end, whole-left}
+use Rattle.wire.specs.Fields.{Field, fields, field_at, step_of, whole}
+use Rattle.wire.proofs.FieldLaws.{FieldAt, stop-at, FieldsWalked, walked_none, walked_more, whole-stop}
 use Rattle.calls.specs.Lists.{all_of, in_order}
 use Rattle.calls.specs.CallList.{shaped}
 use Rattle.calls.specs.ChangeList.{end_field, into_first, split_batches, change_shapes, field_ok, closed, change_laid_out, tags_ascend}
@@ -99,15 +99,11 @@ pub start : (s : List ℕ) → Changing s 0 76
 start s = record { walked = walked_none s; left = refl }
 
 module _ (s : List ℕ) (at last : ℕ) (w : Changing s at last) where
-  pub breaks : step_of at (drop at s) ≡ None → at < length s → change_laid_out s ≡ false
-  breaks e h = laid-is s ∙ simp (whole-left s at w.walked e h)
-
-  pub ends : length s ≤ at → change_laid_out s ≡ eqb last 76
-  unfolding change_from fields_after
-  ends h =
-      let e : drop at s ≡ [] = drop_of_length-le s {i = at} h in
-      let z : eqb last 76 ≡ change_from 76 (fields s) = rw e at w.left in
-      laid-is s ∙ rw (whole-end s at w.walked (omega (arith, w.walked.within)), ← z)
+  pub ends : {t : Bool} → step_of at (drop at s) ≡ None → eqb at (length s) ≡ t → (t && eqb last 76) ≡ change_laid_out s
+  unfolding change_from
+  ends e h =
+      let z : eqb last 76 ≡ change_from 76 (fields s) = rw (stop-at (drop at s) at e) at w.left in
+      sym (laid-is s ∙ rw (whole-stop s at w.walked e, h, ← z))
 
   module _ (t b n : ℕ) (f : FieldAt s at t b n) where
     pub bad : change_field_ok (field_at s t b n) ≡ false → change_laid_out s ≡ false

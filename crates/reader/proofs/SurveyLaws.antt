@@ -12,7 +12,7 @@ use borrow.Author.Tests.{ne_eqb, eqb-true, lt-ltb, le-ltb}
 use native.Mathlib.Omega.{arith}
 use Rattle.wire.specs.Fields.{Field, fields, field_at, step_of, whole, found}
 use Rattle.wire.proofs.NumberLaws.{body-length}
-use Rattle.wire.proofs.FieldLaws.{FieldAt, field-at, FieldsWalked, walked_none, walked_more, whole-left}
+use Rattle.wire.proofs.FieldLaws.{FieldAt, field-at, FieldsWalked, walked_none, walked_more, whole-stop}
 use Rattle.calls.specs.Lists.{all_of, in_order}
 use Rattle.calls.specs.CallList.{bodies, shaped}
 use Rattle.calls.specs.Limits.{list_within}
@@ -115,8 +115,8 @@ module _ (s : List ℕ) (call : ℕ) (any : Bool) where
 module _
     (s : List ℕ) (call : ℕ) (any : Bool) (at m : ℕ) (head : Option ℕ) (last before : ℕ) (over : Bool) (counts index : List ℕ)
     (g : Going s call any at m head last before over counts index) where
-  pub breaks : step_of at (drop at s) ≡ None → at < length s → laid_as call any s ≡ false
-  breaks e h = cut s call any (whole-left s at g.walked e h)
+  pub breaks : step_of at (drop at s) ≡ None → eqb at (length s) ≡ false → laid_as call any s ≡ false
+  breaks e h = cut s call any (whole-stop s at g.walked e ∙ h)
 
   module _ (t b n : ℕ) (f : FieldAt s at t b n) where
     pub bad : any_field_ok call any (field_at s t b n) ≡ false → laid_as call any s ≡ false

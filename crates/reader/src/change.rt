@@ -5,8 +5,8 @@ ghost use Rattle.calls.specs.ChangeList.{change_laid_out};
 ghost use Rattle.reader.specs.Bodies.{root_ok, change_field_ok, tag_after};
 
 use crate::keys;
-use wire::fields::FieldPlace;
-use wire::{fields, keys as wire_keys, le};
+use wire::fields::{FieldPlace, Fields};
+use wire::{keys as wire_keys, le};
 
 // Whether a body of len bytes names a root: 10, 12 or 14. A field's length shows the bound.
 #[tactic(auto, using(crate::proofs::ShapeLaws::root_cases))]
@@ -51,21 +51,17 @@ fn tag_after(last: u8, tag: u8) -> bool
     last == 76 || last <= tag
 }
 
-// Whether a change list keeps its layout. The place, not `next_field`, tells the end of the list from a field that passes it.
+// Whether a change list keeps its layout; a field that passes the end breaks it.
 pub fn check_change(s: &[u8]) -> bool
     ensures { result ≡ change_laid_out s.now }
 {
-    let mut at: usize = 0;
+    let mut fields = Fields::of(s);
     let mut last: u8 = 76;
-    while at < s.len() {
-        let Some(FieldPlace { tag, start, len }) = fields::next_field(s, at) else {
-            return false;
-        };
+    while let Some(FieldPlace { tag, start, len }) = fields.next() {
         if !field_ok(s, tag, start, len) || !tag_after(last, tag) {
             return false;
         }
         last = tag;
-        at = start + len;
     }
-    last == 76
+    fields.at_end() && last == 76
 }

@@ -6,9 +6,10 @@ ghost use Rattle.calls.specs.CallList.{head_of, head_body, head_ok};
 ghost use Rattle.reader.specs.CallFields.{head_within};
 ghost use Rattle.reader.specs.Heads.{call_byte, head_in, head_sizes};
 
+use wire::fields::Fields;
 use wire::kinds::FileSector;
 use wire::output::Output;
-use wire::{fields, kinds, le};
+use wire::{kinds, le};
 
 #[derive(Clone, Copy, Drop)]
 pub struct Head {
@@ -28,8 +29,7 @@ pub struct Head {
 pub fn call_byte(s: &[u8]) -> u8
     ensures { result ≡ call_byte s.now }
 {
-    let mut at: usize = 0;
-    while let Some(field) = fields::next_field(s, at) {
+    for field in Fields::of(s) {
         if field.tag == 1 {
             return if field.len == 0 {
                 0
@@ -37,7 +37,6 @@ pub fn call_byte(s: &[u8]) -> u8
                 le::le8(s, field.start)
             };
         }
-        at = field.start + field.len;
     }
     0
 }

@@ -5,8 +5,7 @@ ghost use Rattle.reader.specs.Table.{rank_of, Free, FieldNoted, Fits};
 ghost use Rattle.reader.specs.Surveyed.{HeadFirst, Surveyed, OrderSurveyed};
 
 use crate::{head, limits, order, table};
-use wire::fields;
-use wire::fields::FieldPlace;
+use wire::fields::{FieldPlace, Fields};
 
 // What the pass finds of a list that keeps the layout.
 #[derive(Clone, Copy, Drop)]
@@ -36,7 +35,7 @@ fn head_field_ok(s: &[u8], asked: Option<u8>, start: usize, len: usize) -> bool
 fn head_first(s: &[u8], asked: Option<u8>) -> Option<usize>
     ensures { HeadFirst (unwrap_or asked 0) (is_none asked) s.now result }
 {
-    let FieldPlace { tag, start, len } = fields::next_field(s, 0)?;
+    let FieldPlace { tag, start, len } = Fields::of(s).next()?;
     if tag == 1 && head_field_ok(s, asked, start, len) {
         Some(start)
     } else {
@@ -61,7 +60,7 @@ fn passes(
         || !table::note(counts, index, table::rank_of(tag), n, start)
 }
 
-// The pass over a list in any order, of the call that is asked for, or of whatever call its head names: field 1 may stand anywhere, and no order is told; none where the list breaks the layout. The table that is lent shows the bound. The place, not `next_field`, tells the end of a list from a field that passes it, here and below.
+// The pass over a list in any order, of the call that is asked for, or of whatever call its head names: field 1 may stand anywhere, and no order is told; none where the list breaks the layout. The table that is lent shows the bound. A field that passes the end breaks the layout, here and below.
 fn survey_any(
     s: &[u8],
     asked: Option<u8>,
@@ -74,11 +73,9 @@ fn survey_any(
     *counts = [0usize; 8];
     let mut head = None;
     let mut over = false;
-    let mut at: usize = 0;
     let mut n: usize = 0;
-    while at < s.len() {
-        let FieldPlace { tag, start, len } = fields::next_field(s, at)?;
-        at = start + len;
+    let mut fields = Fields::of(s);
+    while let Some(FieldPlace { tag, start, len }) = fields.next() {
         if order::field_ok(s, asked, tag, start, len) {
             over = passes(s, over, tag, start, n, counts, index);
             n += 1;
@@ -88,6 +85,9 @@ fn survey_any(
             }
             head = Some(start);
         }
+    }
+    if !fields.at_end() {
+        return None;
     }
     Some(Laid {
         head: head?,
@@ -110,10 +110,9 @@ fn survey_ordered(
     let mut over = false;
     let mut last: u8 = 0;
     let mut before: usize = 0;
-    let mut at: usize = head + 39;
     let mut n: usize = 0;
-    while at < s.len() {
-        let FieldPlace { tag, start, len } = fields::next_field(s, at)?;
+    let mut fields = Fields::from_place(s, head + 39);
+    while let Some(FieldPlace { tag, start, len }) = fields.next() {
         if !order::field_ok(s, asked, tag, start, len)
             || !order::follows(s, last, before, tag, start)
         {
@@ -122,8 +121,10 @@ fn survey_ordered(
         over = passes(s, over, tag, start, n, counts, index);
         last = tag;
         before = start;
-        at = start + len;
         n += 1;
+    }
+    if !fields.at_end() {
+        return None;
     }
     Some(Laid {
         head,

@@ -3,6 +3,7 @@ pub mod MergeLaws
 pub mod LastLaws
 pub mod KeepLaws
 pub mod EntryLaws
+pub mod EntryStepLaws
 pub mod SectionLaws
 pub mod BoundLaws
 pub mod ChunkLaws

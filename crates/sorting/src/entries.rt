@@ -1,10 +1,10 @@
 // Where the keys of a section stand: in a volume, and queued in a change list. A reserved bucket is a key at inode 0 and its number.
 ghost use Rattle.std.specs.Prelude.{◌≡◌, ◌+◌, ◌≤◌, ◌<◌, length, get_or};
 ghost use Rattle.sorting.specs.Entries.{sections, is_bucket, is_entry};
-ghost use Rattle.sorting.specs.EntryPlaces.{EntryAt, entry_from, EntryStepped};
+ghost use Rattle.sorting.specs.EntryPlaces.{EntryAt, entry_from};
 
 use wire::bpos::Bpos;
-use wire::fields::FieldPlace;
+use wire::fields::{FieldPlace, Fields};
 use wire::{fields, keys, kinds, positions};
 
 // The section of the reserved buckets.
@@ -46,7 +46,7 @@ fn is_entry(section: u8, tag: u8, len: usize) -> bool
     }
 }
 
-// The position of the key whose body starts at o. `next_entry` and the table of a volume show that one does, here and below.
+// The position of the key whose body starts at o. `Entries` and the table of a volume show that one does, here and below.
 pub fn pos_at(s: &[u8], o: usize, section: u8) -> Bpos
     requires { EntryAt section s.now o }
     ensures { result ≡ (entry_from section s.now o).pos }
@@ -72,17 +72,43 @@ pub fn type_at(s: &[u8], o: usize, section: u8) -> u8
     }
 }
 
-// The next key of a section from a place on; none where no key of the section is left. The place after a key, or 0, shows the bound.
-pub fn next_entry(s: &[u8], from: usize, section: u8) -> Option<FieldPlace>
-    requires { from ≤ length s.now }
-    ensures { EntryStepped s.now from section result }
-{
-    let mut at = from;
-    while let Some(field) = fields::next_field(s, at) {
-        if is_entry(section, field.tag, field.len) {
-            return Some(field);
+// The keys of a section that are left in a list.
+#[derive(Drop)]
+pub struct Entries<'a> {
+    pub fields: Fields<'a>,
+    pub section: u8,
+}
+
+impl<'a> Entries<'a> {
+    // All keys of a section in a list.
+    pub fn of(list: &'a [u8], section: u8) -> Entries<'a>
+        ensures { (result.fields.list.now ≡ list.now) × (result.fields.at ≡ 0) × (result.section ≡ section) }
+    {
+        Entries {
+            fields: Fields::of(list),
+            section,
         }
-        at = field.start + field.len;
     }
-    None
+}
+
+impl<'a> Iterator for Entries<'a> {
+    ghost use Rattle.std.specs.Prelude.{◌-◌};
+    ghost use Rattle.std.specs.Iterator.{at_most};
+    ghost use Rattle.sorting.specs.EntrySteps.{EntryStepped};
+
+    type Item = FieldPlace;
+
+    ghost next_gives = { λ before key after. EntryStepped before key after };
+
+    ghost remaining = { λ left. at_most (length left.fields.list.now - left.fields.at) };
+
+    // The next key, if one is left.
+    fn next(&mut self) -> Option<FieldPlace> {
+        while let Some(field) = self.fields.next() {
+            if is_entry(self.section, field.tag, field.len) {
+                return Some(field);
+            }
+        }
+        None
+    }
 }

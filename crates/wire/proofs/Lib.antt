@@ -2,6 +2,7 @@ pub mod AppendLaws
 pub mod BucketTables
 pub mod EncodeLaws
 pub mod FieldLaws
+pub mod FieldStepLaws
 pub mod KeyLaws
 pub mod KindLaws
 pub mod NumberLaws

@@ -4,6 +4,7 @@ pub mod Kinds
 pub mod Positions
 pub mod Order
 pub mod Fields
+pub mod FieldSteps
 pub mod TreeTags
 pub mod KeyTypes
 pub mod Keys
