@@ -4,6 +4,7 @@ pub mod AllOfLaws
 pub mod AnyLaws
 pub mod AscendLaws
 pub mod BoolLaws
+pub mod ListedLaws
 pub mod MapLaws
 pub mod OftenTest
 pub mod OneSort
@@ -14,3 +15,4 @@ pub mod ThoseLaws
 pub mod TotalLaws
 pub mod TwiceLaws
 pub mod WeakLaws
+pub mod WindowLaws
