@@ -12,7 +12,7 @@ ghost use Rattle.gens.specs.Joint.{keys_up_to, Looked, each_named};
 ghost use Rattle.gens.specs.Records.{RecordIs};
 
 use crate::lookup;
-use reader::key;
+use reader::{key, skip};
 use wire::kinds::Bucket;
 use wire::{bpos, positions};
 
@@ -59,12 +59,9 @@ fn keys_up_to(s: &[u8], gens: &[u32], known: usize, b: Bucket) -> usize
     ensures { result ≡ keys_up_to (gens_at b) (keys_here s.now gens.now) }
 {
     let p = positions::gens_at(b);
-    for (n, at) in gens[known..].iter().enumerate() {
-        if bpos::pos_less(p, key::pos_at(s, *at as usize)) {
-            return known + n;
-        }
-    }
-    gens.len()
+    skip::skip_while(gens, known, |at| {
+        !bpos::pos_less(p, key::pos_at(s, at as usize))
+    })
 }
 
 // Whether the key at a place is a bucket's record.
