@@ -59,9 +59,8 @@ fn keys_up_to(s: &[u8], gens: &[u32], known: usize, b: Bucket) -> usize
     ensures { result ≡ keys_up_to (gens_at b) (keys_here s.now gens.now) }
 {
     let p = positions::gens_at(b);
-    skip::skip_while(gens, known, |at| {
-        !bpos::pos_less(p, key::pos_at(s, at as usize))
-    })
+    let is_up_to = |at: u32| !bpos::pos_less(p, key::pos_at(s, at as usize));
+    skip::skip_while(gens, known, is_up_to)
 }
 
 // Whether the key at a place is a bucket's record.

@@ -1,7 +1,7 @@
 -- The walk along a table from an index on.
-use mathlib.Core.Path.{◌≡◌, refl, sym, subst}
+use mathlib.Core.Path.{◌≡◌, refl, ap, sym, subst}
 use mathlib.Core.Bool.{Bool, true, false, cond}
-use mathlib.Core.List.{List, [], ◌∷◌}
+use mathlib.Core.List.{List, [], ◌∷◌, map}
 use Prim.Native.Nat.{ℕ, zero, suc, ◌+◌, ◌-◌, ◌≤◌, ◌<◌}
 use native.Mathlib.Omega.{arith}
 use lib.ListN.{length, take, drop, get_or}
@@ -38,6 +38,11 @@ prefix-alike t u d e (x ∷ xs) [] h same = absurd (omega arith)
 prefix-alike t u d e (x ∷ xs) (y ∷ ys) h same =
     rw (same 0 (omega arith), prefix-alike t u d e xs ys (omega arith) (λ i k. same (suc i) (omega arith))) refl
 
+-- a test of a list that a function makes
+pub prefix-map : {A B : Type 0} (t : B → Bool) (f : A → B) (l : List A) → prefix_len (λ x. t (f x)) l ≡ prefix_len t (map f l)
+prefix-map t f [] = refl
+prefix-map t f (x ∷ l) = ap (λ n. cond (t (f x)) (1 + n) 0) (prefix-map t f l)
+
 -- what is known by index
 pub all-indexed : {A : Type 0} {P : A → Type 0} (d : A) (l : List A) → ((i : ℕ) → i < length l → P (get_or l i d)) → All P l
 all-indexed d [] h = none
@@ -46,3 +51,11 @@ all-indexed d (x ∷ l) h = more (h 0 (omega arith)) (all-indexed d l (λ i k. h
 -- a whole key stands at each place
 pub keys-whole : {s places : List ℕ} {ks : List Key} → KeysAt s places ks → All (Whole s) places
 keys-whole f = all-indexed 0 _ (λ i k. (f.at i k).whole)
+
+pub prefix-within : {A : Type 0} (t : A → Bool) (l : List A) → prefix_len t l ≤ length l
+prefix-within t [] = omega arith
+prefix-within t (x ∷ l) = go (t x) (prefix-within t l)
+  where
+    go : (b : Bool) → prefix_len t l ≤ length l → cond b (1 + prefix_len t l) 0 ≤ length (x ∷ l)
+    go true h = omega arith
+    go false h = omega arith
