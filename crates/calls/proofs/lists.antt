@@ -1,4 +1,5 @@
 -- Laws of lists, of tests, of totals and of sorts.
+pub mod AdjacentLaws
 pub mod AllLaws
 pub mod AllOfLaws
 pub mod AnyLaws
