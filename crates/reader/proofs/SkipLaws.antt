@@ -9,14 +9,14 @@ use Rattle.std.specs.List.{prefix_len}
 use Rattle.wire.specs.Bytes.{All, none, more}
 use Rattle.wire.specs.Keys.{Key}
 use Rattle.wire.proofs.NumberLaws.{all_take, all_drop}
-use Rattle.calls.proofs.lists.AllLaws.{all-nth}
+use Rattle.calls.proofs.lists.ListedLaws.{all-place}
 use Rattle.reader.specs.KeyHere.{Whole}
 use Rattle.reader.specs.Located.{KeysAt}
 
 -- what holds of each element holds of one that the walk comes to
 pub all-walked : {A : Type 0} {P : A → Type 0} {l : List A} → All P l → (from k : ℕ) (x : A) → k < length (take (length l - from) (drop from l))
     → x ≡ get_or (take (length l - from) (drop from l)) k x → P x
-all-walked {P = P} {l = l} h from k x i e = subst P (sym e) (all-nth x (all_take (length l - from) (all_drop from h)) k i)
+all-walked {l = l} h from k x i e = all-place (all_take (length l - from) (all_drop from h)) k x i e
 
 -- where a walk from an index that none before stops at ends
 pub walk-on : {A : Type 0} (t : A → Bool) (l : List A) (from : ℕ) → from ≤ prefix_len t l → from + prefix_len t (drop from l) ≡ prefix_len t l

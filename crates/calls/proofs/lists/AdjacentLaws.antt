@@ -1,6 +1,6 @@
 -- What a slice's `is_sorted_by` answers, beside `in_order`.
-use mathlib.Core.Path.{◌≡◌, refl, ap, sym, ◌∙◌}
-use mathlib.Core.Bool.{Bool, true, false, ◌&&◌, and-false}
+use mathlib.Core.Path.{◌≡◌, refl, sym}
+use mathlib.Core.Bool.{Bool, true, false, and-false}
 use mathlib.Core.List.{List, [], ◌∷◌}
 use Prim.Native.Nat.{ℕ, zero, suc, ◌+◌, ◌<◌}
 use native.Mathlib.Omega.{arith}
@@ -21,7 +21,7 @@ module _ {A : Type 0} (R : A → A → Bool) where
   adjacent-some [] k h f = absurd (omega arith)
   adjacent-some (x ∷ []) k h f = absurd (omega arith)
   adjacent-some (x ∷ y ∷ l) zero h f = rw (← f x) refl
-  adjacent-some (x ∷ y ∷ l) (suc k) h f = 
+  adjacent-some (x ∷ y ∷ l) (suc k) h f =
       let e : suc k + 1 ≡ suc (k + 1) = omega arith in
       rw (← adjacent-some (y ∷ l) k (omega arith) (λ d. rw e at (f d))) (sym (and-false (R x y)))
 
