@@ -1,9 +1,11 @@
 -- Laws of lists, of tests, of totals and of sorts.
+pub mod AdjacentLaws
 pub mod AllLaws
 pub mod AllOfLaws
 pub mod AnyLaws
 pub mod AscendLaws
 pub mod BoolLaws
+pub mod ListedLaws
 pub mod MapLaws
 pub mod OftenTest
 pub mod OneSort
@@ -14,3 +16,4 @@ pub mod ThoseLaws
 pub mod TotalLaws
 pub mod TwiceLaws
 pub mod WeakLaws
+pub mod WindowLaws

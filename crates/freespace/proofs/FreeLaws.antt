@@ -9,9 +9,12 @@ use lib.Dec.{eqb}
 use lib.ListN.{length, get_or, drop, drop_of_length-le}
 use borrow.Author.Tests.{lt-ltb, le-ltb, ltb-true, ltb-false, eqb-true, eqb-false, ne_eqb}
 use Rattle.std.specs.Prelude.{Option, None, Some}
+use Rattle.std.specs.List.{prefix_len}
+use Rattle.wire.specs.Bytes.{All}
 use Rattle.wire.specs.Keys.{Key}
-use Rattle.wire.specs.Kinds.{bucket_below, same_bucket, next_bucket, buckets_from, buckets_up_to, no_bucket}
+use Rattle.wire.specs.Kinds.{bucket_below, same_bucket, next_bucket, buckets_from, buckets_up_to, no_bucket, bucket_read}
 use Rattle.wire.specs.declared.kinds.Bucket.{Bucket}
+use Rattle.wire.proofs.NumberLaws.{le-take}
 use Rattle.calls.specs.Lists.{any_of, those, total, one as ind}
 use Rattle.calls.specs.Limits.{is_run}
 use Rattle.calls.specs.Freespace.{is_in, runs_of, buckets_of, free_count}
@@ -19,9 +22,10 @@ use Rattle.calls.specs.Answers.{read_volume}
 use Rattle.calls.proofs.lists.AllOfLaws.{all-of-drop, all-of-first}
 use Rattle.reader.specs.Checked.{Checked, end_in_range}
 use Rattle.reader.specs.KeyHere.{key_here}
-use Rattle.reader.specs.Located.{KeysAt}
+use Rattle.reader.specs.Located.{KeysAt, BucketsAt}
 use Rattle.reader.proofs.CheckedLaws.{run-range}
 use Rattle.reader.proofs.KeyHereLaws.{keys-next}
+use Rattle.reader.proofs.SkipLaws.{walk-on, prefix-alike, all-indexed}
 use Rattle.freespace.specs.Runs.{run_in, count_below}
 use Rattle.freespace.specs.declared.runs.Run.{Run}
 use Rattle.freespace.proofs.RunLaws.{Rising, rising, meets, run-here, run_end, run_buckets, run-buckets, run_none}
@@ -73,33 +77,28 @@ count-mono a b (c ∷ cs) h =
     go true e = rw (lt-ltb c.0 b.0 (omega (arith, ltb-true c.0 a.0 e))) (omega arith)
     go false e = omega arith
 
--- the buckets that ascend are below one up to a place, and not after it
-pub count-more : (m i : ℕ) (b c : Bucket) (bs rest : List Bucket) → Rising m bs → drop i bs ≡ c ∷ rest → c.0 < b.0 → i + 1 ≤ count_below b bs
-count-more m i b c [] rest r e h = absurd (no_drop i e)
+-- of buckets that ascend, those below one are the first
+below-prefix : (m : ℕ) (b : Bucket) (bs : List Bucket) → Rising m bs → prefix_len (λ c. bucket_below c b) bs ≡ count_below b bs
+below-prefix m b [] r = sym (count-nil b)
+below-prefix m b (c ∷ cs) r = go (bucket_below c b) refl (below-prefix (suc c.0) b cs r.1)
   where
-    no_drop : (j : ℕ) → drop j [] ≡ c ∷ rest → ⊥
-    no_drop zero f = omega (arith, ap length f)
-    no_drop (suc j) f = omega (arith, ap length f)
-count-more m zero b c (x ∷ xs) rest r e h = omega (arith, count-cons b x xs, ap ind (lt-ltb x.0 b.0 (omega (arith, first e))))
-  where
-    first : x ∷ xs ≡ c ∷ rest → x.0 ≡ c.0
-    first f = cc
-count-more m (suc i) b c (x ∷ xs) rest r e h =
-    omega (arith, count-cons b x xs, ap ind (lt-ltb x.0 b.0 (omega (arith, later (suc x.0) i xs r.1 e))), count-more (suc x.0) i b c xs rest r.1 e h)
-  where
-    later : (n j : ℕ) (ys : List Bucket) → Rising n ys → drop j ys ≡ c ∷ rest → n ≤ c.0
-    later n zero [] s f = absurd (omega (arith, ap length f))
-    later n (suc j) [] s f = absurd (omega (arith, ap length f))
-    later n zero (y ∷ ys) s f = let g : y.0 ≡ c.0 = cc in omega (arith, s.0)
-    later n (suc j) (y ∷ ys) s f = omega (arith, s.0, later (suc y.0) j ys s.1 f)
+    go : (t : Bool) → bucket_below c b ≡ t → prefix_len (λ c. bucket_below c b) cs ≡ count_below b cs
+        → cond t (1 + prefix_len (λ c. bucket_below c b) cs) 0 ≡ count_below b (c ∷ cs)
+    go true e h = omega (arith, count-cons b c cs, ap ind e, h)
+    go false e h = omega (arith, count_none c.0 b (c ∷ cs) (omega arith, r.1) (ltb-false c.0 b.0 e))
 
-pub count_most : (m i : ℕ) (b c : Bucket) (bs rest : List Bucket) → Rising m bs → drop i bs ≡ c ∷ rest → b.0 ≤ c.0 → count_below b bs ≤ i
-count_most m i b c [] rest r e h = omega (arith, count-nil b)
-count_most m zero b c (x ∷ xs) rest r e h =
-    let g : x.0 ≡ c.0 = cc in
-    omega (arith, count_none x.0 b (x ∷ xs) (omega arith, r.1) (omega arith))
-count_most m (suc i) b c (x ∷ xs) rest r e h =
-    omega (arith, count-cons b x xs, ind-most (bucket_below x b), count_most (suc x.0) i b c xs rest r.1 e h)
+-- the walk over their places
+module _ {s places : List ℕ} {bs : List Bucket} (f : BucketsAt s places bs) where
+  pub places-within : All (λ at. at + 4 ≤ length s) places
+  places-within = all-indexed 0 places (λ i h. (f.at i h).within)
+
+  pub below-walked : (b : Bucket) {from r : ℕ} → Rising 0 bs → from ≤ count_below b bs
+      → r ≡ from + prefix_len (λ at. bucket_below (bucket_read (drop at s)) b) (drop from places) → r ≡ count_below b bs
+  below-walked b {from = from} w h e =
+      let here : (i : ℕ) → i < length places → bucket_below (bucket_read (drop (get_or places i 0) s)) b ≡ bucket_below (get_or bs i no_bucket) b
+      = λ i l. ap (λ (c : Bucket). bucket_below c b) (rw (← le-take 4 4 (drop (get_or places i 0) s) (omega arith)) (f.at i l).is) in
+      let same = prefix-alike (λ at. bucket_below (bucket_read (drop at s)) b) (λ c. bucket_below c b) 0 no_bucket places bs f.count here ∙ below-prefix 0 b bs w in
+      e ∙ walk-on (λ at. bucket_below (bucket_read (drop at s)) b) places from (omega (arith, same, h)) ∙ same
 
 -- the next bucket has one more below it, if it is in the list
 in-none : (m : ℕ) (b : Bucket) (bs : List Bucket) → Rising m bs → b.0 < m → is_in bs b ≡ false

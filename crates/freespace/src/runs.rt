@@ -8,7 +8,7 @@ ghost use Rattle.reader.specs.Located.{KeysAt, BucketsAt};
 ghost use Rattle.reader.specs.Checked.{Checked};
 ghost use Rattle.freespace.specs.Runs.{began_early, run_in, count_below};
 
-use reader::key;
+use reader::{key, skip};
 use wire::key_types::KeyType;
 use wire::kinds;
 use wire::kinds::Bucket;
@@ -74,12 +74,7 @@ fn reserved_below(s: &[u8], reserved: &[u32], from: usize, b: Bucket) -> usize
     requires { Checked s.now × BucketsAt s.now reserved.now (read_volume s.now).reserved × (from ≤ count_below b (read_volume s.now).reserved) }
     ensures { result ≡ count_below b (read_volume s.now).reserved }
 {
-    for i in from..reserved.len() {
-        if kinds::read_bucket(s, reserved[i] as usize) >= b {
-            return i;
-        }
-    }
-    reserved.len()
+    skip::skip_while(reserved, from, |at| kinds::read_bucket(s, at as usize) < b)
 }
 
 // How many unreserved buckets the runs have: their sizes, less the reserved buckets in them. Refusal 10 shows that no two overlap.

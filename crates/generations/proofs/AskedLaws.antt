@@ -1,43 +1,18 @@
--- The buckets asked for: they ascend from an index on, and the last is the highest.
+-- The buckets asked for: the last of those that ascend is the highest.
 use mathlib.Core.Path.{◌≡◌, refl, ap, sym, ◌∙◌}
 use mathlib.Core.Bool.{Bool, true, false, ◌&&◌, and-true, and-false}
 use mathlib.Core.List.{List, [], ◌∷◌}
-use Prim.Native.Nat.{ℕ, zero, suc, ◌+◌, ◌-◌, ◌≤◌, ◌<◌}
+use Prim.Native.Nat.{ℕ, zero, suc, ◌≤◌, ◌<◌}
 use native.Mathlib.Omega.{arith}
 use lib.Dec.{ltb}
-use lib.ListN.{length, drop, get_or}
-use borrow.Author.Tests.{lt-ltb, le-ltb, ltb-true, le-leb, lt-leb}
+use lib.ListN.{length, get_or}
+use borrow.Author.Tests.{lt-ltb, ltb-true, le-leb, lt-leb}
 use Rattle.wire.specs.Kinds.{bucket_below, buckets_in, bucket_in_range, no_bucket}
 use Rattle.wire.specs.declared.kinds.Bucket.{Bucket}
 use Rattle.wire.proofs.BucketTables.{table-length, table_at}
 use Rattle.calls.specs.Lists.{all_of, in_order}
 use Rattle.calls.specs.Limits.{buckets_within}
-use Rattle.calls.proofs.lists.OrderLaws.{order-nth, order-past}
 use Rattle.calls.proofs.freespace.UpLaws.{Up, order-up, up_from}
-
--- ---- the order
--- from the bucket before an index on they ascend just where all do
-abbrev pub Ascending : List ℕ → ℕ → Type 0
-Ascending ns i = in_order bucket_below (drop (i - 1) (buckets_in ns)) ≡ in_order bucket_below (buckets_in ns)
-
-module _ (ns : List ℕ) (i : ℕ) (p : 1 ≤ i) (h : i < length ns) where
-  step : in_order bucket_below (drop (i - 1) (buckets_in ns)) ≡ (ltb (get_or ns (i - 1) 0) (get_or ns i 0) && in_order bucket_below (drop i (buckets_in ns)))
-  step =
-      order-nth bucket_below no_bucket (buckets_in ns) i p (omega (arith, table-length ns))
-      ∙ ap (λ (b : Bucket). bucket_below b (get_or (buckets_in ns) i no_bucket) && in_order bucket_below (drop i (buckets_in ns))) (table_at ns (i - 1))
-      ∙ ap (λ (b : Bucket). ltb (get_or ns (i - 1) 0) b.0 && in_order bucket_below (drop i (buckets_in ns))) (table_at ns i)
-
-  pub ascend-next : Ascending ns i → get_or ns (i - 1) 0 < get_or ns i 0 → Ascending ns (i + 1)
-  ascend-next a l =
-      let e : i + 1 - 1 ≡ i = omega arith in
-      rw e (sym (step ∙ ap (λ (t : Bool). t && in_order bucket_below (drop i (buckets_in ns))) (lt-ltb (get_or ns (i - 1) 0) (get_or ns i 0) l)) ∙ a)
-
-  pub ascend-stops : Ascending ns i → get_or ns i 0 ≤ get_or ns (i - 1) 0 → false ≡ in_order bucket_below (buckets_in ns)
-  ascend-stops a l =
-      sym (step ∙ ap (λ (t : Bool). t && in_order bucket_below (drop i (buckets_in ns))) (le-ltb (get_or ns (i - 1) 0) (get_or ns i 0) l)) ∙ a
-
-pub ascend-ends : (ns : List ℕ) (i : ℕ) → 1 ≤ i → Ascending ns i → length ns ≤ i → true ≡ in_order bucket_below (buckets_in ns)
-ascend-ends ns i p a h = sym (order-past bucket_below (buckets_in ns) (i - 1) (omega (arith, table-length ns))) ∙ a
 
 -- ---- the limits
 -- where the last of some that ascend is in range all are, and only there

@@ -11,12 +11,7 @@ const MOST: usize = 1024;
 pub fn ascend(buckets: &[u32]) -> bool
     ensures { result ≡ in_order bucket_below (buckets_in buckets.now) }
 {
-    for i in 1..buckets.len() {
-        if buckets[i] <= buckets[i - 1] {
-            return false;
-        }
-    }
-    true
+    buckets.is_sorted_by(|a, b| *a < *b)
 }
 
 // Whether they are few enough, and the last, which is the highest, is low enough. `ascend` shows that they ascend.

@@ -1,14 +1,15 @@
 -- The joint lookup: the keys up to a bucket's record, the record among them, and the keys visited.
 use mathlib.Core.Path.{◌≡◌, refl, ap, sym, ◌∙◌}
-use mathlib.Core.Bool.{Bool, true, false, cond, ◌&&◌}
+use mathlib.Core.Bool.{Bool, true, false, cond, not, ◌&&◌}
 use mathlib.Core.List.{List, [], ◌∷◌}
 use mathlib.Core.Option.{none, some}
 use Rattle.std.proofs.Common.{Some, None}
 use Prim.Native.Nat.{ℕ, zero, suc, ◌+◌, ◌-◌, ◌≤◌, ◌<◌, Ordering}
 use native.Mathlib.Omega.{arith}
 use lib.Dec.{compare_is_eq, eqb}
-use lib.ListN.{length, get_or, take, drop, length-take, length-drop}
-use lib.Seq.{get_or-drop, get_or-take}
+use lib.ListN.{length, get_or, take, drop, length-take}
+use lib.Seq.{get_or-take}
+use Rattle.std.specs.List.{prefix_len}
 use Rattle.wire.specs.Keys.{Key}
 use Rattle.wire.specs.Order.{cmp, pos_less, pos_same}
 use Rattle.wire.specs.Positions.{gens_at}
@@ -24,6 +25,7 @@ use Rattle.calls.proofs.trees.SortedLaws.{Sorted, chain-weak, chain-sorted, look
 use Rattle.calls.proofs.trees.JointLookupLaws.{before-past}
 use Rattle.reader.specs.KeyHere.{Whole, key_here, keys_here}
 use Rattle.reader.specs.Located.{no_key, KeysAt}
+use Rattle.reader.proofs.SkipLaws.{walk-on, prefix-alike}
 use Rattle.gens.specs.Joint.{keys_up_to}
 use Rattle.gens.specs.Records.{RecordIs}
 
@@ -38,55 +40,30 @@ module _ (p : Bpos) (d : Key) where
       go true h = omega arith
       go false h = omega (arith, h)
 
-  -- one more that is not
-  pub up-to-next : (ks : List Key) (k : ℕ) → k ≤ keys_up_to p ks → k < length ks → pos_less p (get_or ks k d).pos ≡ false → k + 1 ≤ keys_up_to p ks
+  -- by a walk
+  pub up-to-prefix : (ks : List Key) → prefix_len (λ k. not (pos_less p k.pos)) ks ≡ keys_up_to p ks
   unfolding keys_up_to
-  up-to-next [] k h l n = absurd (omega arith)
-  up-to-next (x ∷ xs) zero h l n = rw n (omega arith)
-  up-to-next (x ∷ xs) (suc k) h l n = go (pos_less p x.pos) h (λ q. up-to-next xs k q (omega arith) n)
+  up-to-prefix [] = refl
+  up-to-prefix (x ∷ xs) = go (pos_less p x.pos) (up-to-prefix xs)
     where
-      go : (t : Bool) → suc k ≤ cond t 0 (suc (keys_up_to p xs)) → (k ≤ keys_up_to p xs → k + 1 ≤ keys_up_to p xs) → suc k + 1 ≤ cond t 0 (suc (keys_up_to p xs))
-      go true q ih = absurd (omega arith)
-      go false q ih = omega (arith, ih (omega arith))
-
-  -- the first that is
-  pub up-to-stop : (ks : List Key) (k : ℕ) → k < length ks → pos_less p (get_or ks k d).pos ≡ true → keys_up_to p ks ≤ k
-  unfolding keys_up_to
-  up-to-stop [] k l n = absurd (omega arith)
-  up-to-stop (x ∷ xs) zero l n = rw n (omega arith)
-  up-to-stop (x ∷ xs) (suc k) l n = go (pos_less p x.pos) (up-to-stop xs k (omega arith) n)
-    where
-      go : (t : Bool) → keys_up_to p xs ≤ k → cond t 0 (suc (keys_up_to p xs)) ≤ suc k
-      go true h = omega arith
+      go : (t : Bool) → prefix_len (λ k. not (pos_less p k.pos)) xs ≡ keys_up_to p xs
+          → cond (not t) (1 + prefix_len (λ k. not (pos_less p k.pos)) xs) 0 ≡ cond t 0 (suc (keys_up_to p xs))
+      go true h = refl
       go false h = omega (arith, h)
 
--- the walk over the places from one on
+-- the key at a place is not past a position
+abbrev pub up_to : Bpos → List ℕ → ℕ → Bool
+up_to p s at = not (pos_less p (key_here s at).pos)
+
+-- the walk over the places
 module _ {s places : List ℕ} {ks : List Key} (f : KeysAt s places ks) (p : Bpos) where
   pub up-to-places : {known : ℕ} → known ≤ keys_up_to p ks → known ≤ length places
   up-to-places h = omega (arith, up-to-within p no_key ks, f.count)
 
-  module _ (known n : ℕ) (h : n < length (take (length places - known) (drop known places))) where
-    abbrev here : ℕ
-    here = get_or (take (length places - known) (drop known places)) n 0
-
-    here-below : known + n < length places
-    here-below = omega (arith, simp (length-take, length-drop) at h)
-
-    here-is : here ≡ get_or places (known + n) 0
-    here-is = get_or-take (length places - known) (drop known places) n 0 (omega (arith, here-below)) ∙ get_or-drop known places n 0
-
-    pub here-whole : Whole s here
-    here-whole = rw here-is (f.at (known + n) here-below).whole
-
-    here-tested : {t : Bool} → t ≡ pos_less p (key_here s here).pos → pos_less p (get_or ks (known + n) no_key).pos ≡ t
-    here-tested e =
-        sym (ap (λ (k : Key). pos_less p k.pos) (ap (key_here s) here-is ∙ (f.at (known + n) here-below).is)) ∙ sym e
-
-    pub here-stop : known + n ≤ keys_up_to p ks → true ≡ pos_less p (key_here s here).pos → known + n ≡ keys_up_to p ks
-    here-stop l e = omega (arith, up-to-stop p no_key ks (known + n) (omega (arith, here-below, f.count)) (here-tested e))
-
-    pub here-next : known + n ≤ keys_up_to p ks → false ≡ pos_less p (key_here s here).pos → known + (n + 1) ≤ keys_up_to p ks
-    here-next l e = omega (arith, up-to-next p no_key ks (known + n) l (omega (arith, here-below, f.count)) (here-tested e))
+  pub up-to-walked : {known r : ℕ} → known ≤ keys_up_to p ks → r ≡ known + prefix_len (up_to p s) (drop known places) → r ≡ keys_up_to p ks
+  up-to-walked {known = known} h e =
+      let same = prefix-alike (up_to p s) (λ k. not (pos_less p k.pos)) 0 no_key places ks f.count (λ i l. ap (λ (k : Key). not (pos_less p k.pos)) (f.at i l).is) ∙ up-to-prefix p no_key ks in
+      e ∙ walk-on (up_to p s) places known (omega (arith, same, h)) ∙ same
 
 -- a later position has no fewer up to it
 pub up-to-later : (p q : Bpos) → pos_less q p ≡ false → (ks : List Key) → keys_up_to p ks ≤ keys_up_to q ks

@@ -12,7 +12,7 @@ ghost use Rattle.gens.specs.Joint.{keys_up_to, Looked, each_named, each_itself};
 ghost use Rattle.gens.specs.Records.{RecordIs};
 
 use crate::lookup;
-use reader::key;
+use reader::{key, skip};
 use wire::key_types::KeyType;
 use wire::kinds::Bucket;
 use wire::{bpos, positions};
@@ -60,12 +60,8 @@ fn keys_up_to(s: &[u8], gens: &[u32], known: usize, b: Bucket) -> usize
     ensures { result ≡ keys_up_to (gens_at b) (keys_here s.now gens.now) }
 {
     let p = positions::gens_at(b);
-    for (n, at) in gens[known..].iter().enumerate() {
-        if bpos::pos_less(p, key::pos_at(s, *at as usize)) {
-            return known + n;
-        }
-    }
-    gens.len()
+    let is_up_to = |at: u32| !bpos::pos_less(p, key::pos_at(s, at as usize));
+    skip::skip_while(gens, known, is_up_to)
 }
 
 // Whether the key at a place is a bucket's record.

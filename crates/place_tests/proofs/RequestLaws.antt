@@ -1,17 +1,26 @@
--- The pieces that a loop over their offsets reads.
-use mathlib.Core.Path.{◌≡◌, sym, ap, ◌∙◌}
-use mathlib.Core.List.{List, ◌∷◌}
-use Prim.Native.Nat.{ℕ, ◌+◌, ◌<◌}
+-- The pieces at the places of a call's requests.
+use mathlib.Core.Path.{◌≡◌, refl}
+use mathlib.Core.List.{List, [], ◌∷◌, map}
+use Prim.Native.Nat.{ℕ, suc, ◌+◌, ◌≤◌, ◌<◌}
+use native.Mathlib.Omega.{arith}
 use lib.ListN.{length, get_or, take, drop}
+use Rattle.wire.specs.Bytes.{All}
 use Rattle.calls.specs.CallList as calls
 use Rattle.calls.specs.CallList.{piece_of}
-use Rattle.reader.specs.Located.{PiecesAt}
-use Rattle.reader.specs.Pieces.{piece_in}
-use Rattle.reader.specs.declared.piece.Piece.{Piece}
-use Rattle.reader.proofs.NextLaws.{pieces-next}
+use Rattle.reader.specs.Located.{PiecesAt, no_piece}
+use Rattle.reader.proofs.SkipLaws.{all-indexed}
 
--- the piece of a turn, and those after it
-pub pieces-turn : {s offsets : List ℕ} {ps : List calls.Piece} (f : PiecesAt s offsets ps) (i : ℕ) → i < length offsets
-    → {p : Piece} → piece_in p ≡ piece_of (take 13 (drop (get_or offsets i 0) s))
-    → drop i ps ≡ piece_in p ∷ drop (i + 1) ps
-pieces-turn {ps = ps} f i h e = pieces-next f i h ∙ ap (λ (p : calls.Piece). p ∷ drop (i + 1) ps) (sym e)
+-- a whole piece stands at each
+pub pieces-within : {s offsets : List ℕ} {ps : List calls.Piece} → PiecesAt s offsets ps → All (λ at. at + 13 ≤ length s) offsets
+pieces-within f = all-indexed 0 _ (λ i h. (f.at i h).within)
+
+-- the pieces are those that are read there
+pub pieces-listed : {s offsets : List ℕ} {ps : List calls.Piece} → PiecesAt s offsets ps → ps ≡ map (λ at. piece_of (take 13 (drop at s))) offsets
+pieces-listed {s} {offsets} {ps} f = go offsets ps f.count (λ i h. (f.at i h).is)
+  where
+    go : (os : List ℕ) (qs : List calls.Piece) → length os ≡ length qs → ((i : ℕ) → i < length os → piece_of (take 13 (drop (get_or os i 0) s)) ≡ get_or qs i no_piece)
+        → qs ≡ map (λ at. piece_of (take 13 (drop at s))) os
+    go [] [] e h = refl
+    go [] (q ∷ qs) e h = absurd (omega arith)
+    go (o ∷ os) [] e h = absurd (omega arith)
+    go (o ∷ os) (q ∷ qs) e h = rw (h 0 (omega arith), ← go os qs (omega arith) (λ i l. h (suc i) (omega arith))) refl

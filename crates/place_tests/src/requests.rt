@@ -1,5 +1,5 @@
 // What is asked of a placement: the tests of refusals 6 to 9.
-ghost use Rattle.std.specs.Prelude.{◌≡◌, Bool, not, ◌&&◌, ◌||◌, ◌+◌, ◌<◌, eqb};
+ghost use Rattle.std.specs.Prelude.{◌≡◌, Bool, not, ◌&&◌, ◌||◌, ◌+◌, ◌<◌, ◌≤◌, eqb, length};
 ghost use Rattle.format.specs.Checksums.{option_byte};
 ghost use Rattle.calls.specs.CallList as calls;
 ghost use Rattle.calls.specs.Answers.{read_call};
@@ -72,12 +72,10 @@ fn all_pieces<F: Fn(Piece) -> bool>(s: &[u8], pieces: &[u32], test: F) -> bool
     requires { PiecesAt s.now pieces.now (read_call s.now).pieces × F.IsAlwaysCallable test }
     ensures { (t : calls.Piece → Bool) → ((p : _) (r : Bool) → F.post test p r → r ≡ t (piece_in p)) → result ≡ all_of t (read_call s.now).pieces }
 {
-    for at in pieces {
-        if !test(piece::read_piece(s, *at as usize)) {
-            return false;
-        }
-    }
-    true
+    let passes = |at: &u32|
+        requires { (at.now + 13 ≤ length s.now) × F.IsAlwaysCallable test }
+    { test(piece::read_piece(s, *at as usize)) };
+    pieces.iter().all(passes)
 }
 
 // Refusal 6: whether each piece's kind is listed.

@@ -31,6 +31,7 @@ pub mod LaidLaws
 pub mod ReadLaws
 pub mod CollectedLaws
 pub mod BodyOrderLaws
+pub mod SkipLaws
 pub mod StoredLaws
 pub mod ArrangedLaws
 pub mod DoubledLaws

@@ -12,5 +12,6 @@ pub mod limits;
 pub mod order;
 pub mod piece;
 pub mod refusal;
+pub mod skip;
 pub mod survey;
 pub mod table;

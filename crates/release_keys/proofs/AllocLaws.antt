@@ -1,6 +1,6 @@
 -- The walk that finds the alloc key of each bucket.
 use mathlib.Core.Path.{◌≡◌, refl, sym, ap, ◌∙◌, subst}
-use mathlib.Core.Bool.{true, false}
+use mathlib.Core.Bool.{Bool, true, false, cond}
 use mathlib.Core.Logic.{◌⊎◌, inl, inr, ⊎_elim}
 use Prim.Native.Nat.{ℕ, zero, suc, ◌+◌, ◌≤◌, ◌<◌, Ordering}
 use native.Mathlib.Omega.{arith}
@@ -8,8 +8,11 @@ use mathlib.Core.List.{List, [], ◌∷◌, map}
 use mathlib.Core.Option.{none, some}
 use Rattle.std.proofs.Common.{Some, None}
 use Rattle.std.proofs.Common as std
-use lib.ListN.{length, get_or, set, drop, drop_of_length-le, length-set}
+use lib.ListN.{length, get_or, set, drop, drop_of_length-le, length-set, length-drop}
 use lib.Seq.{get_or-set_same, get_or-set_other}
+use Rattle.std.specs.Bool.{then_some}
+use Rattle.std.specs.List.{prefix_len}
+use Rattle.std.proofs.lemmas.List.{drop-drop, get_or-drop}
 use Rattle.wire.specs.Keys.{Key}
 use Rattle.wire.specs.Order.{cmp, is_less, pos_less, pos_same}
 use Rattle.wire.specs.Kinds.{bucket_below}
@@ -24,8 +27,9 @@ use Rattle.calls.specs.Trees.{lookup}
 use Rattle.calls.proofs.lists.BoolLaws.{clash, parts}
 use Rattle.calls.proofs.trees.SortedLaws.{lookup-chain, Chain, Sorted, sorted-drop, keys-order}
 use Rattle.calls.proofs.trees.TreeLaws.{on_eq-ne}
-use Rattle.reader.specs.KeyHere.{keys_here}
+use Rattle.reader.specs.KeyHere.{key_here, keys_here}
 use Rattle.reader.specs.Located.{no_key}
+use Rattle.reader.proofs.SkipLaws.{prefix-within}
 use Rattle.release_sums.specs.declared.sums.FreedBucket.{FreedBucket}
 use Rattle.release_keys.specs.Places.{Keyed, PlaceOf, missing, found}
 use Rattle.release_keys.specs.Skipping.{KeysSkipped}
@@ -38,17 +42,37 @@ unfolding lookup
 look-past q p k ks h n = on_eq-ne (cmp q k.pos) (some k) (lookup q ks) (λ e. clash (rw (← pos-cmp.eq-path q k.pos e) at h) n)
 
 -- ---- skipping
--- what holds while keys are passed
-pub record Passing (s offsets : List ℕ) (from : ℕ) (p : Bpos) (i : ℕ) : Type 0 where
-  pub on : i ≤ length offsets
-  pub same : (q : Bpos) → pos_less q p ≡ false → lookup q (drop i (keys_here s offsets)) ≡ lookup q (drop from (keys_here s offsets))
+module _ (p : Bpos) where
+  -- a key stands before the position
+  abbrev pub key_below : Key → Bool
+  key_below k = pos_less k.pos p
 
-module _ {s offsets : List ℕ} (keyed : Keyed s offsets) (from : ℕ) (p : Bpos) where
-  pub pass-turn : (i : ℕ) → Passing s offsets from p i → i < length offsets → pos_less (get_or (keys_here s offsets) i no_key).pos p ≡ true → Passing s offsets from p (i + 1)
-  pass-turn i v h l =
+  skip-same : (q : Bpos) → pos_less q p ≡ false → (l : List Key) → lookup q (drop (prefix_len key_below l) l) ≡ lookup q l
+  skip-same q n [] = refl
+  skip-same q n (k ∷ l) = go (pos_less k.pos p) refl (skip-same q n l)
+    where
+      go : (t : Bool) → pos_less k.pos p ≡ t → lookup q (drop (prefix_len key_below l) l) ≡ lookup q l → lookup q (drop (cond t (1 + prefix_len key_below l) 0) (k ∷ l)) ≡ lookup q (k ∷ l)
+      go true e h = let one : 1 + prefix_len key_below l ≡ suc (prefix_len key_below l) = omega arith in rw one (h ∙ sym (look-past q p k l e n))
+      go false e h = refl
+
+  skip-stops : (l : List Key) → prefix_len key_below l < length l → pos_less (get_or l (prefix_len key_below l) no_key).pos p ≡ false
+  skip-stops [] h = absurd (omega arith)
+  skip-stops (k ∷ l) h = go (pos_less k.pos p) refl h (skip-stops l)
+    where
+      go : (t : Bool) → pos_less k.pos p ≡ t → cond t (1 + prefix_len key_below l) 0 < length (k ∷ l)
+          → (prefix_len key_below l < length l → pos_less (get_or l (prefix_len key_below l) no_key).pos p ≡ false)
+          → pos_less (get_or (k ∷ l) (cond t (1 + prefix_len key_below l) 0) no_key).pos p ≡ false
+      go true e h ih = let one : 1 + prefix_len key_below l ≡ suc (prefix_len key_below l) = omega arith in rw one (ih (omega arith))
+      go false e h ih = e
+
+  pub skipped : (ks : List Key) (from : ℕ) → from ≤ length ks → KeysSkipped ks from p (from + prefix_len key_below (drop from ks))
+  skipped ks from h =
+      let rest = drop from ks in
+      let n = prefix_len key_below rest in
       record {
-        on = omega arith;
-        same = λ q n. sym (look-past q p (get_or (keys_here s offsets) i no_key) (drop (i + 1) (keys_here s offsets)) l n) ∙ ap (lookup q) (sym (keyed-next keyed i h)) ∙ v.same q n;
+        on = omega (arith, prefix-within key_below rest, length-drop from ks);
+        same = λ q l. ap (lookup q) (sym (drop-drop n from ks)) ∙ skip-same q l rest;
+        stops = λ l. ap (λ (k : Key). pos_less k.pos p) (sym (get_or-drop from ks n no_key)) ∙ skip-stops rest (omega (arith, l, length-drop from ks));
       }
 
 -- ---- the key at a position, which none stands before
@@ -80,10 +104,10 @@ module _ {s offsets : List ℕ} (keyed : Keyed s offsets) (i : ℕ) (p : Bpos) w
   abbrev rest : List Key
   rest = drop i (keys_here s offsets)
 
-  pub here-same : i < length offsets → pos_same (get_or (keys_here s offsets) i no_key).pos p ≡ true → PlaceOf s (Some (get_or offsets i 0)) (lookup p rest)
+  here-same : i < length offsets → pos_same (get_or (keys_here s offsets) i no_key).pos p ≡ true → PlaceOf s (Some (get_or offsets i 0)) (lookup p rest)
   here-same h e = rw (look-here p (keyed-next keyed i h) e) (found (keyed.at i h))
 
-  pub here-other : keys_ok (keys_here s offsets) ≡ true → i < length offsets → pos_less (get_or (keys_here s offsets) i no_key).pos p ≡ false
+  here-other : keys_ok (keys_here s offsets) ≡ true → i < length offsets → pos_less (get_or (keys_here s offsets) i no_key).pos p ≡ false
       → pos_same (get_or (keys_here s offsets) i no_key).pos p ≡ false → PlaceOf s None (lookup p rest)
   here-other o h l e =
       rw (look-after p (keyed-next keyed i h) (sorted-drop i (keys_here s offsets) (keys-order (keys_here s offsets) o).0) l e) missing
@@ -92,6 +116,14 @@ module _ {s offsets : List ℕ} (keyed : Keyed s offsets) (i : ℕ) (p : Bpos) w
   here-none h =
       let l : length (keys_here s offsets) ≤ i = omega (arith, keyed.count) in
       rw (look_none p (drop_of_length-le (keys_here s offsets) l)) missing
+
+  pub here-tested : keys_ok (keys_here s offsets) ≡ true → i < length offsets → pos_less (get_or (keys_here s offsets) i no_key).pos p ≡ false
+      → (at : ℕ) → at ≡ get_or offsets i 0 → (t : Bool) → t ≡ pos_same (key_here s at).pos p → PlaceOf s (then_some t at) (lookup p rest)
+  here-tested o h l at e t f = go t (sym (ap (λ (k : Key). pos_same k.pos p) (ap (key_here s) e ∙ (keyed.at i h).is)) ∙ sym f)
+    where
+      go : (t : Bool) → pos_same (get_or (keys_here s offsets) i no_key).pos p ≡ t → PlaceOf s (then_some t at) (lookup p rest)
+      go true z = rw e (here-same h z)
+      go false z = here-other o h l z
 
 -- ---- ascending buckets
 -- of rows that name them

@@ -11,7 +11,7 @@ ghost use Rattle.release_keys.specs.Places.{Keyed, PlaceOf};
 ghost use Rattle.release_keys.specs.Skipping.{KeysSkipped};
 ghost use Rattle.release_keys.specs.Tables.{row_buckets, PlacesOf};
 
-use crate::places;
+use reader::{key, skip};
 use release_sums::sums::FreedBucket;
 use wire::bpos::Bpos;
 use wire::{bpos, positions};
@@ -21,12 +21,8 @@ fn skip_below(s: &[u8], offsets: &[u32], from: usize, p: Bpos) -> usize
     requires { Keyed s.now offsets.now × (from ≤ length offsets.now) }
     ensures { KeysSkipped (keys_here s.now offsets.now) from p result }
 {
-    for i in from..offsets.len() {
-        if !bpos::pos_less(places::pos_of(s, offsets, i), p) {
-            return i;
-        }
-    }
-    offsets.len()
+    let is_below = |at: u32| bpos::pos_less(key::pos_at(s, at as usize), p);
+    skip::skip_while(offsets, from, is_below)
 }
 
 // The place of the key at a position, which no key from an index on stands before. The layout shows that keys ascend, here and below.
@@ -35,10 +31,8 @@ fn place_here(s: &[u8], offsets: &[u32], i: usize, p: Bpos) -> Option<u32>
     requires p_value { i < length offsets.now → pos_less (get_or (keys_here s.now offsets.now) i no_key).pos p ≡ false }
     ensures { PlaceOf s.now result (lookup p (drop i (keys_here s.now offsets.now))) }
 {
-    if i < offsets.len() && bpos::pos_same(places::pos_of(s, offsets, i), p) {
-        return Some(offsets[i]);
-    }
-    None
+    let at = *offsets.get(i)?;
+    bpos::pos_same(key::pos_at(s, at as usize), p).then_some(at)
 }
 
 // Notes the place of each bucket's alloc key. `take_freed` shows that buckets ascend.

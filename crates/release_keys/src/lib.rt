@@ -9,6 +9,5 @@ pub mod freed_buckets;
 pub mod gen_records;
 pub mod lru_keys;
 pub mod need_discards;
-pub mod places;
 pub mod refusals;
 pub mod roots;

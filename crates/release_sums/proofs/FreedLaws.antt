@@ -9,6 +9,7 @@ use lib.ListN.{length, get_or, take, drop, drop_of_length-le}
 use Rattle.std.proofs.lemmas.List.{drop-map}
 use lib.Dec.{leb}
 use borrow.Author.Tests.{leb-true, ltb-true}
+use Rattle.wire.specs.Bytes.{All}
 use Rattle.wire.specs.Numbers.{le}
 use Rattle.wire.specs.Kinds.{bucket_of, offset_in, bucket_in_range}
 use Rattle.wire.specs.declared.kinds.Bucket.{Bucket}
@@ -19,7 +20,8 @@ use Rattle.calls.specs.Lists.{all_of}
 use Rattle.calls.specs.Release.{freed_ok}
 use Rattle.calls.proofs.lists.AllOfLaws.{all-of-drop, all-of-first}
 use Rattle.calls.proofs.lists.BoolLaws.{parts}
-use Rattle.release_sums.specs.Freeds.{freeds_in}
+use Rattle.reader.proofs.SkipLaws.{all-indexed}
+use Rattle.release_sums.specs.Freeds.{freeds_in, Requested}
 
 -- a piece, each part read at its own place
 pub freed_read : (s : List ℕ) (at d n : ℕ) → d ≡ le 8 (drop at s) → n ≡ le 2 (drop (at + 8) s)
@@ -46,6 +48,10 @@ freeds-drop s offsets i = drop-map (λ at. freed_of (take 10 (drop at s))) i off
 pub freeds_none : (s offsets : List ℕ) (i : ℕ) → length offsets ≤ i → freeds_in s (drop i offsets) ≡ []
 unfolding freeds_in
 freeds_none s offsets i h = rw (drop_of_length-le offsets h) refl
+
+-- a whole piece stands at each place
+pub freeds-within : {s offsets : List ℕ} → Requested s offsets → All (λ at. at + 10 ≤ length s) offsets
+freeds-within f = all-indexed 0 _ (λ i h. (f.at i h).within)
 
 -- what refusal 14 shows of a piece
 pub record FreedWithin (sectors : ℕ) (r : Freed) : Type 0 where

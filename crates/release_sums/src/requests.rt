@@ -38,15 +38,11 @@ fn freed_ok(r: Freed, sectors: u64) -> bool
 }
 
 // Refusal 14: whether every piece lies within its bucket. The reader shows that each offset finds one.
-#[tactic(auto, using(crate::proofs::FreedLaws::freeds_next, crate::proofs::FreedLaws::freeds_none), unfolding(calls::specs::Lists::all_of))]
 pub fn all_freed_ok(s: &[u8], requests: &[u32], sectors: u64) -> bool
     requires { Requested s.now requests.now × ((0 < sectors) × (sectors < 65536)) }
     ensures { result ≡ all_of (freed_ok sectors) (freeds_in s.now requests.now) }
 {
-    for &at in requests {
-        if !freed_ok(read_freed(s, at as usize), sectors) {
-            return false;
-        }
-    }
-    true
+    requests
+        .iter()
+        .all(|at| freed_ok(read_freed(s, *at as usize), sectors))
 }

@@ -10,20 +10,15 @@ use wire::{fields, keys, kinds, positions};
 // The section of the reserved buckets.
 pub const BUCKETS: u8 = 64;
 
-// The section at an index, in the order of a volume: of tags, as the bytes of a list have them. The caller's loop shows the bound.
+// The sections in the order of a volume: the tags of the keys of each tree, and of the reserved buckets.
+pub const SECTIONS: [u8; 7] = [4, 10, 11, 12, 13, 14, BUCKETS];
+
+// The section at an index of them. The caller's loop shows the bound.
 pub fn section_at(i: usize) -> u8
     requires { i < 7 }
     ensures { result ≡ get_or sections i 0 }
 {
-    match i {
-        0 => 4,
-        1 => 10,
-        2 => 11,
-        3 => 12,
-        4 => 13,
-        5 => 14,
-        _ => 64,
-    }
+    SECTIONS[i]
 }
 
 // Whether a field is a bucket that is reserved, in a volume or by a change list, or unreserved.

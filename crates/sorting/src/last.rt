@@ -6,14 +6,14 @@ ghost use Rattle.sorting.specs.Places.{FieldInside, place_less};
 
 use crate::places;
 
-// Whether the field at index i stands before the next, or none is left. `keep_last` shows the bounds.
-fn is_ahead(s: &[u8], t: &[usize], i: usize) -> bool
-    requires { (i < length t.now) × All (FieldInside s.now) (drop i t.now) }
-    ensures { result ≡ ahead (place_less s.now) (get_or t.now i 0) (drop (i + 1) t.now) }
+// Whether the field at the first of some places stands before the next, or none is left. `keep_last` shows the bounds.
+fn is_ahead(s: &[u8], t: &[usize]) -> bool
+    requires { (0 < length t.now) × All (FieldInside s.now) t.now }
+    ensures { result ≡ ahead (place_less s.now) (get_or t.now 0 0) (drop 1 t.now) }
 {
-    match t.get(i + 1) {
-        Some(next) => places::before(s, t[i], *next),
-        None => true,
+    match t {
+        [first, next, ..] => places::before(s, *first, *next),
+        _ => true,
     }
 }
 
@@ -22,9 +22,10 @@ pub fn keep_last(s: &[u8], t: &mut [usize]) -> usize
     requires { All (FieldInside s.now) t.old }
     ensures { (result ≤ length t.new) × (take result t.new ≡ lasts (place_less s.now) t.old) }
 {
+    // By index: a place is written to the front of the slice whose end is still read.
     let mut n = 0;
     for i in 0..t.len() {
-        if is_ahead(s, t, i) {
+        if is_ahead(s, &t[i..]) {
             t[n] = t[i];
             n += 1;
         }

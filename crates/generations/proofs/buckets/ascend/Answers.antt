@@ -1,15 +1,14 @@
-use Rattle.std.proofs.Common.{arith, refl}
-use Rattle.generations.proofs.AskedLaws.{ascend-stops, ascend-next, ascend-ends}
+use Rattle.std.proofs.Common.{rules, tests, sym, ◌∙◌}
+use lib.Dec.{ltb}
+use Rattle.std.proofs.lemmas.List.Sorted.{answers_always}
+use Rattle.wire.specs.Kinds.{bucket_below, bucket_is, buckets_in}
+use Rattle.calls.proofs.lists.AdjacentLaws.{adjacent-order}
+use Rattle.calls.proofs.lists.OrderLaws.{order-map}
 use Rattle.generations.proofs.buckets.ascend.Goals as goal
 
-pub loop-i-init : goal.loop-i-init
-loop-i-init c = refl
-
-pub returns-then-buckets-i : goal.returns-then-buckets-i
-returns-then-buckets-i c = ascend-stops c.args.buckets.now c.loop-i.i (omega arith) (omega arith) c.loop-i.invariant c.if-buckets-i.true
-
-pub loop-i-preserved : goal.loop-i-preserved
-loop-i-preserved c = ascend-next c.args.buckets.now c.loop-i.i (omega arith) (omega arith) c.loop-i.invariant c.if-buckets-i.false
-
 pub returns : goal.returns
-returns c = ascend-ends c.args.buckets.now c.loop-i.i (omega arith) c.loop-i.invariant (omega arith)
+unfolding buckets_in
+returns c =
+    let ns = c.args.buckets.now in
+    adjacent-order ltb ns c.is_sorted_by.result (c.is_sorted_by.ensures.cases ltb (answers_always _ _ _ (λ f a r q k. search (rules, tests))))
+    ∙ sym (order-map bucket_below bucket_is ns)

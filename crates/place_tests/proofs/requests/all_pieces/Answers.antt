@@ -1,18 +1,25 @@
-use Rattle.std.proofs.Common.{refl, sym, arith, ◌∙◌}
-use Rattle.calls.proofs.lists.AllOfLaws.{all-of-next, all-of-stop, all-of-past}
-use Rattle.place_tests.proofs.RequestLaws.{pieces-turn}
+use Rattle.std.proofs.Common.{rules, of_calls, ◌∙◌, sym, ap, ℕ, take, drop}
+use Rattle.std.proofs.lemmas.Iterator.{YieldsList-from_slice}
+use Rattle.std.proofs.lemmas.Iterator.Adapters.{serves_from_places}
+use Rattle.std.proofs.lemmas.Iterator.Search.{all_from_yields_List}
+use Rattle.calls.specs.CallList.{piece_of}
+use Rattle.calls.specs.Lists.{all_of}
+use Rattle.calls.proofs.lists.AllOfLaws.{all_of_map}
+use Rattle.calls.proofs.lists.ListedLaws.{all-listed, all-place}
+use Rattle.place_tests.proofs.RequestLaws.{pieces-within, pieces-listed}
 use Rattle.place_tests.proofs.requests.all_pieces.Goals as goal
 
-pub loop-at-init : goal.loop-at-init
-loop-at-init g c = λ t h. refl
-
-pub returns-then-not-test : goal.returns-then-not-test
-returns-then-not-test g c =
-    λ t h. sym (all-of-stop t (pieces-turn c.requires.0 c.loop-at.at-index c.loop-at-test.true c.read_piece.ensures) (sym (h _ _ c.if-not-test.ensures))) ∙ c.loop-at.invariant t h
-
-pub loop-at-preserved : goal.loop-at-preserved
-loop-at-preserved g c =
-    λ t h. all-of-next t (pieces-turn c.requires.0 c.loop-at.at-index c.loop-at-test.true c.read_piece.ensures) (sym (h _ _ c.if-not-test.ensures)) ∙ c.loop-at.invariant t h
+pub all-requires-clause-callable : goal.all-requires-clause-callable
+all-requires-clause-callable g c =
+    serves_from_places (YieldsList-from_slice {s = c.iter.result} _ c.iter.ensures.rest) (λ x q k. search rules)
+    (λ x k i e. let w = all-place (pieces-within c.requires.0) k x.now i e in search (rules, of_calls))
 
 pub returns : goal.returns
-returns g c = λ t h. sym (all-of-past t _ c.loop-at.at-index (omega (arith, c.requires.0.count))) ∙ c.loop-at.invariant t h
+returns g c = λ t h.
+    let s = c.args.s.now in
+    let l = c.args.pieces.now in
+    let p = λ (at : ℕ). piece_of (take 13 (drop at s)) in
+    all_from_yields_List (λ at. t (p at)) _ _ _ c.all.ensures.ran (YieldsList-from_slice l c.iter.ensures.rest) (λ x b q k. search (rules, of_calls, h))
+    ∙ all-listed (λ at. t (p at)) l
+    ∙ sym (all_of_map t p l)
+    ∙ ap (all_of t) (sym (pieces-listed c.requires.0))

@@ -1,21 +1,15 @@
--- `allocs::place_here` meets its contract.
-use Rattle.std.proofs.Common.{◌∙◌, ap, sym}
+use Rattle.std.proofs.Common.{◌∙◌, ap}
 use Rattle.wire.specs.Order.{pos_same}
 use Rattle.wire.specs.declared.bpos.Bpos.{Bpos}
-use Rattle.release_keys.proofs.AllocLaws.{here-same, here-other, here-none}
+use Rattle.release_keys.proofs.AllocLaws.{here-none, here-tested}
 use Rattle.release_keys.proofs.allocs.place_here.Goals as goal
-use Rattle.release_keys.proofs.allocs.place_here.Goals.{else-i-offsets-via-then-i-offsets+else-pos_same, else-i-offsets-via-else-i-offsets}
 
-pub returns-then-pos_same : goal.returns-then-pos_same
-returns-then-pos_same c =
-    here-same c.requires.keyed.0 c.args.i c.args.p c.if-i-offsets.true (ap (λ (x : Bpos). pos_same x c.args.p) (sym c.pos_of.ensures) ∙ sym c.pos_same.ensures ∙ c.if-pos_same.true)
+pub returns-in_err-at : goal.returns-in_err-at
+returns-in_err-at c = rw c.from_residual.ensures (here-none c.requires.keyed.0 c.args.i c.args.p c.in_err-at.ensures.lookup.3)
 
 pub returns : goal.returns
 returns c =
     let k = c.requires.keyed in
-    elim c.else-i-offsets.branch [
-      | else-i-offsets-via-then-i-offsets+else-pos_same w ↦
-          here-other k.0 c.args.i c.args.p k.1 w.if-i-offsets.true (c.requires.p_value w.if-i-offsets.true)
-          (ap (λ (x : Bpos). pos_same x c.args.p) (sym w.pos_of.ensures) ∙ sym w.pos_same.ensures ∙ w.if-pos_same.false)
-      | else-i-offsets-via-else-i-offsets w ↦ here-none k.0 c.args.i c.args.p w.if-i-offsets.false
-    ]
+    let f = c.in_ok-at.ensures.lookup.3 in
+    rw c.then_some.ensures
+    (here-tested k.0 c.args.i c.args.p k.1 f.0 (c.requires.p_value f.0) _ (f.1 0) _ (c.pos_same.ensures ∙ ap (λ (x : Bpos). pos_same x c.args.p) c.pos_at.ensures))
