@@ -13,6 +13,7 @@ pub mod OfferedLaws
 pub mod OrderingLaws
 pub mod PieceLaws
 pub mod PlaceLaws
+pub mod PlacedLaws
 pub mod RankLaws
 pub mod BesideLaws
 pub mod ListRefusalLaws

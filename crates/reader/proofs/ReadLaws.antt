@@ -1,4 +1,5 @@
 -- What a list is read as, by what the pass over it found.
+use Rattle.std.proofs.Common.{Result, Ok, Err}
 use Prim.Native.Nat.{ℕ, ◌≤◌}
 use native.Mathlib.Omega.{arith}
 use mathlib.Core.Path.{◌≡◌, refl, sym, ◌∙◌, ap}
@@ -13,14 +14,17 @@ use Rattle.calls.proofs.lists.BoolLaws.{clash}
 use Rattle.reader.specs.CallFields.{head_within}
 use Rattle.reader.specs.Heads.{head_in}
 use Rattle.reader.specs.Table.{ends_in, rank_end, Ended}
-use Rattle.reader.specs.Readings.{list_refusal, ListRead}
+use Rattle.reader.specs.Readings.{call_refusal, volume_refusal, list_refusal, TableRead, Answered, CallAnswered, VolumeAnswered}
 use Rattle.reader.specs.Arranged.{Sortable, Arranged, PastAsked}
 use Rattle.reader.specs.Surveyed.{Counted, LaidFound}
 use Rattle.reader.specs.declared.head.Head.{Head}
 use Rattle.reader.specs.declared.table.Ends.{Ends}
+use Rattle.reader.specs.declared.read_list.ReadList.{ReadList}
+use Rattle.reader.specs.declared.refusal.Refusal.{Refusal}
 use Rattle.reader.proofs.LimitLaws.{within-parts}
 use Rattle.reader.proofs.BoolLaws.{fails}
 use Rattle.reader.proofs.ListRefusalLaws.{RefusedBy, twice-refused, past-refused, accepted}
+use Rattle.reader.proofs.VolumeLaws.{call-refusal, volume-refusal}
 use Rattle.reader.proofs.LaidLaws.{laid-sectioned, sortable}
 
 -- the head keeps its limits in a list that keeps them
@@ -88,7 +92,7 @@ module _
     pub table-sortable : (e : Ends) → e ≡ ends_in counts → Sortable call s index e
     table-sortable e z = rw z (sortable s call any found.laid index (ends_in counts) kept-within counted.short counted.ends)
 
-    pub read-ordered : (e : Ends) → e ≡ ends_in counts → ordered ≡ true → (0 ≡ list_refusal call any s) × ListRead call s index first e
+    pub read-ordered : (e : Ends) → e ≡ ends_in counts → ordered ≡ true → (0 ≡ list_refusal call any s) × TableRead call s index first e
     read-ordered e z o = (
       accepted s call any found.laid (found.once o) kept-within,
       rw z (record { head = head-is; ends = counted.ends; table = found.table o (both_false over (head_within (head_in first)) h).0 }),
@@ -103,7 +107,7 @@ module _
         was-false false x = refl
 
     pub read-sorted : (e : Ends) → e ≡ ends_in counts → {index' : List ℕ} → length index' ≡ length index → (r : Bool) → r ≡ false → Arranged call s index' e r
-        → (0 ≡ list_refusal call any s) × ListRead call s index' first e
+        → (0 ≡ list_refusal call any s) × TableRead call s index' first e
     read-sorted e z l r q a = (
       accepted s call any found.laid (was-true (none_twice (read_volume s)) (sym q ∙ a.double)) kept-within,
       record { head = head-is; ends = ended-in {index = index} (rw z counted.ends) l; table = a.table q },
@@ -112,3 +116,13 @@ module _
         was-true : (b : Bool) → false ≡ not b → b ≡ true
         was-true true x = refl
         was-true false x = absurd (clash refl (sym x))
+
+-- the list that was read is one of the call that was asked for
+pub call-answered : (call : ℕ) (s : List ℕ) (r : Result ReadList Refusal) → Answered (list_refusal call false s) call s r → CallAnswered call s r
+call-answered call s (Err e) a = rw (call-refusal call s) at a
+call-answered call s (Ok l) a = (a.1, record { passed = rw a.1 (a.0 ∙ call-refusal call s); read = a.2 })
+
+-- or a volume
+pub volume-answered : (s : List ℕ) (r : Result ReadList Refusal) → Answered (list_refusal 0 true s) 0 s r → VolumeAnswered s r
+volume-answered s (Err e) a = rw (volume-refusal s) at a
+volume-answered s (Ok l) a = (a.1, record { passed = rw a.1 (a.0 ∙ volume-refusal s); read = a.2 })

@@ -1,13 +1,18 @@
 -- The answers of the readers: refusals 2, 22 and 3, or the head and the table.
+use Rattle.std.specs.Borrow.{Bor, MutBor}
+use Rattle.std.specs.Fn.{Once}
 use Rattle.std.specs.Prelude.{ℕ, ◌<◌, ◌≡◌, List, [], ◌∷◌, ◌++◌, Bool, ◌&&◌, ◌||◌, eqb, Result, Ok, Err}
+use Rattle.wire.specs.Fields.{fields}
 use Rattle.calls.specs.CallList.{laid_out, volume_shapes, request_shapes, call_laid_out, volume_laid_out, none_twice}
 use Rattle.calls.specs.Limits.{volume_within, list_within}
 use Rattle.calls.specs.Refusals.{test, verdict}
 use Rattle.calls.specs.Answers.{read_call, read_volume}
 use Rattle.reader.specs.Heads.{head_in}
-use Rattle.reader.specs.Table.{Indexed, Ended}
+use Rattle.reader.specs.Table.{Indexed, Ended, sorted_bodies, request_bodies, request_tag}
+use Rattle.reader.specs.Collected.{PlacesOf}
 use Rattle.reader.specs.declared.head.Head.{Head}
 use Rattle.reader.specs.declared.table.Ends.{Ends}
+use Rattle.reader.specs.declared.read_list.ReadList.{ReadList}
 use Rattle.reader.specs.declared.refusal.Refusal.{Refusal}
 use Rattle.reader.specs.Refusals.{number_of}
 
@@ -30,12 +35,62 @@ list_refusal call any s =
     verdict (test 2 (laid_as call any s) ∷ test 22 (none_twice (read_volume s)) ∷ test 3 (list_within (read_call s)) ∷ [])
 
 -- a list that was read: its head and its table
-pub record ListRead (call : ℕ) (s index : List ℕ) (h : Head) (e : Ends) : Type 0 where
+pub record TableRead (call : ℕ) (s index : List ℕ) (h : Head) (e : Ends) : Type 0 where
   pub head : head_in h ≡ (read_volume s).head
   pub ends : Ended call s index e
   pub table : Indexed call s index e
 
+-- the refusal's number, or 0 and the table
+abbrev pub TableAnswered : ℕ → ℕ → List ℕ → List ℕ → Result (Head × Ends) Refusal → Type 0
+TableAnswered number call s index (Err r) = (number_of r ≡ number) × (0 < number)
+TableAnswered number call s index (Ok l) = (0 ≡ number) × TableRead call s index l.0 l.1
+
+-- the head of a list that was read, and its fields' places: those of a tag in the order of keys and buckets, requests in the order of the list, and all in turn
+pub record Read (call : ℕ) (r : ReadList) : Type 0 where
+  pub head : head_in r.head ≡ (read_volume r.list.now).head
+  pub alloc : PlacesOf r.list.now 4 r.alloc.now (sorted_bodies 4 (fields r.list.now))
+  pub lru : PlacesOf r.list.now 10 r.lru.now (sorted_bodies 10 (fields r.list.now))
+  pub freespace : PlacesOf r.list.now 11 r.freespace.now (sorted_bodies 11 (fields r.list.now))
+  pub need_discard : PlacesOf r.list.now 12 r.need_discard.now (sorted_bodies 12 (fields r.list.now))
+  pub backpointers : PlacesOf r.list.now 13 r.backpointers.now (sorted_bodies 13 (fields r.list.now))
+  pub gens : PlacesOf r.list.now 14 r.gens.now (sorted_bodies 14 (fields r.list.now))
+  pub reserved : PlacesOf r.list.now 64 r.reserved.now (sorted_bodies 64 (fields r.list.now))
+  pub requests : PlacesOf r.list.now (request_tag call) r.requests.now (request_bodies call (fields r.list.now))
+  pub places :
+      r.places.now
+      ≡ r.alloc.now ++ (r.lru.now ++ (r.freespace.now ++ (r.need_discard.now ++ (r.backpointers.now ++ (r.gens.now ++ (r.reserved.now ++ r.requests.now))))))
+
 -- the refusal's number, or 0 and the list
-abbrev pub Answered : ℕ → ℕ → List ℕ → List ℕ → Result (Head × Ends) Refusal → Type 0
-Answered number call s index (Err r) = (number_of r ≡ number) × (0 < number)
-Answered number call s index (Ok l) = (0 ≡ number) × ListRead call s index l.0 l.1
+abbrev pub Answered : ℕ → ℕ → List ℕ → Result ReadList Refusal → Type 0
+Answered number call s (Err r) = (number_of r ≡ number) × (0 < number)
+Answered number call s (Ok r) = (0 ≡ number) × (r.list.now ≡ s) × Read call r
+
+-- a call's list that was read, and that no refusal of the reader stops
+pub record CallRead (call : ℕ) (r : ReadList) : Type 0 where
+  pub passed : 0 ≡ call_refusal call r.list.now
+  pub read : Read call r
+
+-- and a volume
+pub record VolumeRead (r : ReadList) : Type 0 where
+  pub passed : 0 ≡ volume_refusal r.list.now
+  pub read : Read 0 r
+
+-- the number of refusal 2, 22 or 3, or the list that was read
+abbrev pub CallAnswered : ℕ → List ℕ → Result ReadList Refusal → Type 0
+CallAnswered call s (Err r) = (number_of r ≡ call_refusal call s) × (0 < call_refusal call s)
+CallAnswered call s (Ok r) = (r.list.now ≡ s) × CallRead call r
+
+abbrev pub VolumeAnswered : List ℕ → Result ReadList Refusal → Type 0
+VolumeAnswered s (Err r) = (number_of r ≡ volume_refusal s) × (0 < volume_refusal s)
+VolumeAnswered s (Ok r) = (r.list.now ≡ s) × VolumeRead r
+
+-- a call of `f` on a list that was read, and on an output that is lent
+pub record AnswersRead {F : Type 0} (IsRead : ReadList → Type 0) (s : List ℕ) (g : Once F (Bor ReadList × (MutBor (List ℕ) × Unit {0})) (Result ℕ Refusal × (MutBor (List ℕ) × Unit {0}))) (f : F) (out : List ℕ) (result : Result ℕ Refusal) (out' : List ℕ) : Type 0 where
+  pub read : Bor ReadList
+  pub list : read.now.list.now ≡ s
+  pub is_read : IsRead read.now
+  pub lent : MutBor (List ℕ)
+  pub shows : lent.now ≡ out
+  pub left : MutBor (List ℕ)
+  pub met : g.post f (read, (lent, tt)) (result, (left, tt))
+  pub leaves : left.now ≡ out'

@@ -1,19 +1,20 @@
 // Call lists and volumes: refusals 2, 22 and 3. A list in order is judged in one pass; any other has its table sorted.
-ghost use Rattle.std.specs.Prelude.{◌≡◌, ◌||◌, not, cond, unwrap_or, is_none};
+ghost use Rattle.std.specs.Prelude.{◌≡◌, ◌<◌, ◌||◌, not, cond, unwrap_or, is_none};
 ghost use Rattle.calls.specs.CallList.{none_twice};
 ghost use Rattle.calls.specs.Answers.{read_volume};
 ghost use Rattle.reader.specs.CallFields.{head_within};
 ghost use Rattle.reader.specs.Heads.{head_in};
-ghost use Rattle.reader.specs.Refusals.{number_of};
+ghost use Rattle.reader.specs.Refusals.{number_of, number_in};
 ghost use Rattle.reader.specs.Arranged.{PastAsked};
 ghost use Rattle.reader.specs.Table.{Fits};
-ghost use Rattle.reader.specs.Readings.{call_refusal, volume_refusal, list_refusal, Answered};
+ghost use Rattle.reader.specs.Readings.{call_refusal, list_refusal, TableAnswered, Answered, CallAnswered, VolumeAnswered, CallRead, AnswersRead};
 
 use crate::head::Head;
+use crate::read_list::ReadList;
 use crate::refusal::Refusal;
 use crate::survey::Laid;
 use crate::table::Ends;
-use crate::{arrange, head, survey, table};
+use crate::{arrange, head, read_list, survey, table};
 
 // Whether a limit is passed, by a field or by the head.
 fn past_limit(over: bool, first: Head) -> bool
@@ -37,9 +38,9 @@ fn past_refusal(s: &[u8], ordered: bool) -> Refusal
 }
 
 // A list of the call that is asked for, or of whatever call its head names: its head, and where the places of each tag end in the table. The table that is lent shows the bound.
-fn read_list(s: &[u8], asked: Option<u8>, index: &mut [u32]) -> Result<(Head, Ends), Refusal>
+fn read_table(s: &[u8], asked: Option<u8>, index: &mut [u32]) -> Result<(Head, Ends), Refusal>
     requires { Fits s.now index.old }
-    ensures { Answered (list_refusal (unwrap_or asked 0) (is_none asked) s.now) (unwrap_or asked 0) s.now index.new result }
+    ensures { TableAnswered (list_refusal (unwrap_or asked 0) (is_none asked) s.now) (unwrap_or asked 0) s.now index.new result }
 {
     let mut counts = [0usize; 8];
     let Some(
@@ -66,18 +67,38 @@ fn read_list(s: &[u8], asked: Option<u8>, index: &mut [u32]) -> Result<(Head, En
     Ok((first, ends))
 }
 
-// Reads a call's list: refusal 2, then 22, then 3, else its head and the table of its fields.
-pub fn read_call(s: &[u8], call: u8, index: &mut [u32]) -> Result<(Head, Ends), Refusal>
+// The same, with the table cut into its parts.
+fn read_list<'a>(s: &'a [u8], asked: Option<u8>, index: &'a mut [u32]) -> Result<ReadList<'a>, Refusal>
     requires { Fits s.now index.old }
-    ensures { Answered (call_refusal call s.now) call s.now index.new result }
+    ensures { Answered (list_refusal (unwrap_or asked 0) (is_none asked) s.now) (unwrap_or asked 0) s.now result }
+{
+    let (first, ends) = read_table(s, asked, index)?;
+    Ok(read_list::cut(s, first, index, ends))
+}
+
+// Reads a call's list: refusal 2, then 22, then 3, else its head and the places of its fields.
+pub fn read_call<'a>(s: &'a [u8], call: u8, index: &'a mut [u32]) -> Result<ReadList<'a>, Refusal>
+    requires { Fits s.now index.old }
+    ensures { CallAnswered call s.now result }
 {
     read_list(s, Some(call), index)
 }
 
 // Reads a volume in the same way: a list of any call, without requests.
-pub fn read_volume(s: &[u8], index: &mut [u32]) -> Result<(Head, Ends), Refusal>
+pub fn read_volume<'a>(s: &'a [u8], index: &'a mut [u32]) -> Result<ReadList<'a>, Refusal>
     requires { Fits s.now index.old }
-    ensures { Answered (volume_refusal s.now) 0 s.now index.new result }
+    ensures { VolumeAnswered s.now result }
 {
     read_list(s, None, index)
+}
+
+// Reads a call's list by a table, and answers it.
+fn call_by<F: FnOnce(&ReadList, &mut [u8]) -> Result<usize, Refusal>>(list: &[u8], call: u8, index: &mut [u32], out: &mut [u8], answer: F) -> Result<usize, Refusal>
+    requires fits { Fits list.now index.old }
+    requires callable { (r : _) (o : _) → CallRead call r.now → r.now.list.now ≡ list.now → o.now ≡ out.old → F.pre answer r o }
+    ensures refused { 0 < call_refusal call list.now → (number_in result ≡ call_refusal call list.now) × (out.new ≡ out.old) }
+    ensures answered { 0 ≡ call_refusal call list.now → AnswersRead (CallRead call) list.now F.FnOnce answer out.old result out.new }
+{
+    let read = read_call(list, call, index)?;
+    answer(&read, out)
 }
