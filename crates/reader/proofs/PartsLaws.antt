@@ -3,6 +3,7 @@ use Prim.Native.Nat.{ℕ, ◌+◌, ◌-◌, ◌≤◌, ◌<◌}
 use native.Mathlib.Omega.{arith}
 use mathlib.Core.Path.{◌≡◌, refl, sym, ap, ◌∙◌}
 use mathlib.Core.Bool.{Bool, true, false}
+use Rattle.std.proofs.Common.{Option, Some, None}
 use mathlib.Core.List.{List, [], ◌∷◌, map}
 use lib.ListN.{length, take, length-map}
 use lib.Dec.{leb}
@@ -21,7 +22,7 @@ use Rattle.calls.proofs.answers.RefusalLaws.{verdict-ok, test-ok}
 use Rattle.calls.proofs.answers.OutcomeLaws.{answer-next, answer-stops}
 use Rattle.reader.specs.Table.{sorted_bodies}
 use Rattle.reader.specs.Collected.{PlacesOf}
-use Rattle.reader.specs.Readings.{call_refusal, volume_refusal, list_refusal, Read, CallRead, VolumeRead}
+use Rattle.reader.specs.Readings.{call_refusal, volume_refusal, list_refusal, Read, ReadAs}
 use Rattle.reader.specs.Located.{KeysAt, BucketsAt, PiecesAt, FreedsAt}
 use Rattle.reader.specs.declared.read_list.ReadList.{ReadList}
 use Rattle.reader.proofs.VolumeLaws.{volume-refusal}
@@ -124,9 +125,9 @@ module _ (call : ℕ) (any : Bool) (r : ReadList) (kept : 0 ≡ list_refusal cal
   keys_at : {os : List ℕ} (t : ℕ) → 1 < t → t ≤ 14 → PlacesOf s t os (sorted_bodies t (fields s)) → KeysAt s os (sorted_by key_below (map key_of (bodies t (fields s))))
   keys_at t l m p = rw (← keys-sorted-are t m (fields s)) (keys-located call any s kept l m p)
 
-  located : Located r
+  located_as : Located r
   unfolding call_list_of sorted_trees keys_of reserved_of
-  located =
+  located_as =
       record {
         alloc = keys_at 4 (omega arith) (omega arith) q.alloc;
         freespace = keys_at 11 (omega arith) (omega arith) q.freespace;
@@ -135,14 +136,12 @@ module _ (call : ℕ) (any : Bool) (r : ReadList) (kept : 0 ≡ list_refusal cal
         reserved = rw (← buckets-sorted-are (fields s)) (buckets-located call any s kept q.reserved);
       }
 
-pub call-located : {call : ℕ} {r : ReadList} → CallRead call r → Located r
-call-located {call} {r} c = located call false r (call_kept call r.list.now c.passed) c.read
-
-pub volume-located : {r : ReadList} → VolumeRead r → Located r
-volume-located {r} c = located 0 true r (volume-kept r.list.now c.passed) c.read
+pub located : {asked : Option ℕ} {r : ReadList} → ReadAs asked r → Located r
+located {asked = Some call} {r} c = located_as call false r (call_kept call r.list.now c.passed) c.read
+located {asked = None} {r} c = located_as 0 true r (volume-kept r.list.now c.passed) c.read
 
 -- the requests of a placement, at most 1,024
-pub pieces-read : {r : ReadList} → CallRead 1 r → PiecesAt r.list.now r.requests.now (read_call r.list.now).pieces × (length r.requests.now ≤ 1024)
+pub pieces-read : {r : ReadList} → ReadAs (Some 1) r → PiecesAt r.list.now r.requests.now (read_call r.list.now).pieces × (length r.requests.now ≤ 1024)
 unfolding call_list_of
 pieces-read {r} c =
     let s = r.list.now in
@@ -151,7 +150,7 @@ pieces-read {r} c =
     (at, omega (arith, at.count, few))
 
 -- and of a release
-pub freeds-read : {r : ReadList} → CallRead 2 r → FreedsAt r.list.now r.requests.now (read_call r.list.now).releases × (length r.requests.now ≤ 1024)
+pub freeds-read : {r : ReadList} → ReadAs (Some 2) r → FreedsAt r.list.now r.requests.now (read_call r.list.now).releases × (length r.requests.now ≤ 1024)
 unfolding call_list_of
 freeds-read {r} c =
     let s = r.list.now in

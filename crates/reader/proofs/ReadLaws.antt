@@ -1,6 +1,6 @@
 -- What a list is read as, by what the pass over it found.
-use Rattle.std.proofs.Common.{Result, Ok, Err}
-use Prim.Native.Nat.{ℕ, ◌≤◌}
+use Rattle.std.proofs.Common.{Option, Some, None, unwrap_or, is_none}
+use Prim.Native.Nat.{ℕ, ◌≤◌, ◌<◌}
 use native.Mathlib.Omega.{arith}
 use mathlib.Core.Path.{◌≡◌, refl, sym, ◌∙◌, ap}
 use mathlib.Core.List.{List}
@@ -14,13 +14,12 @@ use Rattle.calls.proofs.lists.BoolLaws.{clash}
 use Rattle.reader.specs.CallFields.{head_within}
 use Rattle.reader.specs.Heads.{head_in}
 use Rattle.reader.specs.Table.{ends_in, rank_end, Ended}
-use Rattle.reader.specs.Readings.{call_refusal, volume_refusal, list_refusal, TableRead, Answered, CallAnswered, VolumeAnswered}
+use Rattle.reader.specs.Readings.{list_refusal, TableRead, Read, refusal_of, ReadAs}
 use Rattle.reader.specs.Arranged.{Sortable, Arranged, PastAsked}
 use Rattle.reader.specs.Surveyed.{Counted, LaidFound}
 use Rattle.reader.specs.declared.head.Head.{Head}
 use Rattle.reader.specs.declared.table.Ends.{Ends}
 use Rattle.reader.specs.declared.read_list.ReadList.{ReadList}
-use Rattle.reader.specs.declared.refusal.Refusal.{Refusal}
 use Rattle.reader.proofs.LimitLaws.{within-parts}
 use Rattle.reader.proofs.BoolLaws.{fails}
 use Rattle.reader.proofs.ListRefusalLaws.{RefusedBy, twice-refused, past-refused, accepted}
@@ -117,12 +116,16 @@ module _
         was-true true x = refl
         was-true false x = absurd (clash refl (sym x))
 
--- the list that was read is one of the call that was asked for
-pub call-answered : (call : ℕ) (s : List ℕ) (r : Result ReadList Refusal) → Answered (list_refusal call false s) call s r → CallAnswered call s r
-call-answered call s (Err e) a = rw (call-refusal call s) at a
-call-answered call s (Ok l) a = (a.1, record { passed = rw a.1 (a.0 ∙ call-refusal call s); read = a.2 })
+-- the refusal of what is asked for
+refusal-is : (asked : Option ℕ) (s : List ℕ) → list_refusal (unwrap_or asked 0) (is_none asked) s ≡ refusal_of asked s
+refusal-is (Some call) s = call-refusal call s
+refusal-is None s = volume-refusal s
 
--- or a volume
-pub volume-answered : (s : List ℕ) (r : Result ReadList Refusal) → Answered (list_refusal 0 true s) 0 s r → VolumeAnswered s r
-volume-answered s (Err e) a = rw (volume-refusal s) at a
-volume-answered s (Ok l) a = (a.1, record { passed = rw a.1 (a.0 ∙ volume-refusal s); read = a.2 })
+-- the table's refusal
+pub table-refused : (asked : Option ℕ) (s : List ℕ) (n : ℕ) → RefusedBy s (unwrap_or asked 0) (is_none asked) n → (n ≡ refusal_of asked s) × (0 < refusal_of asked s)
+table-refused asked s n a = rw (refusal-is asked s) at a
+
+-- or the list, cut into its parts
+pub table-cut : (asked : Option ℕ) {s : List ℕ} {r : ReadList} → 0 ≡ list_refusal (unwrap_or asked 0) (is_none asked) s → r.list.now ≡ s → Read (unwrap_or asked 0) r
+    → (r.list.now ≡ s) × ReadAs asked r
+table-cut asked {s} z e q = (e, record { passed = rw e (z ∙ refusal-is asked s); read = q })

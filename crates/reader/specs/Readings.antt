@@ -1,7 +1,7 @@
 -- The answers of the readers: refusals 2, 22 and 3, or the head and the table.
 use Rattle.std.specs.Borrow.{Bor, MutBor}
 use Rattle.std.specs.Fn.{Once}
-use Rattle.std.specs.Prelude.{ℕ, ◌<◌, ◌≡◌, List, [], ◌∷◌, ◌++◌, Bool, ◌&&◌, ◌||◌, eqb, Result, Ok, Err}
+use Rattle.std.specs.Prelude.{ℕ, ◌<◌, ◌≡◌, List, [], ◌∷◌, ◌++◌, Bool, ◌&&◌, ◌||◌, eqb, Option, Some, None, unwrap_or, Result, Ok, Err}
 use Rattle.wire.specs.Fields.{fields}
 use Rattle.calls.specs.CallList.{laid_out, volume_shapes, request_shapes, call_laid_out, volume_laid_out, none_twice}
 use Rattle.calls.specs.Limits.{volume_within, list_within}
@@ -60,37 +60,17 @@ pub record Read (call : ℕ) (r : ReadList) : Type 0 where
       r.places.now
       ≡ r.alloc.now ++ (r.lru.now ++ (r.freespace.now ++ (r.need_discard.now ++ (r.backpointers.now ++ (r.gens.now ++ (r.reserved.now ++ r.requests.now))))))
 
--- the refusal's number, or 0 and the list
-abbrev pub Answered : ℕ → ℕ → List ℕ → Result ReadList Refusal → Type 0
-Answered number call s (Err r) = (number_of r ≡ number) × (0 < number)
-Answered number call s (Ok r) = (0 ≡ number) × (r.list.now ≡ s) × Read call r
+-- the refusal of a list of the call that is asked for, or of a volume
+abbrev pub refusal_of : Option ℕ → List ℕ → ℕ
+refusal_of (Some call) s = call_refusal call s
+refusal_of None s = volume_refusal s
 
--- a call's list that was read, and that no refusal of the reader stops
-pub record CallRead (call : ℕ) (r : ReadList) : Type 0 where
-  pub passed : 0 ≡ call_refusal call r.list.now
-  pub read : Read call r
+-- a list that was read as it was asked for: no refusal of the reader stops it
+pub record ReadAs (asked : Option ℕ) (r : ReadList) : Type 0 where
+  pub passed : 0 ≡ refusal_of asked r.list.now
+  pub read : Read (unwrap_or asked 0) r
 
--- and a volume
-pub record VolumeRead (r : ReadList) : Type 0 where
-  pub passed : 0 ≡ volume_refusal r.list.now
-  pub read : Read 0 r
-
--- the number of refusal 2, 22 or 3, or the list that was read
-abbrev pub CallAnswered : ℕ → List ℕ → Result ReadList Refusal → Type 0
-CallAnswered call s (Err r) = (number_of r ≡ call_refusal call s) × (0 < call_refusal call s)
-CallAnswered call s (Ok r) = (r.list.now ≡ s) × CallRead call r
-
-abbrev pub VolumeAnswered : List ℕ → Result ReadList Refusal → Type 0
-VolumeAnswered s (Err r) = (number_of r ≡ volume_refusal s) × (0 < volume_refusal s)
-VolumeAnswered s (Ok r) = (r.list.now ≡ s) × VolumeRead r
-
--- a call of `f` on a list that was read, and on an output that is lent
-pub record AnswersRead {F : Type 0} (IsRead : ReadList → Type 0) (s : List ℕ) (g : Once F (Bor ReadList × (MutBor (List ℕ) × Unit {0})) (Result ℕ Refusal × (MutBor (List ℕ) × Unit {0}))) (f : F) (out : List ℕ) (result : Result ℕ Refusal) (out' : List ℕ) : Type 0 where
-  pub read : Bor ReadList
-  pub list : read.now.list.now ≡ s
-  pub is_read : IsRead read.now
-  pub lent : MutBor (List ℕ)
-  pub shows : lent.now ≡ out
-  pub left : MutBor (List ℕ)
-  pub met : g.post f (read, (lent, tt)) (result, (left, tt))
-  pub leaves : left.now ≡ out'
+-- the refusal, or the list that was read
+abbrev pub ReadAnswered : Option ℕ → List ℕ → Result ReadList Refusal → Type 0
+ReadAnswered asked s (Err r) = (number_of r ≡ refusal_of asked s) × (0 < refusal_of asked s)
+ReadAnswered asked s (Ok r) = (r.list.now ≡ s) × ReadAs asked r

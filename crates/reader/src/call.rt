@@ -1,5 +1,5 @@
 // Call lists and volumes: refusals 2, 22 and 3. A list in order is judged in one pass; any other has its table sorted.
-ghost use Rattle.std.specs.Prelude.{◌≡◌, ◌<◌, ◌||◌, not, cond, unwrap_or, is_none};
+ghost use Rattle.std.specs.Prelude.{◌≡◌, ◌<◌, ◌<◌, ◌||◌, not, cond, unwrap_or, is_none};
 ghost use Rattle.calls.specs.CallList.{none_twice};
 ghost use Rattle.calls.specs.Answers.{read_volume};
 ghost use Rattle.reader.specs.CallFields.{head_within};
@@ -7,7 +7,8 @@ ghost use Rattle.reader.specs.Heads.{head_in};
 ghost use Rattle.reader.specs.Refusals.{number_of, number_in};
 ghost use Rattle.reader.specs.Arranged.{PastAsked};
 ghost use Rattle.reader.specs.Table.{Fits};
-ghost use Rattle.reader.specs.Readings.{call_refusal, list_refusal, TableAnswered, Answered, CallAnswered, VolumeAnswered, CallRead, AnswersRead};
+ghost use Rattle.reader.specs.Lending.{AnswersRead};
+ghost use Rattle.reader.specs.Readings.{list_refusal, TableAnswered, refusal_of, ReadAs, ReadAnswered};
 
 use crate::head::Head;
 use crate::read_list::ReadList;
@@ -70,35 +71,45 @@ fn read_table(s: &[u8], asked: Option<u8>, index: &mut [u32]) -> Result<(Head, E
 // The same, with the table cut into its parts.
 fn read_list<'a>(s: &'a [u8], asked: Option<u8>, index: &'a mut [u32]) -> Result<ReadList<'a>, Refusal>
     requires { Fits s.now index.old }
-    ensures { Answered (list_refusal (unwrap_or asked 0) (is_none asked) s.now) (unwrap_or asked 0) s.now result }
+    ensures { ReadAnswered asked s.now result }
 {
     let (first, ends) = read_table(s, asked, index)?;
     Ok(read_list::cut(s, first, index, ends))
 }
 
-// Reads a call's list: refusal 2, then 22, then 3, else its head and the places of its fields.
-pub fn read_call<'a>(s: &'a [u8], call: u8, index: &'a mut [u32]) -> Result<ReadList<'a>, Refusal>
-    requires { Fits s.now index.old }
-    ensures { CallAnswered call s.now result }
-{
-    read_list(s, Some(call), index)
-}
-
-// Reads a volume in the same way: a list of any call, without requests.
-pub fn read_volume<'a>(s: &'a [u8], index: &'a mut [u32]) -> Result<ReadList<'a>, Refusal>
-    requires { Fits s.now index.old }
-    ensures { VolumeAnswered s.now result }
-{
-    read_list(s, None, index)
-}
-
-// Reads a call's list by a table, and answers it.
-fn call_by<F: FnOnce(&ReadList, &mut [u8]) -> Result<usize, Refusal>>(list: &[u8], call: u8, index: &mut [u32], out: &mut [u8], answer: F) -> Result<usize, Refusal>
+// Reads a list by a table, and answers it.
+fn answer_by<F: FnOnce(&ReadList, &mut [u32], &mut [u8]) -> Result<usize, Refusal>>(
+    list: &[u8],
+    asked: Option<u8>,
+    index: &mut [u32],
+    scratch: &mut [u32],
+    out: &mut [u8],
+    answer: F,
+) -> Result<usize, Refusal>
     requires fits { Fits list.now index.old }
-    requires callable { (r : _) (o : _) → CallRead call r.now → r.now.list.now ≡ list.now → o.now ≡ out.old → F.pre answer r o }
-    ensures refused { 0 < call_refusal call list.now → (number_in result ≡ call_refusal call list.now) × (out.new ≡ out.old) }
-    ensures answered { 0 ≡ call_refusal call list.now → AnswersRead (CallRead call) list.now F.FnOnce answer out.old result out.new }
+    requires callable { (r : _) (t : _) (o : _) → ReadAs asked r.now → r.now.list.now ≡ list.now → t.now ≡ scratch.old → o.now ≡ out.old → F.pre answer r t o }
+    ensures refused { 0 < refusal_of asked list.now → (number_in result ≡ refusal_of asked list.now) × (scratch.new ≡ scratch.old) × (out.new ≡ out.old) }
+    ensures answered { 0 ≡ refusal_of asked list.now → AnswersRead F.FnOnce answer asked list.now scratch.old out.old result scratch.new out.new }
 {
-    let read = read_call(list, call, index)?;
-    answer(&read, out)
+    let read = read_list(list, asked, index)?;
+    answer(&read, scratch, out)
+}
+
+// Reads a list of the call that is asked for, or a volume: refusal 2, then 22, then 3, else what is answered to it, with the scratch and the output that are lent. A short
+// list has a table of its own, since a long one takes time to clear.
+pub fn with_list<F: FnOnce(&ReadList, &mut [u32], &mut [u8]) -> Result<usize, Refusal>>(
+    list: &[u8],
+    asked: Option<u8>,
+    scratch: &mut [u32],
+    out: &mut [u8],
+    answer: F,
+) -> Result<usize, Refusal>
+    requires callable { (r : _) (t : _) (o : _) → ReadAs asked r.now → r.now.list.now ≡ list.now → t.now ≡ scratch.old → o.now ≡ out.old → F.pre answer r t o }
+    ensures refused { 0 < refusal_of asked list.now → (number_in result ≡ refusal_of asked list.now) × (scratch.new ≡ scratch.old) × (out.new ≡ out.old) }
+    ensures answered { 0 ≡ refusal_of asked list.now → AnswersRead F.FnOnce answer asked list.now scratch.old out.old result scratch.new out.new }
+{
+    if list.len() <= 3072 {
+        return answer_by(list, asked, &mut [0u32; 1024], scratch, out, answer);
+    }
+    answer_by(list, asked, &mut [0u32; 29696], scratch, out, answer)
 }
