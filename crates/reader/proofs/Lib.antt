@@ -30,6 +30,7 @@ pub mod CheckedLaws
 pub mod SortedBodyLaws
 pub mod LaidLaws
 pub mod ReadLaws
+pub mod LendingLaws
 pub mod CollectedLaws
 pub mod BodyOrderLaws
 pub mod StoredLaws
