@@ -6,7 +6,7 @@ use mathlib.Core.Path.{◌≡◌, refl, sym, ◌∙◌, ap}
 use mathlib.Core.List.{List, [], ◌∷◌, ◌++◌, map}
 use lib.ListN.{length, take, drop, get_or, length-map, length-take, length-drop}
 use lib.Seq.{get_or-take, get_or-drop, take-add, drop-drop}
-use Rattle.wire.specs.Bytes.{none, more}
+use Rattle.wire.specs.Bytes.{none, more, Bytes}
 use Rattle.wire.specs.Fields.{fields}
 use Rattle.calls.specs.CallList.{bodies}
 use Rattle.calls.proofs.lists.AllLaws.{all-nth}
@@ -102,16 +102,17 @@ module _ {call : ℕ} {s index : List ℕ} {h : Head} {e : Ends} (q : TableRead 
       ) (sym (rw (z, n) at (between-on 0 e.alloc e.requests index (omega arith) (omega arith))))
 
   pub cut-read :
-      (r : ReadList) → r.list.now ≡ s → r.head ≡ h → r.places.now ≡ take e.requests index → r.alloc.now ≡ take e.alloc index → r.lru.now ≡ between e.alloc e.lru index
+      (r : ReadList) → Bytes s → r.list.now ≡ s → r.head ≡ h → r.places.now ≡ take e.requests index → r.alloc.now ≡ take e.alloc index → r.lru.now ≡ between e.alloc e.lru index
       → r.freespace.now ≡ between e.lru e.freespace index → r.need_discard.now ≡ between e.freespace e.need_discard index
       → r.backpointers.now ≡ between e.need_discard e.backpointers index → r.gens.now ≡ between e.backpointers e.gens index
       → r.reserved.now ≡ between e.gens e.reserved index → r.requests.now ≡ between e.reserved e.requests index → Read call r
-  cut-read r s-is h-is places alloc lru freespace needs backs gens reserved requests =
+  cut-read r bytes s-is h-is places alloc lru freespace needs backs gens reserved requests =
       let t = in_turn in
       let n = q.ends in
       let k = q.table in
       let z : e.alloc - 0 ≡ e.alloc = omega arith in
       record {
+        bytes = rw s-is bytes;
         head = rw (s-is, h-is) q.head;
         alloc = rw (s-is, alloc) (rw z at (section 0 e.alloc 4 (omega (arith, n.alloc)) (omega arith) k.alloc));
         lru = rw (s-is, lru) (section e.alloc e.lru 10 n.lru (omega arith) k.lru);

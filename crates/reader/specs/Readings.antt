@@ -2,6 +2,7 @@
 use Rattle.std.specs.Borrow.{Bor, MutBor}
 use Rattle.std.specs.Fn.{Once}
 use Rattle.std.specs.Prelude.{ℕ, ◌<◌, ◌≡◌, List, [], ◌∷◌, ◌++◌, Bool, ◌&&◌, ◌||◌, eqb, Option, Some, None, unwrap_or, Result, Ok, Err}
+use Rattle.wire.specs.Bytes.{Bytes}
 use Rattle.wire.specs.Fields.{fields}
 use Rattle.calls.specs.CallList.{laid_out, volume_shapes, request_shapes, call_laid_out, volume_laid_out, none_twice}
 use Rattle.calls.specs.Limits.{volume_within, list_within}
@@ -47,6 +48,7 @@ TableAnswered number call s index (Ok l) = (0 ≡ number) × TableRead call s in
 
 -- the head of a list that was read, and its fields' places: those of a tag in the order of keys and buckets, requests in the order of the list, and all in turn
 pub record Read (call : ℕ) (r : ReadList) : Type 0 where
+  pub bytes : Bytes r.list.now
   pub head : head_in r.head ≡ (read_volume r.list.now).head
   pub alloc : PlacesOf r.list.now 4 r.alloc.now (sorted_bodies 4 (fields r.list.now))
   pub lru : PlacesOf r.list.now 10 r.lru.now (sorted_bodies 10 (fields r.list.now))
