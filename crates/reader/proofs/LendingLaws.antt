@@ -11,6 +11,11 @@ use Rattle.reader.specs.Readings.{refusal_of}
 use Rattle.reader.specs.Refusals.{number_of, number_in, made_by}
 use Rattle.reader.specs.declared.refusal.Refusal.{Refusal}
 
+-- the reader refuses a list, or it is read
+pub refused-or-read : {P : Type 0} (refusal : ℕ) → (0 < refusal → P) → (0 ≡ refusal → P) → P
+refused-or-read zero stops goes = goes refl
+refused-or-read (suc n) stops goes = stops (omega arith)
+
 -- a refusal's number
 made-refused : (result : Result ℕ Refusal) (n : ℕ) (out : List ℕ) → 0 < n → number_in result ≡ n → made_by result out ≡ made n 0 out
 made-refused (Ok count) n out l e = absurd (omega arith)
@@ -28,11 +33,8 @@ pub list-answered :
     → (0 < refusal_of asked s → (number_in result ≡ refusal_of asked s) × (scratch' ≡ scratch) × (out' ≡ out))
     → (0 < refusal_of asked s → answer s (length out) ≡ record { number = refusal_of asked s; written = [] })
     → (0 ≡ refusal_of asked s → made_by result out' ≡ outcome (answer s (length out)) out) → made_by result out' ≡ outcome (answer s (length out)) out
-list-answered answer asked result {s} {out = out} {out' = out'} stops is goes = go (refusal_of asked s) refl
-  where
-    go : (n : ℕ) → refusal_of asked s ≡ n → made_by result out' ≡ outcome (answer s (length out)) out
-    go zero e = goes (sym e)
-    go (suc n) e =
-        let l : 0 < refusal_of asked s = omega arith in
-        let r = stops l in
-        made-refused result (refusal_of asked s) out' l r.0 ∙ ap (made (refusal_of asked s) 0) r.2 ∙ refused (refusal_of asked s) out (is l) refl
+list-answered answer asked result {s} {out = out} {out' = out'} stops is goes =
+    let n = refusal_of asked s in
+    refused-or-read n
+    (λ l. let r = stops l in made-refused result n out' l r.0 ∙ ap (made n 0) r.2 ∙ refused n out (is l) refl)
+    goes
