@@ -10,7 +10,7 @@ use lib.Seq.{length-take-le}
 use Rattle.std.specs.Prelude.{Option, None, Some, Result, Ok, Err}
 use Rattle.std.proofs.lemmas.Result.{IfOk-weaker}
 use Rattle.wire.specs.Keys.{Key}
-use Rattle.wire.specs.Kinds.{buckets_up_to, began_before, buckets_in}
+use Rattle.wire.specs.Kinds.{buckets_up_to, began_before}
 use Rattle.wire.specs.declared.kinds.Bucket.{Bucket}
 use Rattle.calls.specs.Lists.{those}
 use Rattle.calls.specs.Limits.{is_run}
@@ -128,7 +128,7 @@ module _ (R U : Bucket → Bool) (k : Key) where
             first-refusal began (pass R U (suc n) (buckets_of k)).used (walk R U (pass R U (suc n) (buckets_of k)).need (those is_run ks)).refusal z
 
 -- ---- the walk of one key, as the code makes it
-module _ (R U : Bucket → Bool) (k : Key) (n : ℕ) (from : Walked) (before after : List ℕ) where
+module _ (R U : Bucket → Bool) (k : Key) (n : ℕ) (from : Walked) (before after : List Bucket) where
   -- a run begun before bucket 0
   pub key-began : began_early k ≡ true → WalkIs n (λ x. k ∷ []) (key_walk R U (n - from.count) k) from before after (Err RunBeforeBuckets)
   unfolding key_walk began_early
@@ -153,7 +153,7 @@ module _ (R U : Bucket → Bool) (k : Key) (n : ℕ) (from : Walked) (before aft
               IfOk-weaker r (RunTook p from before after) (λ x. WalkTook n (k ∷ []) (key_walk R U (n - from.count) k) from before after x)
               (λ x t.
               record {
-                taken = t.taken ∙ ap (λ (y : calls.Walked). buckets_in (take from.count before) ++ y.taken) w;
+                taken = t.taken ∙ ap (λ (y : calls.Walked). take from.count before ++ y.taken) w;
                 count = t.many ∙ ap (λ (y : calls.Walked). from.count + length y.taken) w;
                 passed = t.passed;
                 queue = ap (λ (y : calls.Walked). y.queue) (sym w) ∙ ap (key_queue k) (sym t.rest);
@@ -179,7 +179,7 @@ module _ (R U : Bucket → Bool) (k : Key) (n : ℕ) (from : Walked) (before aft
 
 -- a key with no bucket
 pub key-alone :
-    (R U : Bucket → Bool) (k : Key) (n : ℕ) (from : Walked) (table : List ℕ) → began_early k ≡ false → from.count ≤ n → run_in k ≡ None
+    (R U : Bucket → Bool) (k : Key) (n : ℕ) (from : Walked) (table : List Bucket) → began_early k ≡ false → from.count ≤ n → run_in k ≡ None
     → WalkIs n (λ x. k ∷ []) (key_walk R U (n - from.count) k) from table table
     (Ok (record { count = from.count; passed = from.passed + 1; left = 0 }))
 key-alone R U k n from table inside most f =
@@ -190,7 +190,7 @@ key-alone R U k n from table inside most f =
       used = ap (λ (x : Passed). thirteen x.used 0) (sym s);
       took =
           record {
-            taken = sym (append-nil (buckets_in (take from.count table))) ∙ ap (λ (x : Passed). buckets_in (take from.count table) ++ x.taken) (sym s);
+            taken = sym (append-nil (take from.count table)) ∙ ap (λ (x : Passed). take from.count table ++ x.taken) (sym s);
             many = omega (arith, ap (λ (x : Passed). length x.taken) s);
             passed = refl;
             rest = ap (λ (x : Passed). x.left) (sym s);
@@ -226,11 +226,11 @@ queue-take (suc i) left [] = refl
 queue-take (suc i) left (k ∷ ks) = rw (queue-take i left ks)
 
 -- ---- the walk so far: with what the keys from an index on make, it is all that the walk makes
-pub record RunWalking (R U : Bucket → Bool) (ks : List Key) (w : calls.Walked) (n : ℕ) (before table : List ℕ) (r : Walked) : Type 0 where
+pub record RunWalking (R U : Bucket → Bool) (ks : List Key) (w : calls.Walked) (n : ℕ) (before table : List Bucket) (r : Walked) : Type 0 where
   pub most : r.count ≤ n
   pub few : r.passed ≤ length ks
   pub size : length table ≡ length before
-  pub taken : buckets_in (take r.count table) ++ (walk R U (n - r.count) (runs_of (drop r.passed ks))).taken ≡ w.taken
+  pub taken : take r.count table ++ (walk R U (n - r.count) (runs_of (drop r.passed ks))).taken ≡ w.taken
   pub many : r.count + length (walk R U (n - r.count) (runs_of (drop r.passed ks))).taken ≡ length w.taken
   pub queue : w.queue ≡ queue_of r.passed r.left ks ++ (walk R U (n - r.count) (runs_of (drop r.passed ks))).queue
   pub refusal : (walk R U (n - r.count) (runs_of (drop r.passed ks))).refusal ≡ w.refusal
@@ -247,8 +247,8 @@ module _ (R U : Bucket → Bool) where
   walk_none zero = refl
   walk_none (suc n) = refl
 
-  pub walking_start : (ks : List Key) (n : ℕ) (table : List ℕ) → RunWalking R U ks (walk R U n (runs_of ks)) n table table unwalked
-  unfolding queue_of buckets_in
+  pub walking_start : (ks : List Key) (n : ℕ) (table : List Bucket) → RunWalking R U ks (walk R U n (runs_of ks)) n table table unwalked
+  unfolding queue_of
   walking_start ks n table =
       let e : n - 0 ≡ n = omega arith in
       let q : walk R U (n - 0) (runs_of ks) ≡ walk R U n (runs_of ks) = ap (λ (m : ℕ). walk R U m (runs_of ks)) e in
@@ -263,19 +263,18 @@ module _ (R U : Bucket → Bool) where
         short = λ h. refl;
       }
 
-module _ {R U : Bucket → Bool} {ks : List Key} {w : calls.Walked} {n : ℕ} {before table : List ℕ} {r : Walked} (g : RunWalking R U ks w n before table r) where
+module _ {R U : Bucket → Bool} {ks : List Key} {w : calls.Walked} {n : ℕ} {before table : List Bucket} {r : Walked} (g : RunWalking R U ks w n before table r) where
   abbrev here : calls.Walked
   here = walk R U (n - r.count) (runs_of (drop r.passed ks))
 
   -- nothing more is to come
   walking-done : here ≡ record { taken = []; queue = []; refusal = 0 } → WalkIs n (λ x. take x.passed ks) w unwalked before table (Ok r)
-  unfolding buckets_in
   walking-done e =
       record {
         refusal = ap (λ (x : calls.Walked). x.refusal) (sym e) ∙ g.refusal;
         took =
             record {
-              taken = sym (append-nil (buckets_in (take r.count table))) ∙ ap (λ (x : calls.Walked). buckets_in (take r.count table) ++ x.taken) (sym e) ∙ g.taken;
+              taken = sym (append-nil (take r.count table)) ∙ ap (λ (x : calls.Walked). take r.count table ++ x.taken) (sym e) ∙ g.taken;
               count = omega (arith, g.many, ap (λ (x : calls.Walked). length x.taken) e);
               passed = omega (arith, length-take-le r.passed ks g.few);
               queue =
@@ -304,7 +303,7 @@ module _ {R U : Bucket → Bool} {ks : List Key} {w : calls.Walked} {n : ℕ} {b
     some-need = omega arith
 
     -- is refused
-    pub walking-refused : {next : List ℕ} {e : Refusal} → WalkIs n (λ x. k ∷ []) (key_walk R U (n - r.count) k) r table next (Err e)
+    pub walking-refused : {next : List Bucket} {e : Refusal} → WalkIs n (λ x. k ∷ []) (key_walk R U (n - r.count) k) r table next (Err e)
         → WalkIs n (λ x. take x.passed ks) w unwalked before next (Err e)
     walking-refused {e = e} o =
         record {
@@ -324,7 +323,7 @@ module _ {R U : Bucket → Bool} {ks : List Key} {w : calls.Walked} {n : ℕ} {b
         go false = omega arith
 
     -- is passed
-    module _ {next : List ℕ} {t : Walked} (o : WalkIs n (λ x. k ∷ []) (key_walk R U (n - r.count) k) r table next (Ok t)) where
+    module _ {next : List Bucket} {t : Walked} (o : WalkIs n (λ x. k ∷ []) (key_walk R U (n - r.count) k) r table next (Ok t)) where
       -- what it queues
       alone : x.queue ≡ key_queue k t.left
       unfolding queue_of
@@ -346,9 +345,9 @@ module _ {R U : Bucket → Bool} {ks : List Key} {w : calls.Walked} {n : ℕ} {b
             few = omega (arith, p.passed, ap length f, length-drop r.passed ks);
             size = l ∙ g.size;
             taken =
-                ap (λ (y : calls.Walked). buckets_in (take t.count next) ++ y.taken) e ∙ ap (λ (y : List Bucket). y ++ v.taken) p.taken
-                ∙ append_assoc (buckets_in (take r.count table)) x.taken v.taken
-                ∙ ap (λ (y : calls.Walked). buckets_in (take r.count table) ++ y.taken) (sym s)
+                ap (λ (y : calls.Walked). take t.count next ++ y.taken) e ∙ ap (λ (y : List Bucket). y ++ v.taken) p.taken
+                ∙ append_assoc (take r.count table) x.taken v.taken
+                ∙ ap (λ (y : calls.Walked). take r.count table ++ y.taken) (sym s)
                 ∙ g.taken;
             many =
                 omega (

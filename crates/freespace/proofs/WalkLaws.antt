@@ -1,14 +1,14 @@
 -- The walk over one run, bucket by bucket.
 use mathlib.Core.Path.{◌≡◌, refl, ap, sym, ◌∙◌}
 use mathlib.Core.Bool.{Bool, true, false, ◌||◌, cond}
-use mathlib.Core.List.{List, [], ◌∷◌, ◌++◌, append-nil, map-append}
+use mathlib.Core.List.{List, [], ◌∷◌, ◌++◌, append-nil}
 use Prim.Native.Nat.{ℕ, zero, suc, ◌+◌, ◌-◌, ◌≤◌, ◌<◌}
 use native.Mathlib.Numerals.{add-one}
 use native.Mathlib.Omega.{arith}
 use lib.ListN.{length, take, set, length-set}
 use Rattle.std.proofs.Math.Bool.{or_assoc}
 use lib.Seq.{take-suc-set, append_snoc}
-use Rattle.wire.specs.Kinds.{bucket_in_range, bucket_is, buckets_in, buckets_from, buckets_up_to, next_bucket}
+use Rattle.wire.specs.Kinds.{bucket_in_range, buckets_from, buckets_up_to, next_bucket}
 use Rattle.wire.specs.declared.kinds.Bucket.{Bucket}
 use lib.Dec.{leb}
 use borrow.Author.Tests.{lt-ltb, leb-true, leb-false}
@@ -101,15 +101,15 @@ module _ (R U S W : Bucket → Bool) (r : (b : Bucket) → bucket_in_range b ≡
           rw (up-to-none start end (omega arith)) (pass-none R U need ∙ sym (pass-none S W need))
 
 -- the walk of one run, with the buckets from one on still to come: all that the run makes is what was made so far and what those make
-pub record Ahead (R U : Bucket → Bool) (p : Passed) (n : ℕ) (from : Walked) (before : List ℕ) (end b : Bucket) (count : ℕ) (met : Bool) (table : List ℕ) : Type 0 where
+pub record Ahead (R U : Bucket → Bool) (p : Passed) (n : ℕ) (from : Walked) (before : List Bucket) (end b : Bucket) (count : ℕ) (met : Bool) (table : List Bucket) : Type 0 where
   pub most : count ≤ n
   pub size : length table ≡ length before
-  pub taken : buckets_in (take count table) ++ (pass R U (n - count) (buckets_up_to b end)).taken ≡ buckets_in (take from.count before) ++ p.taken
+  pub taken : take count table ++ (pass R U (n - count) (buckets_up_to b end)).taken ≡ take from.count before ++ p.taken
   pub many : count + length (pass R U (n - count) (buckets_up_to b end)).taken ≡ from.count + length p.taken
   pub left : (pass R U (n - count) (buckets_up_to b end)).left ≡ p.left
   pub used : met || (pass R U (n - count) (buckets_up_to b end)).used ≡ p.used
 
-module _ (R U : Bucket → Bool) {p : Passed} {n : ℕ} {from : Walked} {before : List ℕ} {end b : Bucket} {count : ℕ} {met : Bool} {table : List ℕ} (a : Ahead R U p n from before end b count met table) where
+module _ (R U : Bucket → Bool) {p : Passed} {n : ℕ} {from : Walked} {before : List Bucket} {end b : Bucket} {count : ℕ} {met : Bool} {table : List Bucket} (a : Ahead R U p n from before end b count met table) where
   abbrev rest : Passed
   rest = pass R U (n - count) (buckets_up_to b end)
 
@@ -120,7 +120,7 @@ module _ (R U : Bucket → Bool) {p : Passed} {n : ℕ} {from : Walked} {before 
       record {
         most = a.most;
         size = a.size;
-        taken = ap (λ (r : Passed). buckets_in (take count table) ++ r.taken) q ∙ a.taken;
+        taken = ap (λ (r : Passed). take count table ++ r.taken) q ∙ a.taken;
         many = ap (λ (r : Passed). count + length r.taken) q ∙ a.many;
         left = ap (λ (r : Passed). r.left) q ∙ a.left;
         used = ap (λ (r : Passed). met || r.used) q ∙ a.used;
@@ -129,23 +129,21 @@ module _ (R U : Bucket → Bool) {p : Passed} {n : ℕ} {from : Walked} {before 
   -- another is taken
   pub ahead-take :
       (next : Bool) → count < n → n ≤ length before → b.0 < end.0 → R b ≡ false → next ≡ met || U b
-      → Ahead R U p n from before end (next_bucket b) (count + 1) next (set table count b.0)
-  unfolding buckets_in
+      → Ahead R U p n from before end (next_bucket b) (count + 1) next (set table count b)
   ahead-take next h z l e f =
       let m : n - count ≡ suc (n - (count + 1)) = omega arith in
       let r : Passed = pass R U (n - (count + 1)) (buckets_up_to (next_bucket b) end) in
       let q : rest ≡ record { taken = b ∷ r.taken; left = r.left; need = r.need; used = U b || r.used } =
       ap (pass R U (n - count)) (up-to-next b end l) ∙ ap (λ (k : ℕ). pass R U k (b ∷ buckets_up_to (next_bucket b) end)) m
       ∙ pass-take R U (n - (count + 1)) b (buckets_up_to (next_bucket b) end) e in
-      let w : take (count + 1) (set table count b.0) ≡ take count table ++ (b.0 ∷ []) = rw add-one (take-suc-set table count b.0 (omega (arith, a.size))) in
+      let w : take (count + 1) (set table count b) ≡ take count table ++ (b ∷ []) = rw add-one (take-suc-set table count b (omega (arith, a.size))) in
       record {
         most = omega arith;
-        size = length-set table count b.0 ∙ a.size;
+        size = length-set table count b ∙ a.size;
         taken =
-            ap (λ (x : List ℕ). buckets_in x ++ r.taken) w
-            ∙ ap (λ (x : List Bucket). x ++ r.taken) (map-append bucket_is (take count table) (b.0 ∷ []))
-            ∙ append_snoc (buckets_in (take count table)) b r.taken
-            ∙ ap (λ (x : Passed). buckets_in (take count table) ++ x.taken) (sym q)
+            ap (λ (x : List Bucket). x ++ r.taken) w
+            ∙ append_snoc (take count table) b r.taken
+            ∙ ap (λ (x : Passed). take count table ++ x.taken) (sym q)
             ∙ a.taken;
         many = omega (arith, a.many, ap (λ (x : Passed). length x.taken) q);
         left = ap (λ (x : Passed). x.left) (sym q) ∙ a.left;
@@ -161,7 +159,7 @@ module _ (R U : Bucket → Bool) {p : Passed} {n : ℕ} {from : Walked} {before 
         used = rw (sym a.used, f, e) refl;
         took =
             record {
-              taken = sym (append-nil (buckets_in (take count table))) ∙ ap (λ (x : Passed). buckets_in (take count table) ++ x.taken) (sym e) ∙ a.taken;
+              taken = sym (append-nil (take count table)) ∙ ap (λ (x : Passed). take count table ++ x.taken) (sym e) ∙ a.taken;
               many = omega (arith, a.many, ap (λ (x : Passed). length x.taken) e);
               passed = refl;
               rest = ap (λ (x : Passed). x.left) (sym e) ∙ a.left;

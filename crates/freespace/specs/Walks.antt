@@ -1,7 +1,7 @@
 -- The walk over the runs, as the code makes it.
 use Rattle.std.specs.Prelude.{ℕ, zero, suc, ◌+◌, ◌≤◌, ◌<◌, ◌^◌, ◌≡◌, Bool, true, cond, List, [], ◌∷◌, ◌++◌, length, take, Result, IfOk}
 use Rattle.wire.specs.Keys.{Key}
-use Rattle.wire.specs.Kinds.{began_before, buckets_in}
+use Rattle.wire.specs.Kinds.{began_before}
 use Rattle.wire.specs.declared.kinds.Bucket.{Bucket}
 use Rattle.calls.specs.Limits.{is_run}
 use Rattle.calls.specs.Freespace as calls
@@ -18,7 +18,7 @@ abbrev pub unwalked : Walked
 unwalked = record { count = 0; passed = 0; left = 0 }
 
 -- What the walk of a key asks: a key at its place within the limits, the tables, and room for the buckets.
-pub record Walkable (s : List ℕ) (at : ℕ) (reserved used : List ℕ) (n : ℕ) (from : Walked) (table : List ℕ) : Type 0 where
+pub record Walkable (s : List ℕ) (at : ℕ) (reserved used : List ℕ) (n : ℕ) (from : Walked) (table : List Bucket) : Type 0 where
   pub key : Whole s at
   pub end : end_in_range (key_here s at) ≡ true
   pub tables : Tables s reserved used
@@ -31,14 +31,14 @@ abbrev pub thirteen : Bool → ℕ → ℕ
 thirteen used other = cond used 13 other
 
 -- what the walk of a run's buckets leaves where it met no used one
-pub record RunTook (p : calls.Passed) (from : Walked) (before after : List ℕ) (r : Walked) : Type 0 where
-  pub taken : buckets_in (take r.count after) ≡ buckets_in (take from.count before) ++ p.taken
+pub record RunTook (p : calls.Passed) (from : Walked) (before after : List Bucket) (r : Walked) : Type 0 where
+  pub taken : take r.count after ≡ take from.count before ++ p.taken
   pub many : r.count ≡ from.count + length p.taken
   pub passed : r.passed ≡ from.passed + 1
   pub rest : r.left ≡ p.left
 
 -- what the walk of a run's buckets gives
-pub record WalkEnded (p : calls.Passed) (from : Walked) (before after : List ℕ) (r : Result Walked Refusal) : Type 0 where
+pub record WalkEnded (p : calls.Passed) (from : Walked) (before after : List Bucket) (r : Result Walked Refusal) : Type 0 where
   pub used : number_in r ≡ thirteen p.used 0
   pub took : IfOk r (RunTook p from before after)
 
@@ -71,8 +71,8 @@ queue_of (suc passed) left (k ∷ ks) =
     cond (is_run k) (shortened k (left_of passed left) ∷ queue_of passed left ks) (queue_of passed left ks)
 
 -- What an accepted walk that passed some keys leaves, from where it was: the buckets taken, in the table, and the keys queued.
-pub record WalkTook (n : ℕ) (ks : List Key) (w : calls.Walked) (from : Walked) (before after : List ℕ) (r : Walked) : Type 0 where
-  pub taken : buckets_in (take r.count after) ≡ buckets_in (take from.count before) ++ w.taken
+pub record WalkTook (n : ℕ) (ks : List Key) (w : calls.Walked) (from : Walked) (before after : List Bucket) (r : Walked) : Type 0 where
+  pub taken : take r.count after ≡ take from.count before ++ w.taken
   pub count : r.count ≡ from.count + length w.taken
   pub passed : r.passed ≡ from.passed + length ks
   pub queue : w.queue ≡ queue_of (length ks) r.left ks
@@ -80,6 +80,6 @@ pub record WalkTook (n : ℕ) (ks : List Key) (w : calls.Walked) (from : Walked)
   pub short : r.count < n → r.left ≡ 0
 
 -- the walk's refusal, or what it leaves; `keys` gives the keys that it passed
-pub record WalkIs (n : ℕ) (keys : Walked → List Key) (w : calls.Walked) (from : Walked) (before after : List ℕ) (r : Result Walked Refusal) : Type 0 where
+pub record WalkIs (n : ℕ) (keys : Walked → List Key) (w : calls.Walked) (from : Walked) (before after : List Bucket) (r : Result Walked Refusal) : Type 0 where
   pub refusal : number_in r ≡ w.refusal
   pub took : IfOk r (λ x. WalkTook n (keys x) w from before after x)

@@ -34,7 +34,7 @@ fn walk_run(
     used: &[u8; 8192],
     n: usize,
     from: Walked,
-    taken: &mut [u64],
+    taken: &mut [Bucket],
 ) -> Result<Walked, Refusal>
     requires { (run.end.0 ≤ 65536) × (from.count ≤ n) × (n ≤ length taken.old) × (from.passed < 2 ^ 63) }
     ensures { WalkEnded (pass (marked reserved.now) (marked used.now) (n - from.count) (buckets_up_to run.start run.end)) from taken.old taken.new result }
@@ -50,7 +50,7 @@ fn walk_run(
         }
         if !marks::is_marked(reserved, b) {
             met_used |= marks::is_marked(used, b);
-            taken[count] = number;
+            taken[count] = b;
             count += 1;
         }
     }
@@ -72,7 +72,7 @@ fn walk_key(
     used: &[u8; 8192],
     n: usize,
     from: Walked,
-    taken: &mut [u64],
+    taken: &mut [Bucket],
 ) -> Result<Walked, Refusal>
     requires { Walkable s.now at reserved.now used.now n from taken.old }
     ensures { WalkIs n (λ w. key_here s.now at ∷ []) (key_walk (is_in (read_volume s.now).reserved) (is_used (read_volume s.now).trees.alloc) (n - from.count) (key_here s.now at)) from taken.old taken.new result }
@@ -97,7 +97,7 @@ pub fn take_buckets(
     reserved: &[u8; 8192],
     used: &[u8; 8192],
     n: usize,
-    taken: &mut [u64],
+    taken: &mut [Bucket],
 ) -> Result<Walked, Refusal>
     requires { Checked s.now × KeysAt s.now runs.now (read_volume s.now).trees.freespace × (n ≤ length taken.old) × Tables s.now reserved.now used.now }
     ensures { WalkIs n (λ w. take w.passed (read_volume s.now).trees.freespace) (walk (is_in (read_volume s.now).reserved) (is_used (read_volume s.now).trees.alloc) n (runs_of (read_volume s.now).trees.freespace)) unwalked taken.old taken.new result }
@@ -123,7 +123,7 @@ pub fn walk_runs(
     runs: &[u32],
     reserved: &[u32],
     n: usize,
-    taken: &mut [u64],
+    taken: &mut [Bucket],
 ) -> Result<Walked, Refusal>
     requires { Checked s.now × KeysAt s.now alloc.now (read_volume s.now).trees.alloc × KeysAt s.now runs.now (read_volume s.now).trees.freespace × BucketsAt s.now reserved.now (read_volume s.now).reserved × (n ≤ length taken.old) }
     ensures { WalkIs n (λ w. take w.passed (read_volume s.now).trees.freespace) (walk (is_in (read_volume s.now).reserved) (is_used (read_volume s.now).trees.alloc) n (runs_of (read_volume s.now).trees.freespace)) unwalked taken.old taken.new result }

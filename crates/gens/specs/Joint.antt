@@ -21,3 +21,8 @@ pub record Looked (gens : List Key) (bs : List Bucket) (before after : List ℕ)
 pub each_named : (ns : List ℕ) → buckets_in ns ≡ map bucket_is ns
 unfolding buckets_in
 each_named ns = refl
+
+-- a bucket names itself
+pub each_itself : (bs : List Bucket) → bs ≡ map (λ b. b) bs
+each_itself [] = refl
+each_itself (b ∷ bs) = λ i. b ∷ each_itself bs i

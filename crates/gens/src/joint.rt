@@ -8,7 +8,7 @@ ghost use Rattle.calls.specs.CallList.{keys_ascend};
 ghost use Rattle.calls.specs.Lists.{in_order};
 ghost use Rattle.reader.specs.KeyHere.{key_here, keys_here, Whole};
 ghost use Rattle.reader.specs.Located.{KeysAt};
-ghost use Rattle.gens.specs.Joint.{keys_up_to, Looked, each_named};
+ghost use Rattle.gens.specs.Joint.{keys_up_to, Looked, each_named, each_itself};
 ghost use Rattle.gens.specs.Records.{RecordIs};
 
 use crate::lookup;
@@ -16,7 +16,7 @@ use reader::key;
 use wire::kinds::Bucket;
 use wire::{bpos, positions};
 
-// A number that names a bucket, in 32 bits or in 64. A table of such numbers is read as the buckets that they name.
+// A number that names a bucket: one of 32 bits, or the bucket's own. A table of such numbers is read as the buckets that they name.
 pub trait BucketNumber: Copy {
     ghost named: { Self → Bucket };
 
@@ -41,15 +41,15 @@ impl BucketNumber for u32 {
     }
 }
 
-impl BucketNumber for u64 {
-    ghost named = { bucket_is };
+impl BucketNumber for Bucket {
+    ghost named = { λ b. b };
 
-    ghost buckets_in = { buckets_in };
+    ghost buckets_in = { λ bs. bs };
 
-    ghost each_named = { each_named };
+    ghost each_named = { each_itself };
 
     fn bucket(self) -> Bucket {
-        Bucket(self)
+        self
     }
 }
 

@@ -9,7 +9,7 @@ use lib.Dec.{eqb}
 use lib.ListN.{length, take, length-take}
 use borrow.Author.Tests.{eq-eqb, eqb-true}
 use Rattle.wire.specs.Keys.{Key}
-use Rattle.wire.specs.Kinds.{no_bucket, same_bucket, buckets_in, bucket_in_range}
+use Rattle.wire.specs.Kinds.{no_bucket, same_bucket, bucket_in_range}
 use Rattle.wire.specs.declared.kinds.Bucket.{Bucket}
 use Rattle.calls.specs.Lists.{all_of, those, total, one}
 use Rattle.calls.specs.CallList.{CallList}
@@ -77,13 +77,13 @@ taken-once R U n l sorted apart b = go (R (bucket b)) refl
     go false e = omega (arith, (covered R U n l b sorted).plain e, cover-once b (runs_of l) apart, cover-runs b l)
 
 -- what is chosen, for the change list
-pub record Choice (s : List ℕ) (h : Head) (runs pieces numbers table : List ℕ) (r : Walked) : Type 0 where
+pub record Choice (s : List ℕ) (h : Head) (runs pieces numbers : List ℕ) (table : List Bucket) (r : Walked) : Type 0 where
   pub few : r.count ≤ 1024
-  pub plan : PlanFor s h pieces numbers (buckets_in (take r.count table))
+  pub plan : PlanFor s h pieces numbers (take r.count table)
   pub walk : Walk s runs r.passed r.left
 
 module _
-    {s : List ℕ} {h : Head} {allocs_at runs-at reserved-at pieces-at before table numbers : List ℕ} {r : Walked}
+    {s : List ℕ} {h : Head} {allocs_at runs-at reserved-at pieces-at : List ℕ} {before table : List Bucket} {numbers : List ℕ} {r : Walked}
     (q : Called s h allocs_at runs-at reserved-at pieces-at) (o : ChosenIs s before table numbers (Ok r)) where
   abbrev c : CallList
   c = read_call s
@@ -112,11 +112,10 @@ module _
   abbrev w : WalkTook (buckets_needed (slots_of c)) (take r.passed ks) (walk_of c) unwalked before table r
   w = o.took
 
-  taken_is : buckets_in (take r.count table) ≡ (walk_of c).taken
-  unfolding buckets_in
+  taken_is : take r.count table ≡ (walk_of c).taken
   taken_is = w.taken
 
-  taken-length : length (buckets_in (take r.count table)) ≡ r.count
+  taken-length : length (take r.count table) ≡ r.count
   taken-length = omega (arith, ap length taken_is, w.count)
 
   passed-all : length (take r.passed ks) ≡ r.passed

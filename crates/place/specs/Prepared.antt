@@ -2,7 +2,7 @@
 use Rattle.std.specs.Prelude.{ℕ, ◌≤◌, ◌≡◌, List, [], ◌∷◌, length}
 use Rattle.std.specs.Coded.{le_prop, Coded-set, codes}
 use Rattle.wire.specs.Bytes.{All, none, more}
-use Rattle.wire.specs.Kinds.{buckets_in}
+use Rattle.wire.specs.declared.kinds.Bucket.{Bucket}
 use Rattle.calls.specs.Clock.{clock_of}
 use Rattle.calls.specs.Place.{placed_of}
 use Rattle.calls.specs.Answers.{read_call, read_volume}
@@ -13,9 +13,9 @@ use Rattle.accounting.specs.declared.tally.Tallies.{Tallies}
 use Rattle.place_keys.specs.Plan.{Dirty}
 use Rattle.place_keys.specs.Queue.{Walk}
 
-pub record Prepared (s taken counts runs : List ℕ) (w : Walked) (t : Tallies) (time : ℕ) : Type 0 where
+pub record Prepared (s : List ℕ) (taken : List Bucket) (counts runs : List ℕ) (w : Walked) (t : Tallies) (time : ℕ) : Type 0 where
   pub long : length taken ≤ length counts
-  pub dirty : Dirty (placed_of (read_call s)) (buckets_in taken) counts
+  pub dirty : Dirty (placed_of (read_call s)) taken counts
   pub walk : Walk s runs w.passed w.left
   pub tallied : Tallied (read_call s).pieces t
   pub clock : time ≡ clock_of (read_volume s).trees.alloc
@@ -28,5 +28,5 @@ all-prop h (a ∷ s) (more p q) (more u v) = λ i. more (h a p u i) (all-prop h 
 small-prop : (ts : List Tally) → IsProp (All (Small 1024) ts)
 small-prop ts = all-prop (λ t. hlevel le_prop) ts
 
-pub prepared-prop : (s taken counts runs : List ℕ) (w : Walked) (t : Tallies) (time : ℕ) → IsProp (Prepared s taken counts runs w t time)
+pub prepared-prop : (s : List ℕ) (taken : List Bucket) (counts runs : List ℕ) (w : Walked) (t : Tallies) (time : ℕ) → IsProp (Prepared s taken counts runs w t time)
 prepared-prop s taken counts runs w t time = hlevel (small-prop, le_prop, Coded-set, codes)

@@ -1,7 +1,6 @@
 // The change list of a placement.
 ghost use Rattle.std.specs.Prelude.{◌≡◌, ◌&&◌, [], ◌∷◌, map};
 ghost use Rattle.wire.specs.Encode.{encode, encode_field};
-ghost use Rattle.wire.specs.Kinds.{buckets_in};
 ghost use Rattle.wire.specs.Output.{with_bytes};
 ghost use Rattle.calls.specs.ChangeList.{taken_field, sectors_field, change_bytes};
 ghost use Rattle.calls.specs.Place.{root_missing, roots_if};
@@ -96,11 +95,11 @@ pub fn put_lru_root(out: &mut Output, wanted: bool, roots: u8)
 }
 
 // Fields 71: the buckets taken.
-pub fn put_taken(out: &mut Output, taken: &[u64])
-    ensures { out.new ≡ with_bytes out.old (encode (map taken_field (buckets_in taken.now))) }
+pub fn put_taken(out: &mut Output, taken: &[Bucket])
+    ensures { out.new ≡ with_bytes out.old (encode (map taken_field taken.now)) }
 {
     for b in taken {
-        out.put_bucket(71, Bucket(*b));
+        out.put_bucket(71, *b);
     }
 }
 

@@ -1,6 +1,6 @@
 // The call: a list is read, then answered.
 ghost use Rattle.std.specs.Prelude.{◌≡◌, true, map, ◌≤◌, [], ◌∷◌, length, take};
-ghost use Rattle.wire.specs.Kinds.{bucket_in_range, buckets_in};
+ghost use Rattle.wire.specs.Kinds.{bucket_in_range};
 ghost use Rattle.calls.specs.Lists.{all_of};
 ghost use Rattle.calls.specs.Generations.{gen_of};
 ghost use Rattle.calls.specs.Answers as answers;
@@ -27,6 +27,7 @@ use reader::head::Head;
 use reader::refusal::Refusal;
 use reader::table::Ends;
 use reader::{answer, call};
+use wire::kinds::Bucket;
 
 // A list that was read: its head, and where its alloc keys, its runs, its generations, its reserved buckets and its pieces stand.
 #[derive(Clone, Copy, Drop)]
@@ -43,9 +44,9 @@ struct Given<'a> {
 }
 
 // Fills in the generations of the buckets taken. Choosing them shows what is required.
-fn fill_gens(g: &Given, taken: &[u64], out: &mut [u8])
-    requires { (length taken.now ≤ length out.old) × (all_of bucket_in_range (buckets_in taken.now) ≡ true) }
-    ensures { take (length taken.now) out.new ≡ map (gen_of (read_volume g.now.list.now).trees.gens) (buckets_in taken.now) }
+fn fill_gens(g: &Given, taken: &[Bucket], out: &mut [u8])
+    requires { (length taken.now ≤ length out.old) × (all_of bucket_in_range taken.now ≡ true) }
+    ensures { take (length taken.now) out.new ≡ map (gen_of (read_volume g.now.list.now).trees.gens) taken.now }
 {
     let mut records = [0u32; 256];
     records::find_records(g.list, g.gens, &mut records);
@@ -56,7 +57,7 @@ fn fill_gens(g: &Given, taken: &[u64], out: &mut [u8])
 fn place_lists(g: &Given, out: &mut [u8]) -> Result<usize, Refusal>
     ensures { made_by result out.new ≡ outcome (answer (place_tests (read_call g.now.list.now)) (change_bytes (placement g.now.list.now ∷ [])) (length out.old)) out.old }
 {
-    let mut taken = [0u64; 1024];
+    let mut taken = [Bucket(0); 1024];
     let mut slots = [0u32; 1024];
     let w = refusals::choose_buckets(
         g.list, g.head, g.alloc, g.runs, g.reserved, g.pieces, &mut taken, &mut slots,

@@ -6,7 +6,7 @@ use Prim.Native.Nat.{ℕ, zero, suc, ◌+◌, ◌*◌, ◌≤◌, ◌<◌, ◌^�
 use native.Mathlib.Omega.{arith}
 use lib.ListN.{length, take, drop, get_or, length-map}
 use borrow.Author.Tests.{ltb-true}
-use Rattle.wire.specs.Kinds.{bucket_in_range, bucket_is, buckets_in, sector_at, extent_end, no_bucket}
+use Rattle.wire.specs.Kinds.{bucket_in_range, sector_at, extent_end, no_bucket}
 use Rattle.wire.specs.declared.kinds.Bucket.{Bucket}
 use Rattle.wire.specs.declared.kinds.DeviceSector.{DeviceSector}
 use Rattle.wire.specs.declared.kinds.FileSector.{FileSector}
@@ -34,11 +34,11 @@ use Rattle.place_keys.proofs.SlotTables.{slot-offset, slots_length, slots_next, 
 
 -- the buckets taken, by index
 
-pub bucket-at : (ns : List ℕ) (i : ℕ) → bucket_is (get_or ns i 0) ≡ bucket_at no_bucket (buckets_in ns) i
-unfolding bucket_at buckets_in
+pub bucket-at : (bs : List Bucket) (i : ℕ) → get_or bs i no_bucket ≡ bucket_at no_bucket bs i
+unfolding bucket_at
 bucket-at [] i = refl
-bucket-at (n ∷ ns) zero = refl
-bucket-at (n ∷ ns) (suc i) = bucket-at ns i
+bucket-at (b ∷ bs) zero = refl
+bucket-at (b ∷ bs) (suc i) = bucket-at bs i
 
 pub map_at : (f : Bucket → ℕ) (bs : List Bucket) (i : ℕ) → i < length bs → get_or (map f bs) i 0 ≡ f (bucket_at no_bucket bs i)
 unfolding bucket_at

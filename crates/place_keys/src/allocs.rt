@@ -8,7 +8,6 @@ ghost use Rattle.calls.specs.Trees.{new_key};
 ghost use Rattle.calls.specs.Extents as calls;
 ghost use Rattle.calls.specs.Place.{new_alloc_key};
 ghost use Rattle.change_fields.specs.FieldBytes.{keys_bytes};
-ghost use Rattle.wire.specs.Kinds.{buckets_in};
 ghost use Rattle.wire.specs.Output.{with_bytes};
 ghost use Rattle.place_keys.specs.Plan.{Dirty, DirtyKnown, AllocsOf, AllocsKnown};
 
@@ -39,17 +38,17 @@ pub fn put_alloc(out: &mut Output, b: Bucket, journal: u64, generation: u8, dirt
 // The alloc keys of the buckets taken, in order, by their generations and dirty counts. `put_keys` shows whose they are.
 pub fn put_allocs(
     out: &mut Output,
-    taken: &[u64],
+    taken: &[Bucket],
     gens: &[u8],
     dirty: &[u32],
     journal: u64,
     clock: u64,
 )
     requires taken_in_bounds { (length taken.now ≤ length gens.now) × (length taken.now ≤ length dirty.now) }
-    requires allocs_known { AllocsKnown (buckets_in taken.now) gens.now journal clock × DirtyKnown (buckets_in taken.now) dirty.now }
-    ensures { (v : Volume) (ps : List calls.Placed) → AllocsOf v (buckets_in taken.now) gens.now journal clock → Dirty ps (buckets_in taken.now) dirty.now → out.new ≡ with_bytes out.old (keys_bytes 4 (map (new_alloc_key v ps) (buckets_in taken.now))) }
+    requires allocs_known { AllocsKnown taken.now gens.now journal clock × DirtyKnown taken.now dirty.now }
+    ensures { (v : Volume) (ps : List calls.Placed) → AllocsOf v taken.now gens.now journal clock → Dirty ps taken.now dirty.now → out.new ≡ with_bytes out.old (keys_bytes 4 (map (new_alloc_key v ps) taken.now)) }
 {
     for (i, b) in taken.iter().enumerate() {
-        put_alloc(out, Bucket(*b), journal, gens[i], dirty[i], clock);
+        put_alloc(out, *b, journal, gens[i], dirty[i], clock);
     }
 }

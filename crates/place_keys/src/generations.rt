@@ -4,18 +4,18 @@ ghost use Rattle.calls.specs.Answers.{read_volume};
 ghost use Rattle.calls.specs.Lists.{all_of};
 ghost use Rattle.calls.specs.Generations.{gen_of};
 ghost use Rattle.gens.specs.Records.{RecordsFound};
-ghost use Rattle.wire.specs.Kinds.{bucket_in_range, buckets_in};
+ghost use Rattle.wire.specs.Kinds.{bucket_in_range};
 
 use gens::lookup;
 use wire::kinds::Bucket;
 
 // Fills in the generation of each bucket taken. `find_records` makes the table, and the limits show the buckets' bound.
-pub fn fill_gens(out: &mut [u8], s: &[u8], records: &[u32], taken: &[u64])
+pub fn fill_gens(out: &mut [u8], s: &[u8], records: &[u32], taken: &[Bucket])
     requires records_found { RecordsFound s.now (read_volume s.now).trees.gens records.now }
-    requires taken_in_bounds { (length taken.now ≤ length out.old) × (all_of bucket_in_range (buckets_in taken.now) ≡ true) }
-    ensures { take (length taken.now) out.new ≡ map (gen_of (read_volume s.now).trees.gens) (buckets_in taken.now) }
+    requires taken_in_bounds { (length taken.now ≤ length out.old) × (all_of bucket_in_range taken.now ≡ true) }
+    ensures { take (length taken.now) out.new ≡ map (gen_of (read_volume s.now).trees.gens) taken.now }
 {
     for (i, b) in taken.iter().enumerate() {
-        out[i] = lookup::bucket_gen(s, records, Bucket(*b));
+        out[i] = lookup::bucket_gen(s, records, *b);
     }
 }

@@ -5,7 +5,6 @@ ghost use Rattle.calls.specs.Extents as calls;
 ghost use Rattle.calls.specs.Lru.{part_filled, lru_keys, lru_wanted};
 ghost use Rattle.calls.specs.Place.{dirty_in};
 ghost use Rattle.change_fields.specs.FieldBytes.{keys_bytes};
-ghost use Rattle.wire.specs.Kinds.{buckets_in};
 ghost use Rattle.wire.specs.Output.{with_bytes};
 ghost use Rattle.place_keys.specs.Plan.{Dirty, DirtyKnown};
 
@@ -23,14 +22,14 @@ fn put_lru(out: &mut Output, b: Bucket, dirty: u32, sectors: u64) -> bool
 }
 
 // The LRU keys of the buckets taken, in order, by their dirty counts, and whether the LRU root is wanted. `put_keys` shows whose they are.
-pub fn put_lrus(out: &mut Output, taken: &[u64], dirty: &[u32], sectors: u64) -> bool
+pub fn put_lrus(out: &mut Output, taken: &[Bucket], dirty: &[u32], sectors: u64) -> bool
     requires taken_in_bounds { (length taken.now ≤ length dirty.now) × (0 < sectors) }
-    requires dirty_known { DirtyKnown (buckets_in taken.now) dirty.now }
-    ensures { (ps : List calls.Placed) → Dirty ps (buckets_in taken.now) dirty.now → (out.new ≡ with_bytes out.old (keys_bytes 10 (flat_map (λ b. lru_keys sectors b (dirty_in ps b)) (buckets_in taken.now)))) × (result ≡ lru_wanted sectors (map (dirty_in ps) (buckets_in taken.now))) }
+    requires dirty_known { DirtyKnown taken.now dirty.now }
+    ensures { (ps : List calls.Placed) → Dirty ps taken.now dirty.now → (out.new ≡ with_bytes out.old (keys_bytes 10 (flat_map (λ b. lru_keys sectors b (dirty_in ps b)) taken.now))) × (result ≡ lru_wanted sectors (map (dirty_in ps) taken.now)) }
 {
     let mut root_wanted = false;
     for (i, b) in taken.iter().enumerate() {
-        root_wanted |= put_lru(out, Bucket(*b), dirty[i], sectors);
+        root_wanted |= put_lru(out, *b, dirty[i], sectors);
     }
     root_wanted
 }

@@ -1,6 +1,5 @@
 // A plan, and its pieces at their places, one after the other.
 ghost use Rattle.std.specs.Prelude.{◌<◌, length};
-ghost use Rattle.wire.specs.Kinds.{buckets_in};
 ghost use Rattle.place_keys.specs.Plan as specs;
 ghost use Rattle.place_keys.specs.Plan.{Reached, PieceStepped};
 
@@ -18,10 +17,10 @@ pub struct Plan<'a> {
     pub list: &'a [u8],
     pub pieces: &'a [u32],
     pub slots: &'a [u32],
-    pub taken: &'a [u64],
+    pub taken: &'a [Bucket],
     pub gens: &'a [u8],
     pub head: Head,
-    pub ghost planned: { specs.Plan list.now pieces.now slots.now (buckets_in taken.now) gens.now head },
+    pub ghost planned: { specs.Plan list.now pieces.now slots.now taken.now gens.now head },
 }
 
 // The pieces of a plan that are left: the index of the next one, and where its extent starts in the file.
@@ -56,7 +55,7 @@ impl<'a> Plan<'a> {
     {
         let piece = piece::read_piece(self.list, self.pieces[i] as usize);
         let slot = self.slot(i);
-        let bucket = Bucket(self.taken[slot.index]);
+        let bucket = self.taken[slot.index];
         Placed {
             piece,
             first: kinds::sector_at(bucket, self.head.bucket_sectors as u64, slot.offset),

@@ -5,6 +5,7 @@ use mathlib.Core.List.{List}
 use Prim.Native.Nat.{ℕ}
 use lib.Dec.{leb}
 use lib.ListN.{take}
+use Rattle.wire.specs.declared.kinds.Bucket.{Bucket}
 use Rattle.calls.specs.Answers.{read_call, read_volume}
 use Rattle.calls.specs.Freespace as freespace
 use Rattle.calls.specs.Freespace.{is_in, is_used, runs_of, free_count, wanted, walk}
@@ -23,7 +24,7 @@ use Rattle.next_fit.specs.Fit.{slots_in}
 use Rattle.place_tests.proofs.RefusalLaws.{enough}
 
 -- a refusal before the walk
-pub chosen-stopped : {s before after numbers : List ℕ} (e : Refusal) → number_of e ≡ verdict (place_tests (read_call s)) → ChosenIs s before after numbers (Err e)
+pub chosen-stopped : {s : List ℕ} {before after : List Bucket} {numbers : List ℕ} (e : Refusal) → number_of e ≡ verdict (place_tests (read_call s)) → ChosenIs s before after numbers (Err e)
 chosen-stopped e v = record { refusal = v; took = tt; laid = tt }
 
 module _ (s : List ℕ) {n : ℕ} (e : n ≡ buckets_needed (slots_of (read_call s))) where
@@ -40,7 +41,7 @@ module _ (s : List ℕ) {n : ℕ} (e : n ≡ buckets_needed (slots_of (read_call
   unfolding walk_of
   walk_is = ap walked e
 
-  pub chosen-walk : {before after numbers : List ℕ} {r : Result Walked Refusal} → (walk_of (read_call s)).refusal ≡ verdict (place_tests (read_call s)) → slots_in numbers ≡ slots_of (read_call s)
+  pub chosen-walk : {before after : List Bucket} {numbers : List ℕ} {r : Result Walked Refusal} → (walk_of (read_call s)).refusal ≡ verdict (place_tests (read_call s)) → slots_in numbers ≡ slots_of (read_call s)
       → WalkIs n (λ w. take w.passed (read_volume s).trees.freespace) (walked n) unwalked before after r → ChosenIs s before after numbers r
   chosen-walk {before} {after} {numbers} {r} v l w =
       let f : WalkIs (buckets_needed (slots_of (read_call s))) (λ x. take x.passed (read_volume s).trees.freespace) (walk_of (read_call s)) unwalked before after r =

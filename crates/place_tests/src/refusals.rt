@@ -17,6 +17,7 @@ use freespace::{runs, take};
 use next_fit::needed;
 use reader::head::Head;
 use reader::refusal::Refusal;
+use wire::kinds::Bucket;
 
 // Refusals 4 to 9, of what is asked: the first of them, or none. The reader shows where the pieces stand.
 #[tactic(auto, unfolding(calls::specs::Pieces::block_of))]
@@ -64,7 +65,7 @@ pub fn choose_buckets(
     runs: &[u32],
     reserved: &[u32],
     pieces: &[u32],
-    taken: &mut [u64],
+    taken: &mut [Bucket],
     slots: &mut [u32],
 ) -> Result<Walked, Refusal>
     requires { Called s.now h alloc.now runs.now reserved.now pieces.now × (1024 ≤ length taken.old) × (1024 ≤ length slots.old) }

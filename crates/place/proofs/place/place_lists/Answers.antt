@@ -2,7 +2,6 @@ use Rattle.std.proofs.lemmas.Result.{err_from_is_err_and}
 use Rattle.reader.proofs.NumberLaws.{some-number}
 use Rattle.std.proofs.Common.{arith, ap, refl, sym, subst, ◌∙◌, List, map, take, length, length-take}
 use Rattle.std.proofs.lemmas.List.{length-take-le}
-use Rattle.wire.specs.Kinds.{buckets_in}
 use Rattle.wire.specs.declared.kinds.Bucket.{Bucket}
 use Rattle.calls.specs.Answers.{Answer, outcome, read_call, read_volume}
 use Rattle.calls.specs.Generations.{gen_of}
@@ -57,7 +56,7 @@ invariant_of-plan c =
     let q = chosen c.args.g.now.called c.in_ok-w.ensures in
     let g = c.args.g.now in
     let numbers = take (length g.pieces.now) c.choose_buckets.new.slots in
-    let buckets = buckets_in (take c.in_ok-w.w.count c.choose_buckets.new.taken) in
+    let buckets = take c.in_ok-w.w.count c.choose_buckets.new.taken in
     record { planned = subst (λ gs. Plan g.list.now g.pieces.now numbers buckets gs g.head) (sym c.fill_gens.ensures) q.plan }
 
 pub invariant_of-list : goal.invariant_of-list

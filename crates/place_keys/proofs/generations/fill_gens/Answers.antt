@@ -1,16 +1,16 @@
 use Rattle.std.proofs.Common.{arith, ap, ◌∙◌}
 use Rattle.calls.specs.Answers.{read_volume}
 use Rattle.calls.specs.Generations.{gen_of}
-use Rattle.wire.specs.Kinds.{bucket_in_range, buckets_in}
+use Rattle.wire.specs.Kinds.{bucket_in_range}
 use Rattle.place_keys.proofs.StepLaws.{bucket-at, low-at}
 use Rattle.place_keys.proofs.FillLaws.{filled_next, filled-end}
 use Rattle.place_keys.proofs.generations.fill_gens.Goals as goal
 
 pub bucket_gen-requires : goal.bucket_gen-requires
 bucket_gen-requires c =
-    let ns = c.args.taken.now in
+    let bs = c.args.taken.now in
     let i = c.loop-i.i in
-    (record { gens = _; are = c.requires.records_found }, ap bucket_in_range (bucket-at ns i) ∙ low-at (buckets_in ns) c.requires.taken_in_bounds.1 i)
+    (record { gens = _; are = c.requires.records_found }, ap bucket_in_range (bucket-at bs i) ∙ low-at bs c.requires.taken_in_bounds.1 i)
 
 pub loop-i-preserved : goal.loop-i-preserved
 loop-i-preserved c =

@@ -1,7 +1,6 @@
 -- The loop's invariant: what is left are the keys from index i on, and the root is wanted so far, or by one of their buckets.
 use Rattle.std.proofs.Common.{◌≡◌, List, map, drop, ◌||◌}
 use mathlib.Core.List.{flat_map}
-use Rattle.wire.specs.Kinds.{buckets_in}
 use Rattle.wire.specs.Output.{with_bytes}
 use Rattle.calls.specs.Extents as calls
 use Rattle.calls.specs.Lru.{lru_keys, lru_wanted}
@@ -12,7 +11,7 @@ use Rattle.place_keys.proofs.lru.put_lrus.Given as goal
 
 abbrev pub invariant-loop-i : goal.invariant-loop-i
 invariant-loop-i l =
-    (ps : List calls.Placed) → Dirty ps (buckets_in l.taken) l.dirty
-    → (with_bytes l.out (keys_bytes 10 (flat_map (λ b. lru_keys l.sectors b (dirty_in ps b)) (drop l.i (buckets_in l.taken))))
-    ≡ with_bytes l.fn.out (keys_bytes 10 (flat_map (λ b. lru_keys l.sectors b (dirty_in ps b)) (buckets_in l.taken))))
-    × ((l.root_wanted || lru_wanted l.sectors (map (dirty_in ps) (drop l.i (buckets_in l.taken)))) ≡ lru_wanted l.sectors (map (dirty_in ps) (buckets_in l.taken)))
+    (ps : List calls.Placed) → Dirty ps l.taken l.dirty
+    → (with_bytes l.out (keys_bytes 10 (flat_map (λ b. lru_keys l.sectors b (dirty_in ps b)) (drop l.i l.taken)))
+    ≡ with_bytes l.fn.out (keys_bytes 10 (flat_map (λ b. lru_keys l.sectors b (dirty_in ps b)) l.taken)))
+    × ((l.root_wanted || lru_wanted l.sectors (map (dirty_in ps) (drop l.i l.taken))) ≡ lru_wanted l.sectors (map (dirty_in ps) l.taken))

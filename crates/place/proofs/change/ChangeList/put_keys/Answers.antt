@@ -1,8 +1,6 @@
 use Rattle.std.proofs.Common.{arith, ap, sym, ◌∙◌}
-use Rattle.wire.specs.Kinds.{buckets_in}
 use Rattle.wire.specs.Output.{with_bytes}
 use Rattle.wire.proofs.AppendLaws.{with-with}
-use Rattle.wire.proofs.BucketTables.{table-length}
 use Rattle.calls.specs.Place.{placed_of}
 use Rattle.calls.specs.Answers.{read_call, read_volume}
 use Rattle.calls.specs.CallList as calls
@@ -14,7 +12,7 @@ use Rattle.place.proofs.change.ChangeList.put_keys.Goals as goal
 pub put_allocs-requires-clause-taken_in_bounds : goal.put_allocs-requires-clause-taken_in_bounds
 put_allocs-requires-clause-taken_in_bounds c =
     let l = c.args.self.now in
-    (omega (arith, gens-length l.plan.now.planned, table-length l.plan.now.taken.now), l.prepared.long)
+    (omega (arith, gens-length l.plan.now.planned), l.prepared.long)
 
 pub returns : goal.returns
 returns c =
@@ -22,7 +20,7 @@ returns c =
     let q = l.plan.now.planned in
     let s = l.plan.now.list.now in
     let ps = placed_of (read_call s) in
-    let allocs : AllocsOf (read_volume s) (buckets_in l.plan.now.taken.now) l.plan.now.gens.now l.plan.now.head.journal l.clock =
+    let allocs : AllocsOf (read_volume s) l.plan.now.taken.now l.plan.now.gens.now l.plan.now.head.journal l.clock =
     record { number = ap (λ (x : calls.Head). x.journal) (sym q.head); gens = q.gens; time = sym l.prepared.clock } in
     let lrus = c.put_lrus-root_wanted.ensures ps l.prepared.dirty in (
       rw (

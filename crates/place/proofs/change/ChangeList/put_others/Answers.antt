@@ -1,8 +1,6 @@
-use Rattle.std.proofs.Common.{arith, ap, sym, ◌∙◌, map, ◌≡◌}
-use Rattle.wire.specs.Kinds.{buckets_in}
+use Rattle.std.proofs.Common.{refl, ap, sym, ◌∙◌, map, ◌≡◌}
 use Rattle.wire.specs.Output.{with_bytes}
 use Rattle.wire.proofs.AppendLaws.{with-with}
-use Rattle.wire.proofs.BucketTables.{table-length}
 use Rattle.calls.specs.Place.{placed_of}
 use Rattle.calls.specs.Answers.{read_call}
 use Rattle.calls.proofs.place.PlaceLaws.{placed-pieces}
@@ -13,16 +11,16 @@ use Rattle.place.proofs.change.ChangeList.put_others.Goals as goal
 pub put_rows-requires-clause-taken_bound : goal.put_rows-requires-clause-taken_bound
 put_rows-requires-clause-taken_bound c =
     let q = c.args.self.now.plan.now.planned in
-    (omega (arith, q.short, table-length c.args.self.now.plan.now.taken.now), q.option)
+    (q.short, q.option)
 
 pub put_rows-requires-clause-known : goal.put_rows-requires-clause-known
 put_rows-requires-clause-known c =
     let l = c.args.self.now in
     let call = read_call l.plan.now.list.now in
     record {
-      buckets = buckets_in l.plan.now.taken.now;
+      buckets = l.plan.now.taken.now;
       placed = placed_of call;
-      count = table-length l.plan.now.taken.now;
+      count = refl;
       tallied = record { is = l.prepared.tallied.is ∙ ap tallies_of (sym (placed-pieces call)); small = l.prepared.tallied.small };
     }
 
@@ -35,7 +33,7 @@ returns c =
     rw (
       c.put_end.ensures,
       c.put_sectors.ensures,
-      c.put_rows.ensures (buckets_in taken) (placed_of call) (table-length taken) tallied,
+      c.put_rows.ensures taken (placed_of call) refl tallied,
       c.put_spots.ensures,
       c.put_taken.ensures,
       c.put_lru_root.ensures,

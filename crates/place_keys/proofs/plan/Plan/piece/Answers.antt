@@ -1,14 +1,14 @@
 use Rattle.std.proofs.Common.{arith, ap, ◌∙◌}
 use borrow.Author.Tests.{ltb-true}
-use Rattle.wire.specs.Kinds.{bucket_in_range, buckets_in}
+use Rattle.wire.specs.Kinds.{bucket_in_range}
 use Rattle.place_keys.proofs.StepLaws.{bucket-at, low-at, stepped}
 use Rattle.place_keys.proofs.plan.Plan.piece.Goals as goal
 
 pub sector_at-requires : goal.sector_at-requires
 sector_at-requires c =
-    let ns = c.args.self.now.taken.now in
+    let bs = c.args.self.now.taken.now in
     let i = c.slot-slot.result.index in
-    (ltb-true _ 65536 (ap bucket_in_range (bucket-at ns i) ∙ low-at (buckets_in ns) c.args.self.now.planned.low i), omega arith, c.slot-slot.ensures.in_bounds.2)
+    (ltb-true _ 65536 (ap bucket_in_range (bucket-at bs i) ∙ low-at bs c.args.self.now.planned.low i), omega arith, c.slot-slot.ensures.in_bounds.2)
 
 pub returns : goal.returns
 returns c =

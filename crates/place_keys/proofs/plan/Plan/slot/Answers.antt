@@ -1,5 +1,4 @@
 use Rattle.std.proofs.Common.{arith}
-use Rattle.wire.proofs.BucketTables.{table-length}
 use Rattle.place_keys.proofs.StepLaws.{gens-length, numbers-length, index-low, offset-low}
 use Rattle.place_keys.proofs.plan.Plan.slot.Goals as goal
 
@@ -10,8 +9,7 @@ pub returns : goal.returns
 returns c =
     let p = c.args.self.now.planned in
     let low = index-low p c.args.i c.requires c.slot_at.result c.slot_at.ensures in
-    let many = table-length c.args.self.now.taken.now in
     record {
       is = c.slot_at.ensures;
-      in_bounds = (omega (arith, low, many), omega (arith, low, gens-length p), offset-low p c.args.i c.requires c.slot_at.result c.slot_at.ensures);
+      in_bounds = (low, omega (arith, low, gens-length p), offset-low p c.args.i c.requires c.slot_at.result c.slot_at.ensures);
     }
