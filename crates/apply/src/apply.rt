@@ -15,5 +15,11 @@ pub fn apply(volume: &[u8], change: &[u8], out: &mut [u8]) -> Result<usize, Refu
     if !change::check_change(change) {
         return Err(Refusal::Layout);
     }
-    call::with_list(volume, None, &mut [], out, |read, _, out| lists::apply_lists(read, change, out))
+    call::with_list(
+        volume,
+        None,
+        &mut [],
+        out,
+        |read, _, out| lists::apply_lists(read, change, out),
+    )
 }

@@ -24,5 +24,11 @@ fn discard_read(read: &ReadList, out: &mut [u8]) -> Result<usize, Refusal>
 pub fn discard(list: &[u8], out: &mut [u8]) -> Result<usize, Refusal>
     ensures { made_by result out.new ≡ outcome (discard list.now (length out.old)) out.old }
 {
-    call::with_list(list, Some(3), &mut [], out, |read, _, out| discard_read(read, out))
+    call::with_list(
+        list,
+        Some(3),
+        &mut [],
+        out,
+        |read, _, out| discard_read(read, out),
+    )
 }

@@ -69,7 +69,11 @@ fn read_table(s: &[u8], asked: Option<u8>, index: &mut [u32]) -> Result<(Head, E
 }
 
 // The same, with the table cut into its parts.
-fn read_list<'a>(s: &'a [u8], asked: Option<u8>, index: &'a mut [u32]) -> Result<ReadList<'a>, Refusal>
+fn read_list<'a>(
+    s: &'a [u8],
+    asked: Option<u8>,
+    index: &'a mut [u32],
+) -> Result<ReadList<'a>, Refusal>
     requires { Fits s.now index.old }
     ensures { ReadAnswered asked s.now result }
 {
