@@ -1,12 +1,12 @@
 -- The answer to a discard: the offsets that the reader gives find the keys of the definition, and its tests in their order.
 use Prim.Native.Nat.{ℕ, zero, suc, ◌≤◌, ◌<◌}
 use mathlib.Core.Path.{◌≡◌, refl, sym, ap, ◌∙◌}
-use mathlib.Core.Bool.{Bool, true, false, not, ◌||◌}
+use mathlib.Core.Bool.{Bool, true, not, ◌||◌}
 use Rattle.std.proofs.Common.{Some}
 use mathlib.Core.List.{List, [], ◌∷◌, map, map-map}
 use native.Mathlib.Omega.{arith}
 use lib.Dec.{eqb}
-use lib.ListN.{length, take, drop, length-map}
+use lib.ListN.{length, drop, length-map}
 use borrow.Author.Tests.{eq-eqb, ne_eqb, leb-true}
 use Rattle.wire.specs.Bytes.{All, none, more}
 use Rattle.wire.specs.Keys.{Key}

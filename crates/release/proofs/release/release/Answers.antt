@@ -1,8 +1,8 @@
 -- `release::release` meets its contract.
-use Rattle.std.proofs.Common.{◌≡◌, ◌≤◌, ◌∙◌, ap, sym, subst, arith, length, rules, Some, List, ℕ}
+use Rattle.std.proofs.Common.{◌≡◌, ◌≤◌, ◌∙◌, ap, sym, arith, length, rules, Some, List, ℕ}
 use Rattle.calls.specs.Answers.{Answer, release, outcome, scratch_after}
 use Rattle.reader.specs.Refusals.{made_by}
-use Rattle.reader.specs.Readings.{ReadAs, refusal_of}
+use Rattle.reader.specs.Readings.{refusal_of}
 use Rattle.reader.proofs.LendingLaws.{refused-or-read, moved, list-answered}
 use Rattle.release_sums.specs.Summing.{Cleared}
 use Rattle.release.proofs.ReadLaws.{release-refused, cleared, cleared-length, cleared-after, scratch-long}
