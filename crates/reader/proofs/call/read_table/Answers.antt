@@ -1,7 +1,7 @@
 use Rattle.std.proofs.Common.{sym, ◌∙◌, rules}
 use Rattle.reader.proofs.ListRefusalLaws.{broken}
 use Rattle.reader.proofs.ReadLaws.{past-asked, read_past, table_fits, table-sortable, read-ordered, read_twice, read-sorted}
-use Rattle.reader.proofs.call.read_list.Goals as goal
+use Rattle.reader.proofs.call.read_table.Goals as goal
 
 pub returns-in_default : goal.returns-in_default
 returns-in_default c = broken _ _ _ (c.survey.ensures.broken c.in_default.is)
