@@ -1,42 +1,15 @@
-use Rattle.std.proofs.Common.{sym, ◌∙◌, rules}
-use Rattle.reader.proofs.ListRefusalLaws.{broken}
-use Rattle.reader.proofs.ReadLaws.{past-asked, read_past, table_fits, table-sortable, read-ordered, read_twice, read-sorted}
+use Rattle.std.proofs.lemmas.Result.{err_from_is_err_and}
+use Rattle.reader.proofs.PlacedLaws.{in_turn}
+use Rattle.reader.proofs.ReadLaws.{table-refused, table-cut}
 use Rattle.reader.proofs.call.read_list.Goals as goal
 
-pub returns-in_default : goal.returns-in_default
-returns-in_default c = broken _ _ _ (c.survey.ensures.broken c.in_default.is)
+pub returns-in_err-first : goal.returns-in_err-first
+returns-in_err-first c =
+    let p = err_from_is_err_and c.from_residual.result c.from_residual.ensures.1 in
+    rw (p.1, p.2) (table-refused c.args.asked c.args.s.now _ c.in_err-first.ensures)
 
-pub read_head-first-requires : goal.read_head-first-requires
-read_head-first-requires c = (c.survey.ensures.found _ c.in-Some.is).inside
-
-pub past_refusal-requires : goal.past_refusal-requires
-past_refusal-requires c = past-asked (c.survey.ensures.found _ c.in-Some.is) _ c.read_head-first.ensures
-
-pub returns-then-past_limit : goal.returns-then-past_limit
-returns-then-past_limit c =
-    read_past (c.survey.ensures.found _ c.in-Some.is) _ c.read_head-first.ensures _ (sym c.past_limit.ensures ∙ c.if-past_limit.true) c.past_refusal.ensures
-
-pub ends_of-ends-requires : goal.ends_of-ends-requires
-ends_of-ends-requires c =
-    table_fits (c.survey.ensures.found _ c.in-Some.is) _ c.read_head-first.ensures (sym c.past_limit.ensures ∙ c.if-past_limit.false)
-
-pub returns-then-ordered : goal.returns-then-ordered
-returns-then-ordered c =
-    read-ordered (c.survey.ensures.found _ c.in-Some.is) _ c.read_head-first.ensures (sym c.past_limit.ensures ∙ c.if-past_limit.false) _
-    c.ends_of-ends.ensures c.if-ordered.true
-
-pub sort_table-requires : goal.sort_table-requires
-sort_table-requires c =
-    rw c.unwrap_or.ensures
-    (table-sortable (c.survey.ensures.found _ c.in-Some.is) _ c.read_head-first.ensures (sym c.past_limit.ensures ∙ c.if-past_limit.false) _
-    c.ends_of-ends.ensures)
-
-pub returns-then-sort_table : goal.returns-then-sort_table
-returns-then-sort_table c =
-    read_twice (c.survey.ensures.found _ c.in-Some.is) _ c.read_head-first.ensures (sym c.past_limit.ensures ∙ c.if-past_limit.false)
-    _ c.if-sort_table.true (rw c.unwrap_or.ensures at c.sort_table.ensures)
+pub cut-requires : goal.cut-requires
+cut-requires c = in_turn c.in_ok-first.ensures.1
 
 pub returns : goal.returns
-returns c =
-    read-sorted (c.survey.ensures.found _ c.in-Some.is) _ c.read_head-first.ensures (sym c.past_limit.ensures ∙ c.if-past_limit.false) _
-    c.ends_of-ends.ensures (search rules) _ c.if-sort_table.false (rw c.unwrap_or.ensures at c.sort_table.ensures)
+returns c = table-cut c.args.asked c.in_ok-first.ensures.0 c.cut.ensures.same (c.cut.ensures.read _ c.in_ok-first.ensures.1)
