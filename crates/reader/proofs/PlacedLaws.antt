@@ -98,7 +98,7 @@ module _ {call : ℕ} {s index : List ℕ} {h : Head} {e : Ends} (q : TableRead 
         between-on e.need_discard e.backpointers e.requests index t.backpointers (omega arith),
         between-on e.freespace e.need_discard e.requests index t.need_discard (omega arith),
         between-on e.lru e.freespace e.requests index t.freespace (omega arith),
-        between-on e.alloc e.lru e.requests index t.lru (omega arith)
+        between-on e.alloc e.lru e.requests index t.lru (omega arith),
       ) (sym (rw (z, n) at (between-on 0 e.alloc e.requests index (omega arith) (omega arith))))
 
   pub cut-read :
