@@ -286,7 +286,7 @@ module _
   here-within q h = within-cut s b n t (listed-least l) ∙ sym h
 
   -- an entry for it, where it is noted
-  entry_free : (o : Bool) → o ≡ false → Limits s call at h table.n table.counts table.index.now o → Free table.counts (rank_of t) table.n table.index.now
+  entry_free : (o : Bool) → o ≡ false → Limits s call at h table.n table.counts table.index.now o → Free table (rank_of t)
   entry_free true z w = apart z
   entry_free false z w =
       λ k.
@@ -295,7 +295,7 @@ module _
       (λ l. omega (arith, g.many, f.on, f.within))
       g.fits
 
-  pub next-free : over ≡ false → Free table.counts (rank_of t) table.n table.index.now
+  pub next-free : over ≡ false → Free table (rank_of t)
   next-free z = entry_free over z g.limits
 
   limits-next :

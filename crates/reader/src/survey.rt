@@ -48,13 +48,13 @@ fn head_first(s: &[u8], asked: Option<u8>) -> Option<usize>
 
 // Whether a limit is passed, now or before: else the field's place is noted. The length that its tag asks shows the bound.
 fn passes(s: &[u8], over: bool, field: FieldPlace, table: &mut PlaceTable) -> bool
-    requires { (field.start + least_of field.tag ≤ length s.now) × (over ≡ false → Free table.old.counts (rank_of field.tag) table.old.n table.old.index.now) }
+    requires { (field.start + least_of field.tag ≤ length s.now) × (over ≡ false → Free table.old (rank_of field.tag)) }
     ensures { FieldNoted s.now over field.tag field.start table.old table.new result }
 {
     over || !limits::field_within(s, field) || !table.note(table::rank_of(field.tag), field.start)
 }
 
-// The pass over a list in any order, of the call that is asked for, or of whatever call its head names: field 1 may stand anywhere, and no order is told; none where the list breaks the layout. The table that is lent shows the bound, here and below. A field that passes the end breaks the layout, here and below.
+// The pass over a list in any order, of the call that is asked for, or of whatever call its head names: field 1 may stand anywhere, and no order is told; none where the list breaks the layout. The table that is lent shows the bound, and a field that passes the end breaks the layout, here and below.
 fn survey_any(s: &[u8], asked: Option<u8>, index: &mut [u32]) -> Option<Laid>
     requires { Fits s.now index.old }
     ensures { Surveyed (unwrap_or asked 0) (is_none asked) s.now index.new result }
@@ -84,7 +84,7 @@ fn survey_any(s: &[u8], asked: Option<u8>, index: &mut [u32]) -> Option<Laid>
     })
 }
 
-// The pass over a list that begins with field 1 and whose other fields are in order; none of any other list.
+// The pass over a list that begins with field 1 and whose other fields are in order; none of any other list. Field 1 is the one before the first of them.
 fn survey_ordered(s: &[u8], asked: Option<u8>, index: &mut [u32]) -> Option<Laid>
     requires { Fits s.now index.old }
     ensures { OrderSurveyed (unwrap_or asked 0) (is_none asked) s.now index.new result }
