@@ -13,7 +13,6 @@ ghost use Rattle.reader.specs.Readings.{list_refusal, TableAnswered, refusal_of,
 use crate::head::Head;
 use crate::read_list::ReadList;
 use crate::refusal::Refusal;
-use crate::survey::Laid;
 use crate::table::Ends;
 use crate::{arrange, head, read_list, survey, table};
 
@@ -43,23 +42,15 @@ fn read_table(s: &[u8], asked: Option<u8>, index: &mut [u32]) -> Result<(Head, E
     requires { Fits s.now index.old }
     ensures { TableAnswered (list_refusal (unwrap_or asked 0) (is_none asked) s.now) (unwrap_or asked 0) s.now index.new result }
 {
-    let mut counts = [0usize; 8];
-    let Some(
-        Laid {
-            head,
-            over,
-            ordered,
-        },
-    ) = survey::survey(s, asked, &mut counts, index)
-    else {
+    let Some(laid) = survey::survey(s, asked, index) else {
         return Err(Refusal::Layout);
     };
-    let first = head::read_head(s, head);
-    if past_limit(over, first) {
-        return Err(past_refusal(s, ordered));
+    let first = head::read_head(s, laid.head);
+    if past_limit(laid.over, first) {
+        return Err(past_refusal(s, laid.ordered));
     }
-    let ends = table::ends_of(counts);
-    if ordered {
+    let ends = table::ends_of(laid.counts);
+    if laid.ordered {
         return Ok((first, ends));
     }
     if arrange::sort_table(s, asked.unwrap_or(0), ends, index) {
