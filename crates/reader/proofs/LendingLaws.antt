@@ -1,14 +1,14 @@
 -- What a call answers, by the refusal of the reader or by what is answered to the list that it read.
 use Prim.Native.Nat.{ℕ, zero, suc, ◌<◌}
 use native.Mathlib.Omega.{arith}
-use mathlib.Core.Path.{◌≡◌, refl, sym, ◌∙◌, ap}
+use mathlib.Core.Path.{◌≡◌, refl, ◌∙◌, ap}
 use mathlib.Core.List.{List, []}
 use lib.ListN.{length}
 use Rattle.std.proofs.Common.{Option, Result, Ok, Err}
 use Rattle.calls.specs.Answers.{Answer, made, outcome}
 use Rattle.calls.proofs.answers.OutcomeLaws.{refused}
 use Rattle.reader.specs.Readings.{refusal_of}
-use Rattle.reader.specs.Refusals.{number_of, number_in, made_by}
+use Rattle.reader.specs.Refusals.{number_in, made_by}
 use Rattle.reader.specs.declared.refusal.Refusal.{Refusal}
 
 -- the reader refuses a list, or it is read

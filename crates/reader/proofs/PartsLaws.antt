@@ -1,22 +1,18 @@
 -- What a list that was read shows: that it meets none of 2, 22 and 3, and where its keys, its reserved buckets and its requests stand.
-use Prim.Native.Nat.{ℕ, ◌+◌, ◌-◌, ◌≤◌, ◌<◌}
+use Prim.Native.Nat.{ℕ, ◌≤◌, ◌<◌}
 use native.Mathlib.Omega.{arith}
 use mathlib.Core.Path.{◌≡◌, refl, sym, ap, ◌∙◌}
 use mathlib.Core.Bool.{Bool, true, false}
 use Rattle.std.proofs.Common.{Option, Some, None}
 use mathlib.Core.List.{List, [], ◌∷◌, map}
-use lib.ListN.{length, take, length-map}
-use lib.Dec.{leb}
-use borrow.Author.Tests.{leb-true}
+use lib.ListN.{length}
 use Rattle.wire.specs.Fields.{fields}
 use Rattle.wire.specs.Keys.{key_of}
-use Rattle.wire.specs.Kinds.{bucket_read}
-use Rattle.calls.specs.CallList.{CallList, bodies, key_below, keys_of, sorted_trees, reserved_of, call_list_of, call_laid_out, volume_laid_out, none_twice, piece_of, freed_of}
+use Rattle.calls.specs.CallList.{bodies, key_below, keys_of, sorted_trees, reserved_of, call_list_of, call_laid_out, volume_laid_out, none_twice}
 use Rattle.calls.specs.Sorting.{sorted_by}
-use Rattle.calls.specs.Limits.{few_keys, counts_ok, buckets_ok, volume_within, list_within}
+use Rattle.calls.specs.Limits.{volume_within, list_within}
 use Rattle.calls.specs.Refusals.{test, verdict}
 use Rattle.calls.specs.Answers.{Answer, answer, read_call, read_volume}
-use Rattle.calls.proofs.lists.BoolLaws.{parts}
 use Rattle.calls.proofs.encoding.KeyFitsLaws.{list-within}
 use Rattle.calls.proofs.answers.RefusalLaws.{verdict-ok, test-ok}
 use Rattle.calls.proofs.answers.OutcomeLaws.{answer-next, answer-stops}
