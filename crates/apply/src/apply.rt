@@ -4,7 +4,6 @@ ghost use Rattle.calls.specs.Answers.{apply, outcome};
 ghost use Rattle.reader.specs.Refusals.{made_by};
 
 use crate::lists;
-use reader::read_list::ReadList;
 use reader::refusal::Refusal;
 use reader::{call, change};
 
@@ -16,5 +15,11 @@ pub fn apply(volume: &[u8], change: &[u8], out: &mut [u8]) -> Result<usize, Refu
     if !change::check_change(change) {
         return Err(Refusal::Layout);
     }
-    call::with_list(volume, None, &mut [0u32; 0], out, |read: &ReadList, _scratch: &mut [u32], out: &mut [u8]| lists::apply_lists(read, change, out))
+    call::with_list(
+        volume,
+        None,
+        &mut [],
+        out,
+        |read, _, out| lists::apply_lists(read, change, out),
+    )
 }

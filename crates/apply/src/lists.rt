@@ -88,7 +88,14 @@ impl<'a> NextVolume<'a> {
         let section = entries::section_at(i);
         let keys = self.keys(i);
         match self.queued(i) {
-            Some(queue) => merging::put_section(out, self.read.list, keys, self.list, section, queue),
+            Some(queue) => merging::put_section(
+                out,
+                self.read.list,
+                keys,
+                self.list,
+                section,
+                queue,
+            ),
             None => merging::put_section_in_chunks(out, self.read.list, keys, self.list, section),
         }
     }

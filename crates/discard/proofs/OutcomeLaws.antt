@@ -1,11 +1,12 @@
 -- The answer to a discard: the offsets that the reader gives find the keys of the definition, and its tests in their order.
 use Prim.Native.Nat.{ℕ, zero, suc, ◌≤◌, ◌<◌}
 use mathlib.Core.Path.{◌≡◌, refl, sym, ap, ◌∙◌}
-use mathlib.Core.Bool.{Bool, true, false, not, ◌||◌}
+use mathlib.Core.Bool.{Bool, true, not, ◌||◌}
+use Rattle.std.proofs.Common.{Some}
 use mathlib.Core.List.{List, [], ◌∷◌, map, map-map}
 use native.Mathlib.Omega.{arith}
 use lib.Dec.{eqb}
-use lib.ListN.{length, take, drop, length-map}
+use lib.ListN.{length, drop, length-map}
 use borrow.Author.Tests.{eq-eqb, ne_eqb, leb-true}
 use Rattle.wire.specs.Bytes.{All, none, more}
 use Rattle.wire.specs.Keys.{Key}
@@ -25,7 +26,7 @@ use Rattle.calls.proofs.encoding.KeyFitsLaws.{list-within}
 use Rattle.calls.proofs.lists.MapLaws.{map-take, map-drop}
 use Rattle.calls.proofs.lists.ThoseLaws.{those-map}
 use Rattle.reader.specs.Located.{KeyAt, KeysAt}
-use Rattle.reader.specs.Readings.{call_refusal}
+use Rattle.reader.specs.Readings.{call_refusal, ReadAs}
 use Rattle.reader.specs.declared.read_list.ReadList.{ReadList}
 use Rattle.reader.proofs.KeyHereLaws.{keys-tail, keys-here}
 use Rattle.reader.proofs.PartsLaws.{passed, read-on, read-refused, located}
@@ -70,11 +71,9 @@ pub record Found (s alloc needs : List ℕ) : Type 0 where
 pub ready-found : {r : ReadList} → DiscardGiven r → Found r.list.now r.alloc.now r.need_discard.now
 unfolding volume_within counts_ok few_keys buckets_ok
 ready-found {r} q =
-    let s = r.list.now in
-    let v = read_volume s in
+    let v = read_volume r.list.now in
     let t = v.trees in
-    let at = located q.read in
-    let a = parts (counts_ok t) _ (list-within (read_call s) (passed 3 s q.read.passed).within).0 in
+    let a = parts (counts_ok t) _ q.within in
     let b = parts (buckets_ok t) _ a.1 in
     let c = parts (all_of (λ k. not (at_inode0 k) || bucket_in_range (bucket_in k.pos)) t.alloc) _ b.0 in
     let d = parts (all_of (λ k. not (is_set k) || bucket_in_range (bucket_in k.pos)) t.need_discard) _ c.1 in
@@ -83,10 +82,10 @@ ready-found {r} q =
     let g = parts (few_keys t.freespace) _ f.1 in
     let h = parts (few_keys t.need_discard) _ g.1 in
     record {
-      allocs = alloc-kept at.alloc c.0;
-      waits = needs-kept at.need_discard d.0;
-      few_allocs = omega (arith, at.alloc.count, leb-true (length t.alloc) 4096 e.0);
-      few_waits = omega (arith, at.need_discard.count, leb-true (length t.need_discard) 4096 h.0);
+      allocs = alloc-kept q.alloc_at c.0;
+      waits = needs-kept q.needs_at d.0;
+      few_allocs = omega (arith, q.alloc_at.count, leb-true (length t.alloc) 4096 e.0);
+      few_waits = omega (arith, q.needs_at.count, leb-true (length t.need_discard) 4096 h.0);
     }
 
 -- the batches of the offsets are those of the definition
@@ -128,9 +127,8 @@ pub changes-are : {r : ReadList} → DiscardGiven r
 unfolding discard_batches
 changes-are {r} q =
     let v = read_volume r.list.now in
-    let at = located q.read in
-    let b : r.head.batch ≡ v.head.batch = ap (λ h. h.batch) q.read.read.head in
-    ap change_bytes (rw b (sym (batches-are v.trees r.list.now r.need_discard.now (keys-here at.need_discard) r.alloc.now v.head.batch (keys-here at.alloc))))
+    let b : r.head.batch ≡ v.head.batch = ap (λ h. h.batch) q.headed in
+    ap change_bytes (rw b (sym (batches-are v.trees r.list.now r.need_discard.now (keys-here q.needs_at) r.alloc.now v.head.batch (keys-here q.alloc_at))))
 
 -- the answer of the definition: the tests of the reader, then 20, then 21
 module _ (s : List ℕ) (room : ℕ) where
@@ -152,3 +150,15 @@ module _ (s : List ℕ) (room : ℕ) where
 
     pub discard-after : ((read_volume s).head.batch ≡ 0 → ⊥) → discard s room ≡ answer [] bytes room
     discard-after b = read_past ∙ answer-next batch20 [] bytes room (rw (ne_eqb (read_volume s).head.batch 0 b))
+
+-- a list that was read, with a batch that is not 0
+pub read-ready : {r : ReadList} → ReadAs (Some 3) r → (r.head.batch ≡ 0 → ⊥) → DiscardGiven r
+read-ready {r} q b =
+    let s = r.list.now in
+    record {
+      headed = q.read.head;
+      alloc_at = (located q).alloc;
+      needs_at = (located q).need_discard;
+      within = (list-within (read_call s) (passed 3 s q.passed).within).0;
+      batched = b;
+    }

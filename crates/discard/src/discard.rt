@@ -24,5 +24,11 @@ fn discard_read(read: &ReadList, out: &mut [u8]) -> Result<usize, Refusal>
 pub fn discard(list: &[u8], out: &mut [u8]) -> Result<usize, Refusal>
     ensures { made_by result out.new ≡ outcome (discard list.now (length out.old)) out.old }
 {
-    call::with_list(list, Some(3), &mut [0u32; 0], out, |read: &ReadList, _scratch: &mut [u32], out: &mut [u8]| discard_read(read, out))
+    call::with_list(
+        list,
+        Some(3),
+        &mut [],
+        out,
+        |read, _, out| discard_read(read, out),
+    )
 }

@@ -33,5 +33,11 @@ pub fn generations(volume: &[u8], buckets: &[u32], out: &mut [u8]) -> Result<usi
     if !asked::ascend(buckets) {
         return Err(Refusal::Layout);
     }
-    call::with_list(volume, None, &mut [0u32; 0], out, |read: &ReadList, _scratch: &mut [u32], out: &mut [u8]| look_up(read, buckets, out))
+    call::with_list(
+        volume,
+        None,
+        &mut [],
+        out,
+        |read, _, out| look_up(read, buckets, out),
+    )
 }

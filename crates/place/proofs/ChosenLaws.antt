@@ -93,7 +93,7 @@ module _
   abbrev ks : List Key
   ks = (read_volume s).trees.freespace
 
-  passed : TestsPassed c h
+  passed : TestsPassed c l.head
   passed = accepted c l.head q.head (sym o.refusal)
 
   taken-many : length (walk_of c).taken ≡ buckets_needed (slots_of c)

@@ -4,7 +4,7 @@ use mathlib.Core.Path.{◌≡◌, refl, ap, sym, ◌∙◌}
 use mathlib.Core.List.{List, [], ◌∷◌}
 use Prim.Native.Nat.{ℕ, ◌<◌}
 use Rattle.wire.specs.Kinds.{base_in_range}
-use Rattle.calls.specs.Answers.{Answer, answer, made, outcome, place, read_call, read_volume}
+use Rattle.calls.specs.Answers.{Answer, answer, made, outcome, place, read_call}
 use Rattle.calls.specs.CallList as calls
 use Rattle.calls.specs.ChangeList.{change_bytes}
 use Rattle.calls.specs.Place.{place_tests}

@@ -67,5 +67,11 @@ fn place_read(read: &ReadList, out: &mut [u8]) -> Result<usize, Refusal>
 pub fn place(list: &[u8], out: &mut [u8]) -> Result<usize, Refusal>
     ensures { made_by result out.new ≡ outcome (answers.place list.now (length out.old)) out.old }
 {
-    call::with_list(list, Some(1), &mut [0u32; 0], out, |read: &ReadList, _scratch: &mut [u32], out: &mut [u8]| place_read(read, out))
+    call::with_list(
+        list,
+        Some(1),
+        &mut [],
+        out,
+        |read, _, out| place_read(read, out),
+    )
 }

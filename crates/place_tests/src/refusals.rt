@@ -79,5 +79,12 @@ pub fn choose_buckets(
         return Err(Refusal::TooFewFree);
     }
     // 12 and 13: the walk meets a run begun before bucket 0, or a used bucket
-    take::walk_runs(read.list, read.alloc, read.freespace, read.reserved, n, taken)
+    take::walk_runs(
+        read.list,
+        read.alloc,
+        read.freespace,
+        read.reserved,
+        n,
+        taken,
+    )
 }

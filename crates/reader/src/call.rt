@@ -1,5 +1,5 @@
 // Call lists and volumes: refusals 2, 22 and 3. A list in order is judged in one pass; any other has its table sorted.
-ghost use Rattle.std.specs.Prelude.{◌≡◌, ◌<◌, ◌<◌, ◌||◌, not, cond, unwrap_or, is_none};
+ghost use Rattle.std.specs.Prelude.{◌≡◌, ◌<◌, ◌||◌, not, cond, unwrap_or, is_none};
 ghost use Rattle.calls.specs.CallList.{none_twice};
 ghost use Rattle.calls.specs.Answers.{read_volume};
 ghost use Rattle.reader.specs.CallFields.{head_within};
@@ -60,7 +60,7 @@ fn read_table(s: &[u8], asked: Option<u8>, index: &mut [u32]) -> Result<(Head, E
 }
 
 // The same, with the table cut into its parts.
-fn read_list<'a>(
+fn read_parts<'a>(
     s: &'a [u8],
     asked: Option<u8>,
     index: &'a mut [u32],
@@ -86,7 +86,7 @@ fn answer_by<F: FnOnce(&ReadList, &mut [u32], &mut [u8]) -> Result<usize, Refusa
     ensures refused { 0 < refusal_of asked list.now → (number_in result ≡ refusal_of asked list.now) × (scratch.new ≡ scratch.old) × (out.new ≡ out.old) }
     ensures answered { 0 ≡ refusal_of asked list.now → AnswersRead F.FnOnce answer asked list.now scratch.old out.old result scratch.new out.new }
 {
-    let read = read_list(list, asked, index)?;
+    let read = read_parts(list, asked, index)?;
     answer(&read, scratch, out)
 }
 

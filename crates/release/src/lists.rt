@@ -44,7 +44,11 @@ fn release_tables(
 }
 
 // The answer where the freed buckets are listed. The layout shows that alloc keys ascend, here and below.
-fn release_buckets(read: &ReadList, rows: &mut [FreedBucket], out: &mut [u8]) -> Result<usize, Refusal>
+fn release_buckets(
+    read: &ReadList,
+    rows: &mut [FreedBucket],
+    out: &mut [u8],
+) -> Result<usize, Refusal>
     requires keyed { Keyed read.now.list.now read.now.alloc.now × (keys_ok (keys_here read.now.list.now read.now.alloc.now) ≡ true) × Keyed read.now.list.now read.now.gens.now }
     requires summed { Summed read.now rows.old }
     ensures { made_by result out.new ≡ outcome (answer (bucket_tests (volume_in read.now) (requests_in read.now)) (change_of read.now) (length out.old)) out.old }

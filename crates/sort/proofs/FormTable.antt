@@ -1,5 +1,5 @@
 -- A list that was read has the places of the fields of its sorted form behind field 1, in their order.
-use mathlib.Core.List.{List, ◌++◌, append-nil}
+use mathlib.Core.List.{append-nil}
 use Prim.Native.Nat.{ℕ}
 use Rattle.wire.specs.Fields.{fields}
 use Rattle.calls.proofs.encoding.Blocks.{flat}

@@ -27,5 +27,11 @@ pub fn sort(list: &[u8], out: &mut [u8]) -> Result<usize, Refusal>
     ensures { made_by result out.new ≡ outcome (sort list.now (length out.old)) out.old }
 {
     let own = head::call_byte(list);
-    call::with_list(list, Some(own), &mut [0u32; 0], out, |read: &ReadList, _scratch: &mut [u32], out: &mut [u8]| write_form(read, out))
+    call::with_list(
+        list,
+        Some(own),
+        &mut [],
+        out,
+        |read, _, out| write_form(read, out),
+    )
 }

@@ -1,5 +1,5 @@
 -- A layout that is broken, the volume's own refusal, or the lists as the writing asks them.
-use Rattle.std.proofs.Common.{None, length, refl, sym, ◌∙◌, rules, List, ℕ}
+use Rattle.std.proofs.Common.{None, sym, ◌∙◌, rules, List, ℕ}
 use Rattle.calls.specs.Answers.{Answer, apply}
 use Rattle.reader.proofs.LendingLaws.{moved, list-answered}
 use Rattle.apply.specs.NextVolume.{Ready}

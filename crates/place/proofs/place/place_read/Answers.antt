@@ -23,6 +23,18 @@ returns-in_err-w c =
     (place-on c.args.read.now.list.now (length c.args.out.now) c.args.out.now c.requires.passed
     (refused _ _ (answer-refused (place_tests (read_call c.args.read.now.list.now)) _ _ c.in_err-w.ensures.refusal (omega (arith, some))) refl))
 
+pub choose_buckets-requires : goal.choose_buckets-requires
+choose_buckets-requires c = (called c.requires, omega arith, omega arith)
+
+pub slice_bounds-slots-end : goal.slice_bounds-slots-end
+slice_bounds-slots-end c = omega (arith, (called c.requires).few, c.choose_buckets.auto.slots)
+
+pub slice_bounds-slots-end-2 : goal.slice_bounds-slots-end-2
+slice_bounds-slots-end-2 c = sym (length-take-le _ _ (omega (arith, (called c.requires).few, c.choose_buckets.auto.slots)))
+
+pub write_clock-requires : goal.write_clock-requires
+write_clock-requires c = (called c.requires).alloc
+
 pub slice_bounds-taken-end : goal.slice_bounds-taken-end
 slice_bounds-taken-end c =
     let q = chosen (called c.requires) c.in_ok-w.ensures in

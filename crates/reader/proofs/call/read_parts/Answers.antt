@@ -1,7 +1,7 @@
 use Rattle.std.proofs.lemmas.Result.{err_from_is_err_and}
 use Rattle.reader.proofs.PlacedLaws.{in_turn}
 use Rattle.reader.proofs.ReadLaws.{table-refused, table-cut}
-use Rattle.reader.proofs.call.read_list.Goals as goal
+use Rattle.reader.proofs.call.read_parts.Goals as goal
 
 pub returns-in_err-first : goal.returns-in_err-first
 returns-in_err-first c =
