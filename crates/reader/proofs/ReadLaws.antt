@@ -18,6 +18,7 @@ use Rattle.reader.specs.Readings.{list_refusal, TableRead, Read, refusal_of, Rea
 use Rattle.reader.specs.Arranged.{Sortable, Arranged, PastAsked}
 use Rattle.reader.specs.Surveyed.{Counted, LaidFound}
 use Rattle.reader.specs.declared.head.Head.{Head}
+use Rattle.reader.specs.declared.survey.Laid.{Laid}
 use Rattle.reader.specs.declared.table.Ends.{Ends}
 use Rattle.reader.specs.declared.read_list.ReadList.{ReadList}
 use Rattle.reader.proofs.LimitLaws.{within-parts}
@@ -53,19 +54,19 @@ both_false false false h = absurd (clash refl h)
 both_false true b h = absurd (clash refl h)
 
 module _
-    {call : ℕ} {any : Bool} {s counts index : List ℕ} {head : ℕ} {over ordered : Bool}
-    (found : LaidFound call any s counts index head over ordered) (first : Head) (e : head_in first ≡ head_of (take 39 (drop head s))) where
+    {call : ℕ} {any : Bool} {s index : List ℕ} {p : Laid} (found : LaidFound call any s index p) (first : Head)
+    (e : head_in first ≡ head_of (take 39 (drop p.head s))) where
   head-is : head_in first ≡ (read_volume s).head
   head-is = e ∙ found.first
 
-  pub past-asked : PastAsked s ordered
+  pub past-asked : PastAsked s p.ordered
   past-asked = record { sections = laid-sectioned s call any found.laid; once = found.once }
 
   -- a limit is passed
-  past-within : (over || not (head_within (head_in first))) ≡ true → list_within (read_call s) ≡ false
-  past-within h = go over refl h
+  past-within : (p.over || not (head_within (head_in first))) ≡ true → list_within (read_call s) ≡ false
+  past-within h = go p.over refl h
     where
-      go : (o : Bool) → over ≡ o → (o || not (head_within (head_in first))) ≡ true → list_within (read_call s) ≡ false
+      go : (o : Bool) → p.over ≡ o → (o || not (head_within (head_in first))) ≡ true → list_within (read_call s) ≡ false
       go true z k = found.past z
       go false z k = fails _ _ (head-kept s) (not-true (head_within (read_volume s).head) (ap (λ (h : calls.Head). not (head_within h)) (sym head-is) ∙ k))
         where
@@ -73,28 +74,28 @@ module _
           not-true true x = absurd (clash x refl)
           not-true false x = refl
 
-  pub read_past : (n : ℕ) → (over || not (head_within (head_in first))) ≡ true → n ≡ cond (none_twice (read_volume s)) 3 22 → RefusedBy s call any n
+  pub read_past : (n : ℕ) → (p.over || not (head_within (head_in first))) ≡ true → n ≡ cond (none_twice (read_volume s)) 3 22 → RefusedBy s call any n
   read_past n h k = rw k (past-refused s call any found.laid (past-within h))
 
   -- none is passed
-  module _ (h : (over || not (head_within (head_in first))) ≡ false) where
-    counted : Counted call s counts index
-    counted = found.counted (both_false over (head_within (head_in first)) h).0
+  module _ (h : (p.over || not (head_within (head_in first))) ≡ false) where
+    counted : Counted call s p.counts index
+    counted = found.counted (both_false p.over (head_within (head_in first)) h).0
 
     kept-within : list_within (read_call s) ≡ true
     kept-within =
-        counted.within (ap head_within (sym head-is) ∙ (both_false over (head_within (head_in first)) h).1)
+        counted.within (ap head_within (sym head-is) ∙ (both_false p.over (head_within (head_in first)) h).1)
 
-    pub table_fits : rank_end counts 8 ≤ 29696
+    pub table_fits : rank_end p.counts 8 ≤ 29696
     table_fits = counted.fits
 
-    pub table-sortable : (e : Ends) → e ≡ ends_in counts → Sortable call s index e
-    table-sortable e z = rw z (sortable s call any found.laid index (ends_in counts) kept-within counted.short counted.ends)
+    pub table-sortable : (e : Ends) → e ≡ ends_in p.counts → Sortable call s index e
+    table-sortable e z = rw z (sortable s call any found.laid index (ends_in p.counts) kept-within counted.short counted.ends)
 
-    pub read-ordered : (e : Ends) → e ≡ ends_in counts → ordered ≡ true → (0 ≡ list_refusal call any s) × TableRead call s index first e
+    pub read-ordered : (e : Ends) → e ≡ ends_in p.counts → p.ordered ≡ true → (0 ≡ list_refusal call any s) × TableRead call s index first e
     read-ordered e z o = (
       accepted s call any found.laid (found.once o) kept-within,
-      rw z (record { head = head-is; ends = counted.ends; table = found.table o (both_false over (head_within (head_in first)) h).0 }),
+      rw z (record { head = head-is; ends = counted.ends; table = found.table o (both_false p.over (head_within (head_in first)) h).0 }),
     )
 
     -- with the table that is sorted
@@ -105,7 +106,7 @@ module _
         was-false true x = absurd (clash (sym x) refl)
         was-false false x = refl
 
-    pub read-sorted : (e : Ends) → e ≡ ends_in counts → {index' : List ℕ} → length index' ≡ length index → (r : Bool) → r ≡ false → Arranged call s index' e r
+    pub read-sorted : (e : Ends) → e ≡ ends_in p.counts → {index' : List ℕ} → length index' ≡ length index → (r : Bool) → r ≡ false → Arranged call s index' e r
         → (0 ≡ list_refusal call any s) × TableRead call s index' first e
     read-sorted e z l r q a = (
       accepted s call any found.laid (was-true (none_twice (read_volume s)) (sym q ∙ a.double)) kept-within,

@@ -269,7 +269,7 @@ module _
               requests = table_is 7 (request_tag call) (request_bodies call (fields s)) (omega arith) rank-requests;
             }
 
-    pub ends_found : (ordered : Bool) → (ordered ≡ true → last.tag ≡ 255 → ⊥) → LaidFound call any s table.counts table.index.now b over ordered
+    pub ends_found : (ordered : Bool) → (ordered ≡ true → last.tag ≡ 255 → ⊥) → LaidFound call any s table.index.now (record { head = b; over = over; ordered = ordered; counts = table.counts })
     ends_found ordered told =
         record {
           laid = ends-laid;
@@ -286,22 +286,22 @@ pub broken-found : {call : ℕ} {any : Bool} {s index : List ℕ} → laid_as ca
 broken-found h = record { broken = λ e. h; found = λ p e. absurd (let z : ◌≡◌ {A = ℕ} 0 1 = cc in omega arith) }
 
 pub laid-found : {call : ℕ} {any : Bool} {s index : List ℕ} {p : Laid}
-    → LaidFound call any s p.counts index p.head p.over p.ordered → Surveyed call any s index (Some p)
+    → LaidFound call any s index p → Surveyed call any s index (Some p)
 laid-found {call = call} {any = any} {s = s} {index = index} {p = p} f =
     record {
       broken = λ e. absurd (let z : ◌≡◌ {A = ℕ} 0 1 = cc in omega arith);
       found = λ q e.
           let z : p ≡ q = cc in
-          subst (λ (o : Laid). LaidFound call any s o.counts index o.head o.over o.ordered) z f;
+          subst (λ (o : Laid). LaidFound call any s index o) z f;
     }
 
 pub ordered-found : {call : ℕ} {any : Bool} {s index : List ℕ} {p : Laid}
-    → Fits s index → LaidFound call any s p.counts index p.head p.over p.ordered → p.ordered ≡ true → OrderSurveyed call any s index (Some p)
+    → Fits s index → LaidFound call any s index p → p.ordered ≡ true → OrderSurveyed call any s index (Some p)
 ordered-found {call = call} {any = any} {s = s} {index = index} {p = p} w f t =
     record {
       found = λ q e.
           let z : p ≡ q = cc in
-          subst (λ (o : Laid). LaidFound call any s o.counts index o.head o.over o.ordered) z f;
+          subst (λ (o : Laid). LaidFound call any s index o) z f;
       ordered = λ q e.
           let z : p ≡ q = cc in
           subst (λ (o : Laid). o.ordered ≡ true) z t;

@@ -258,9 +258,9 @@ set-length true xs i v = refl
 set-length false xs i v = length-set xs i v
 
 pub passed_length :
-    {s : List ℕ} {over : Bool} {t b : ℕ} {before after : PlaceTable} {r : Bool} → FieldNoted s over t b before after r
+    {s : List ℕ} {over : Bool} {f : FieldPlace} {before after : PlaceTable} {r : Bool} → FieldNoted s over f before after r
     → length after.index.now ≡ length before.index.now
-passed_length {b = b} {before = before} {r = r} p = ap length p.placed ∙ set-length r before.index.now before.n b
+passed_length {f = f} {before = before} {r = r} p = ap length p.placed ∙ set-length r before.index.now before.n f.start
 
 at-most-one : (r : Bool) (n : ℕ) → cond r n (n + 1) ≤ n + 1
 at-most-one true n = omega arith
@@ -344,7 +344,7 @@ module _
 
   pub goes_on :
       (after : PlaceTable) (r : Bool) (tag : ℕ) → tag ≡ cond (follows (field_from s last.tag last.start) (field_from s t b)) t 255
-      → FieldNoted s over t b table after r → Going s call any (b + n) head (record { tag = tag; start = b; len = n }) r after
+      → FieldNoted s over (record { tag = t; start = b; len = n }) table after r → Going s call any (b + n) head (record { tag = tag; start = b; len = n }) r after
   goes_on after r tag z p =
       let q = follows (field_from s last.tag last.start) (field_from s t b) in
       record {
@@ -372,5 +372,5 @@ module _
   -- where it follows the last
   pub goes_after :
       (after : PlaceTable) (r : Bool) → follows (field_from s last.tag last.start) (field_from s t b) ≡ true
-      → FieldNoted s over t b table after r → Going s call any (b + n) head (record { tag = t; start = b; len = n }) r after
+      → FieldNoted s over (record { tag = t; start = b; len = n }) table after r → Going s call any (b + n) head (record { tag = t; start = b; len = n }) r after
   goes_after after r z p = goes_on after r t (sym (rw z)) p

@@ -18,14 +18,14 @@ pub record Counted (call : ℕ) (s counts index : List ℕ) : Type 0 where
 
 -- a list that is laid out: the body of field 1 starts at `head`; `over` tells that a limit beside the head's is passed, `ordered` that the fields
 -- beside field 1 ascend
-pub record LaidFound (call : ℕ) (any : Bool) (s counts index : List ℕ) (head : ℕ) (over ordered : Bool) : Type 0 where
+pub record LaidFound (call : ℕ) (any : Bool) (s index : List ℕ) (p : Laid) : Type 0 where
   pub laid : laid_as call any s ≡ true
-  pub inside : head + 39 ≤ length s
-  pub first : head_of (take 39 (drop head s)) ≡ (read_volume s).head
-  pub past : over ≡ true → list_within (read_call s) ≡ false
-  pub counted : over ≡ false → Counted call s counts index
-  pub once : ordered ≡ true → none_twice (read_volume s) ≡ true
-  pub table : ordered ≡ true → over ≡ false → Indexed call s index (ends_in counts)
+  pub inside : p.head + 39 ≤ length s
+  pub first : head_of (take 39 (drop p.head s)) ≡ (read_volume s).head
+  pub past : p.over ≡ true → list_within (read_call s) ≡ false
+  pub counted : p.over ≡ false → Counted call s p.counts index
+  pub once : p.ordered ≡ true → none_twice (read_volume s) ≡ true
+  pub table : p.ordered ≡ true → p.over ≡ false → Indexed call s index (ends_in p.counts)
 
 -- a field 1 of this call, or of any, stands first, with its body at b
 pub record HeadAt (call : ℕ) (any : Bool) (s : List ℕ) (b : ℕ) : Type 0 where
@@ -41,10 +41,10 @@ HeadFirst call any s r = (b : ℕ) → r ≡ Some b → HeadAt call any s b
 -- none where the list breaks the layout, else what is found
 pub record Surveyed (call : ℕ) (any : Bool) (s index : List ℕ) (r : Option Laid) : Type 0 where
   pub broken : r ≡ None → laid_as call any s ≡ false
-  pub found : (p : Laid) → r ≡ Some p → LaidFound call any s p.counts index p.head p.over p.ordered
+  pub found : (p : Laid) → r ≡ Some p → LaidFound call any s index p
 
 -- what is answered is laid out and in order; none tells nothing of the list
 pub record OrderSurveyed (call : ℕ) (any : Bool) (s index : List ℕ) (r : Option Laid) : Type 0 where
-  pub found : (p : Laid) → r ≡ Some p → LaidFound call any s p.counts index p.head p.over p.ordered
+  pub found : (p : Laid) → r ≡ Some p → LaidFound call any s index p
   pub ordered : (p : Laid) → r ≡ Some p → p.ordered ≡ true
   pub fits : Fits s index

@@ -49,7 +49,7 @@ fn head_first(s: &[u8], asked: Option<u8>) -> Option<usize>
 // Whether a limit is passed, now or before: else the field's place is noted. The length that its tag asks shows the bound.
 fn passes(s: &[u8], over: bool, field: FieldPlace, table: &mut PlaceTable) -> bool
     requires { (field.start + least_of field.tag ≤ length s.now) × (over ≡ false → Free table.old (rank_of field.tag)) }
-    ensures { FieldNoted s.now over field.tag field.start table.old table.new result }
+    ensures { FieldNoted s.now over field table.old table.new result }
 {
     over || !limits::field_within(s, field) || !table.note(table::rank_of(field.tag), field.start)
 }

@@ -1,4 +1,4 @@
-use Rattle.std.proofs.Common.{sym, ◌∙◌, refl, false}
+use Rattle.std.proofs.Common.{sym, ◌∙◌, refl, false, rules}
 use Rattle.calls.proofs.lists.BoolLaws.{clash}
 use Rattle.wire.proofs.FieldStepLaws.{field-found, list-stays, steps-to, ended, to-the-end}
 use Rattle.reader.proofs.SurveyLaws.{breaks, second, bad-head, goes-head, bad-beside, next-within, next-free, goes_on}
@@ -80,5 +80,6 @@ pub returns : goal.returns
 returns c =
     let i = c.loop-field.invariant in
     let e = to-the-end i.0 c.in_default.ensures.steps c.if-not-at_end.ensures in
-    rw (c.index-2-1.given.1.1 (sym c.new-table.ensures.same_reference ∙ sym i.2))
-    (laid-found (ends_found _ _ _ _ _ _ _ _ i.1 e _ c.in_ok-head.was false (λ z. absurd (clash z refl))))
+    let same = sym c.new-table.ensures.same_reference ∙ sym i.2 in
+    let laid = laid-found (ends_found _ _ _ _ _ _ _ _ i.1 e _ c.in_ok-head.was false (λ z. absurd (clash z refl))) in
+    search (same, laid, rules)

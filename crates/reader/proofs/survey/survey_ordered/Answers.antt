@@ -1,4 +1,4 @@
-use Rattle.std.proofs.Common.{sym, ◌∙◌, refl, arith, true}
+use Rattle.std.proofs.Common.{sym, ◌∙◌, refl, arith, true, rules}
 use Rattle.wire.proofs.FieldStepLaws.{field-found, list-stays, steps-to, to-the-end}
 use Rattle.reader.proofs.SurveyLaws.{next-within, last_within, next-free, next-below, goes_after}
 use Rattle.reader.proofs.SurveyStartLaws.{first-going}
@@ -58,5 +58,6 @@ pub returns : goal.returns
 returns c =
     let i = c.loop-field.invariant in
     let e = to-the-end i.0 c.in_default.ensures.steps c.if-not-at_end.ensures in
-    rw (c.index-2-1.given.1.1 (sym c.new-table.ensures.same_reference ∙ sym i.3))
-    (ordered-found i.1.fits (ends_found _ _ _ _ _ _ _ _ i.1 e _ refl true (λ z. i.2)) refl)
+    let same = sym c.new-table.ensures.same_reference ∙ sym i.3 in
+    let laid = ordered-found i.1.fits (ends_found _ _ _ _ _ _ _ _ i.1 e _ refl true (λ z. i.2)) refl in
+    search (same, laid, rules)
