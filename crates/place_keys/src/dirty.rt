@@ -4,7 +4,7 @@ ghost use Rattle.calls.specs.Place.{placed_of, walk_of};
 ghost use Rattle.calls.specs.Answers.{read_call};
 ghost use Rattle.place_keys.specs.Plan.{PlanKnown, Dirty};
 
-use next_fit::slot;
+use next_fit::slot::Slot;
 use reader::piece;
 
 // Adds each piece's stored sectors to the count of its bucket; the counts are 0 before.
@@ -13,9 +13,9 @@ pub fn fill_dirty(dirty: &mut [u32], s: &[u8], pieces: &[u32], slots: &[u32])
     requires s_in_bounds { (length (walk_of (read_call s.now)).taken ≤ length dirty.old) × ((k : ℕ) → get_or dirty.old k 0 ≡ 0) }
     ensures { Dirty (placed_of (read_call s.now)) (walk_of (read_call s.now)).taken dirty.new }
 {
-    for (i, at) in pieces.iter().enumerate() {
+    for (at, number) in pieces.iter().zip(slots) {
         let piece = piece::read_piece(s, *at as usize);
-        let slot = slot::slot_at(slots, i);
+        let slot = Slot::of_number(*number);
         dirty[slot.index] += piece.stored as u32;
     }
 }
