@@ -50,7 +50,7 @@ pub fn put_allocs(
     requires allocs_known { AllocsKnown taken.now gens.now journal clock × DirtyKnown taken.now dirty.now }
     ensures { (v : Volume) (ps : List calls.Placed) → AllocsOf v taken.now gens.now journal clock → Dirty ps taken.now dirty.now → out.new ≡ with_bytes out.old (keys_bytes 4 (map (new_alloc_key v ps) taken.now)) }
 {
-    for ((b, generation), stored) in taken.iter().zip(gens).zip(dirty) {
-        put_alloc(out, *b, journal, *generation, *stored, clock);
+    for (i, b) in taken.iter().enumerate() {
+        put_alloc(out, *b, journal, gens[i], dirty[i], clock);
     }
 }

@@ -13,9 +13,9 @@ pub fn fill_dirty(dirty: &mut [u32], s: &[u8], pieces: &[u32], slots: &[u32])
     requires s_in_bounds { (length (walk_of (read_call s.now)).taken ≤ length dirty.old) × ((k : ℕ) → get_or dirty.old k 0 ≡ 0) }
     ensures { Dirty (placed_of (read_call s.now)) (walk_of (read_call s.now)).taken dirty.new }
 {
-    for (at, number) in pieces.iter().zip(slots) {
+    for (i, at) in pieces.iter().enumerate() {
         let piece = piece::read_piece(s, *at as usize);
-        let slot = Slot::of_number(*number);
+        let slot = Slot::of_number(slots[i]);
         dirty[slot.index] += piece.stored as u32;
     }
 }
