@@ -1,7 +1,6 @@
 -- The bits of a byte, and the table of bits.
 use mathlib.Core.Path.{◌≡◌, refl, ap, sym}
 use mathlib.Core.Bool.{Bool, true, false, ◌||◌, cond}
-use mathlib.Core.List.{List}
 use Prim.Native.Nat.{ℕ, ◌+◌, ◌*◌, ◌/◌, ◌%◌, ◌^◌, ◌<◌, max}
 use native.Mathlib.Nat.{zero-div}
 use native.Mathlib.Omega.{arith}
@@ -15,6 +14,7 @@ use Rattle.std.proofs.lemmas.Nat.{one_shl}
 use Rattle.std.proofs.lemmas.Nat.Bits.{and_pow, shr_and_one, bit_at_or, bit_at-pow_same, bit_at-pow_other}
 use Rattle.wire.specs.Kinds.{same_bucket}
 use Rattle.wire.specs.declared.kinds.Bucket.{Bucket}
+use Rattle.bucket_bits.specs.declared.marks.BucketBits.{BucketBits}
 use Rattle.bucket_bits.specs.Bits.{bit, has_bit, with_bit, marked, with_mark}
 
 -- a byte with a bit set, as `|` makes it
@@ -53,7 +53,7 @@ bit-set i j x = rw (← or-bit i x, bit_at_or x (2 ^ i) j) (go (eqb i j) refl)
         rw m
 
 -- one bucket more is marked
-module _ (bits : List ℕ) (b c : Bucket) (r : b.0 / 8 < length bits) where
+module _ (bits : BucketBits) (b c : Bucket) (r : b.0 / 8 < length bits.bytes) where
   pub mark-told : marked (with_mark bits b) c ≡ same_bucket b c || marked bits c
   unfolding marked with_mark
   mark-told = go (eqb (b.0 / 8) (c.0 / 8)) refl
@@ -66,24 +66,24 @@ module _ (bits : List ℕ) (b c : Bucket) (r : b.0 / 8 < length bits) where
           at-parts false d = let h = eqb-false (b.0 % 8) (c.0 % 8) d in sym (ne_eqb b.0 c.0 (λ s. h (ap (λ (m : ℕ). m % 8) s)))
 
       go : (t : Bool) → eqb (b.0 / 8) (c.0 / 8) ≡ t
-          → has_bit (c.0 % 8) (get_or (set bits (b.0 / 8) (with_bit (b.0 % 8) (get_or bits (b.0 / 8) 0))) (c.0 / 8) 0)
-          ≡ eqb b.0 c.0 || has_bit (c.0 % 8) (get_or bits (c.0 / 8) 0)
+          → has_bit (c.0 % 8) (get_or (set bits.bytes (b.0 / 8) (with_bit (b.0 % 8) (get_or bits.bytes (b.0 / 8) 0))) (c.0 / 8) 0)
+          ≡ eqb b.0 c.0 || has_bit (c.0 % 8) (get_or bits.bytes (c.0 / 8) 0)
       go true d =
           let e = eqb-true (b.0 / 8) (c.0 / 8) d in
-          rw (← e, get_or-set_same bits (b.0 / 8) (with_bit (b.0 % 8) (get_or bits (b.0 / 8) 0)) 0 r, ← parts e)
-          (bit-set (b.0 % 8) (c.0 % 8) (get_or bits (b.0 / 8) 0))
+          rw (← e, get_or-set_same bits.bytes (b.0 / 8) (with_bit (b.0 % 8) (get_or bits.bytes (b.0 / 8) 0)) 0 r, ← parts e)
+          (bit-set (b.0 % 8) (c.0 % 8) (get_or bits.bytes (b.0 / 8) 0))
       go false d =
           let n = eqb-false (b.0 / 8) (c.0 / 8) d in
           rw (
-            get_or-set_other bits (b.0 / 8) (c.0 / 8) (with_bit (b.0 % 8) (get_or bits (b.0 / 8) 0)) 0 (λ e. n (sym e)),
+            get_or-set_other bits.bytes (b.0 / 8) (c.0 / 8) (with_bit (b.0 % 8) (get_or bits.bytes (b.0 / 8) 0)) 0 (λ e. n (sym e)),
             ne_eqb b.0 c.0 (λ e. n (ap (λ (m : ℕ). m / 8) e)),
           )
 
-pub mark-length : (bits : List ℕ) (b : Bucket) → length (with_mark bits b) ≡ length bits
+pub mark-length : (bits : BucketBits) (b : Bucket) → length (with_mark bits b).bytes ≡ length bits.bytes
 unfolding with_mark
-mark-length bits b = length-set bits (b.0 / 8) (with_bit (b.0 % 8) (get_or bits (b.0 / 8) 0))
+mark-length bits b = length-set bits.bytes (b.0 / 8) (with_bit (b.0 % 8) (get_or bits.bytes (b.0 / 8) 0))
 
--- a table of zeros has no mark
-pub mark-none : (n : ℕ) (b : Bucket) → b.0 / 8 < n → marked (replicate n 0) b ≡ false
+-- where all bytes are 0, no bucket is marked
+pub mark-none : (bits : BucketBits) (n : ℕ) (b : Bucket) → bits.bytes ≡ replicate n 0 → b.0 / 8 < n → marked bits b ≡ false
 unfolding marked has_bit
-mark-none n b h = rw (get_or-replicate {A = ℕ} n (b.0 / 8) 0 0 h, zero-div (2 ^ (b.0 % 8)))
+mark-none bits n b e h = rw (e, get_or-replicate {A = ℕ} n (b.0 / 8) 0 0 h, zero-div (2 ^ (b.0 % 8)))

@@ -33,12 +33,13 @@ use Rattle.reader.specs.Located.{KeysAt, BucketsAt}
 use Rattle.reader.proofs.CheckedLaws.{reserved-range, range_at, alloc-range}
 use Rattle.reader.proofs.KeyHereLaws.{byte-here, keys-next}
 use Rattle.reader.proofs.NextLaws.{buckets-next}
+use Rattle.bucket_bits.specs.declared.marks.BucketBits.{BucketBits}
 use Rattle.bucket_bits.specs.Bits.{marked, with_mark, in_use, used_mark, Marks}
 use Rattle.bucket_bits.proofs.BitLaws.{mark-told, mark-length, mark-none}
 
 -- the marks so far, with those that the rest of a list is to make, are those that all of it makes
-pub record Marking {A : Type 0} (is : A → Bucket → Bool) (all rest : List A) (bits : List ℕ) : Type 0 where
-  pub size : length bits ≡ 8192
+pub record Marking {A : Type 0} (is : A → Bucket → Bool) (all rest : List A) (bits : BucketBits) : Type 0 where
+  pub size : length bits.bytes ≡ 8192
   pub told : (b : Bucket) → bucket_in_range b ≡ true → (marked bits b || any_of (λ a. is a b) rest) ≡ any_of (λ a. is a b) all
 
 or-none : (t : Bool) → t ≡ t || false
@@ -52,16 +53,16 @@ or_swap false true c = refl
 or_swap false false c = refl
 
 module _ {A : Type 0} (is : A → Bucket → Bool) (all : List A) where
-  pub marking-start : (bits : List ℕ) → bits ≡ replicate 8192 0 → Marking is all all bits
+  pub marking-start : (bits : BucketBits) → bits.bytes ≡ replicate 8192 0 → Marking is all all bits
   marking-start bits e =
       record {
         size = ap length e ∙ length-replicate {A = ℕ} 8192 0;
-        told = λ b h. ap (λ (m : List ℕ). marked m b || any_of (λ a. is a b) all) e ∙ ap (λ (t : Bool). t || any_of (λ a. is a b) all) (mark-none 8192 b (omega (arith, ltb-true b.0 65536 h)));
+        told = λ b h. ap (λ (t : Bool). t || any_of (λ a. is a b) all) (mark-none bits 8192 b e (omega (arith, ltb-true b.0 65536 h)));
       }
 
   -- one element more: its buckets are marked
   pub marking-on :
-      {rest xs : List A} {x : A} {bits next : List ℕ} → Marking is all rest bits → rest ≡ x ∷ xs → length next ≡ length bits
+      {rest xs : List A} {x : A} {bits next : BucketBits} → Marking is all rest bits → rest ≡ x ∷ xs → length next.bytes ≡ length bits.bytes
       → ((b : Bucket) → bucket_in_range b ≡ true → marked next b ≡ is x b || marked bits b)
       → Marking is all xs next
   unfolding any_of
@@ -75,7 +76,7 @@ module _ {A : Type 0} (is : A → Bucket → Bool) (all : List A) where
             ∙ m.told b h;
       }
 
-  pub marking-end : {bits : List ℕ} (i : ℕ) → length all ≤ i → Marking is all (drop i all) bits → Marks bits (λ b. any_of (λ a. is a b) all)
+  pub marking-end : {bits : BucketBits} (i : ℕ) → length all ≤ i → Marking is all (drop i all) bits → Marks bits (λ b. any_of (λ a. is a b) all)
   unfolding any_of
   marking-end {bits} i h m =
       record {
@@ -93,7 +94,7 @@ type-here s at w h = get_at data_type s (value_at at) ∙ byte-here s at w 14 (o
 abbrev pub uses_bucket : Key → Bucket → Bool
 uses_bucket k b = in_use k && same_bucket (bucket_in k.pos) b
 
-pub used-told : (k : Key) (bits : List ℕ) (b : Bucket) → length bits ≡ 8192 → (in_use k ≡ true → bucket_in_range (bucket_in k.pos) ≡ true) → marked (used_mark k bits) b ≡ uses_bucket k b || marked bits b
+pub used-told : (k : Key) (bits : BucketBits) (b : Bucket) → length bits.bytes ≡ 8192 → (in_use k ≡ true → bucket_in_range (bucket_in k.pos) ≡ true) → marked (used_mark k bits) b ≡ uses_bucket k b || marked bits b
 unfolding used_mark
 used-told k bits b l r = go (in_use k) refl
   where
@@ -101,11 +102,11 @@ used-told k bits b l r = go (in_use k) refl
     go true e = mark-told bits (bucket_in k.pos) b (omega (arith, ltb-true k.pos.offset 65536 (r e)))
     go false e = refl
 
-pub used-length : (k : Key) (bits : List ℕ) → length (used_mark k bits) ≡ length bits
+pub used-length : (k : Key) (bits : BucketBits) → length (used_mark k bits).bytes ≡ length bits.bytes
 unfolding used_mark
 used-length k bits = go (in_use k)
   where
-    go : (t : Bool) → length (cond t (with_mark bits (bucket_in k.pos)) bits) ≡ length bits
+    go : (t : Bool) → length (cond t (with_mark bits (bucket_in k.pos)) bits).bytes ≡ length bits.bytes
     go true = mark-length bits (bucket_in k.pos)
     go false = refl
 
@@ -180,7 +181,7 @@ module _ {s reserved : List ℕ} (t : Checked s) (f : BucketsAt s reserved (read
   reserved-small = all-of-first bucket_in_range (all-of-drop bucket_in_range _ i (reserved-range t)) (buckets-next f i h)
 
   pub reserved-more :
-      {bits : List ℕ} → Marking (λ a b. same_bucket a b) (read_volume s).reserved (drop i (read_volume s).reserved) bits
+      {bits : BucketBits} → Marking (λ a b. same_bucket a b) (read_volume s).reserved (drop i (read_volume s).reserved) bits
       → Marking (λ a b. same_bucket a b) (read_volume s).reserved (drop (i + 1) (read_volume s).reserved) (with_mark bits reserved_here)
   reserved-more {bits} m =
       marking-on (λ a b. same_bucket a b) _ m (buckets-next f i h) (mark-length bits reserved_here)
@@ -195,7 +196,7 @@ module _ {s places : List ℕ} (t : Checked s) (f : KeysAt s places (read_volume
   used-ranged = all-of-first in_range (all-of-drop in_range _ i (alloc-range t)) (keys-next f i h)
 
   pub used-more :
-      {bits : List ℕ} → Marking uses_bucket (read_volume s).trees.alloc (drop i (read_volume s).trees.alloc) bits
+      {bits : BucketBits} → Marking uses_bucket (read_volume s).trees.alloc (drop i (read_volume s).trees.alloc) bits
       → Marking uses_bucket (read_volume s).trees.alloc (drop (i + 1) (read_volume s).trees.alloc) (used_mark alloc_here bits)
   used-more {bits} m =
       marking-on uses_bucket _ m (keys-next f i h) (used-length alloc_here bits)

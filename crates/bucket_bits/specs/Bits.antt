@@ -7,6 +7,7 @@ use Rattle.wire.specs.declared.kinds.Bucket.{Bucket}
 use Rattle.calls.specs.Limits.{at_inode0}
 use Rattle.calls.specs.Freespace.{is_in, is_used}
 use Rattle.calls.specs.Answers.{read_volume}
+use Rattle.bucket_bits.specs.declared.marks.BucketBits.{BucketBits}
 
 -- a bit of a byte
 abbrev pub bit : ℕ → ℕ → ℕ
@@ -20,12 +21,12 @@ unfoldable pub with_bit : ℕ → ℕ → ℕ
 with_bit k x = cond (has_bit k x) x (x + 2 ^ k)
 
 -- a bucket is marked
-unfoldable pub marked : List ℕ → Bucket → Bool
-marked bits b = has_bit (b.0 % 8) (get_or bits (b.0 / 8) 0)
+unfoldable pub marked : BucketBits → Bucket → Bool
+marked bits b = has_bit (b.0 % 8) (get_or bits.bytes (b.0 / 8) 0)
 
 -- the table with a bucket marked
-unfoldable pub with_mark : List ℕ → Bucket → List ℕ
-with_mark bits b = set bits (b.0 / 8) (with_bit (b.0 % 8) (get_or bits (b.0 / 8) 0))
+unfoldable pub with_mark : BucketBits → Bucket → BucketBits
+with_mark bits b = record { bytes = set bits.bytes (b.0 / 8) (with_bit (b.0 % 8) (get_or bits.bytes (b.0 / 8) 0)) }
 
 -- an alloc value that is long enough and has a data type other than free
 abbrev pub holds_data : List ℕ → Bool
@@ -36,14 +37,14 @@ unfoldable pub in_use : Key → Bool
 in_use k = at_inode0 k && holds_data k.value
 
 -- the table with its bucket marked
-unfoldable pub used_mark : Key → List ℕ → List ℕ
+unfoldable pub used_mark : Key → BucketBits → BucketBits
 used_mark k bits = cond (in_use k) (with_mark bits (bucket_in k.pos)) bits
 
 -- the marked buckets are those of which a test holds
-pub record Marks (bits : List ℕ) (is : Bucket → Bool) : Type 0 where
+pub record Marks (bits : BucketBits) (is : Bucket → Bool) : Type 0 where
   pub told : (b : Bucket) → bucket_in_range b ≡ true → marked bits b ≡ is b
 
 -- the tables of the reserved buckets and of those in use
-pub record Tables (s reserved used : List ℕ) : Type 0 where
+pub record Tables (s : List ℕ) (reserved used : BucketBits) : Type 0 where
   pub reserved-told : Marks reserved (is_in (read_volume s).reserved)
   pub used-told : Marks used (is_used (read_volume s).trees.alloc)

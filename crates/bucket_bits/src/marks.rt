@@ -13,6 +13,12 @@ use reader::key;
 use wire::kinds;
 use wire::kinds::Bucket;
 
+// The bits.
+#[derive(Drop)]
+pub struct BucketBits {
+    pub bytes: [u8; 8192],
+}
+
 // Whether a bit of a byte is 1. A remainder by 8 shows the bound, here and below.
 fn has_bit(x: u8, k: usize) -> bool
     requires { k < 8 }
@@ -27,26 +33,6 @@ fn with_bit(x: u8, k: usize) -> u8
     ensures { result ≡ with_bit k x }
 {
     x | 1 << k
-}
-
-// Whether a bucket is marked. The limits show the bound, here and below.
-#[tactic(auto, unfolding(crate::specs::Bits::marked))]
-pub fn is_marked(bits: &[u8; 8192], b: Bucket) -> bool
-    requires { bucket_in_range b ≡ true }
-    ensures { result ≡ marked bits.now b }
-{
-    let i = (b.0 / 8) as usize;
-    has_bit(bits[i], (b.0 % 8) as usize)
-}
-
-// Marks a bucket.
-#[tactic(auto, unfolding(crate::specs::Bits::with_mark))]
-fn mark(bits: &mut [u8; 8192], b: Bucket)
-    requires { bucket_in_range b ≡ true }
-    ensures { bits.new ≡ with_mark bits.old b }
-{
-    let i = (b.0 / 8) as usize;
-    bits[i] = with_bit(bits[i], (b.0 % 8) as usize);
 }
 
 // Whether the value of the key at a place is long enough and has a data type other than free. The reader shows that a key stands there, here and below.
@@ -66,32 +52,65 @@ fn in_use(s: &[u8], at: usize) -> bool
     key::pos_at(s, at).inode == 0 && holds_data(s, at)
 }
 
-// Marks the bucket of an alloc key, if it is in use.
-fn mark_key(s: &[u8], at: usize, bits: &mut [u8; 8192])
-    requires { Whole s.now at × (in_range (key_here s.now at) ≡ true) }
-    ensures { bits.new ≡ used_mark (key_here s.now at) bits.old }
-{
-    if in_use(s, at) {
-        mark(bits, key::bucket_at(s, at));
+impl BucketBits {
+    // No bucket is marked.
+    fn new() -> BucketBits
+        ensures { result.bytes ≡ replicate 8192 0 }
+    {
+        BucketBits { bytes: [0; 8192] }
     }
-}
 
-// Marks the reserved buckets in a table of zeros.
-pub fn mark_reserved(s: &[u8], reserved: &[u32], bits: &mut [u8; 8192])
-    requires { Checked s.now × BucketsAt s.now reserved.now (read_volume s.now).reserved × (bits.old ≡ replicate 8192 0) }
-    ensures { Marks bits.new (is_in (read_volume s.now).reserved) }
-{
-    for at in reserved {
-        mark(bits, kinds::read_bucket(s, *at as usize));
+    // Whether a bucket is marked. The limits show the bound, here and below.
+    #[tactic(auto, unfolding(crate::specs::Bits::marked))]
+    pub fn is_marked(&self, b: Bucket) -> bool
+        requires { bucket_in_range b ≡ true }
+        ensures { result ≡ marked self.now b }
+    {
+        let i = (b.0 / 8) as usize;
+        has_bit(self.bytes[i], (b.0 % 8) as usize)
     }
-}
 
-// Marks the buckets in use in a table of zeros.
-pub fn mark_used(s: &[u8], alloc: &[u32], bits: &mut [u8; 8192])
-    requires { Checked s.now × KeysAt s.now alloc.now (read_volume s.now).trees.alloc × (bits.old ≡ replicate 8192 0) }
-    ensures { Marks bits.new (is_used (read_volume s.now).trees.alloc) }
-{
-    for at in alloc {
-        mark_key(s, *at as usize, bits);
+    // Marks a bucket.
+    #[tactic(auto, unfolding(crate::specs::Bits::with_mark))]
+    fn mark(&mut self, b: Bucket)
+        requires { bucket_in_range b ≡ true }
+        ensures { self.new ≡ with_mark self.old b }
+    {
+        let i = (b.0 / 8) as usize;
+        self.bytes[i] = with_bit(self.bytes[i], (b.0 % 8) as usize);
+    }
+
+    // Marks the bucket of an alloc key, if it is in use.
+    fn mark_key(&mut self, s: &[u8], at: usize)
+        requires { Whole s.now at × (in_range (key_here s.now at) ≡ true) }
+        ensures { self.new ≡ used_mark (key_here s.now at) self.old }
+    {
+        if in_use(s, at) {
+            self.mark(key::bucket_at(s, at));
+        }
+    }
+
+    // The reserved buckets are marked.
+    pub fn of_reserved(s: &[u8], reserved: &[u32]) -> BucketBits
+        requires { Checked s.now × BucketsAt s.now reserved.now (read_volume s.now).reserved }
+        ensures { Marks result (is_in (read_volume s.now).reserved) }
+    {
+        let mut bits = BucketBits::new();
+        for at in reserved {
+            bits.mark(kinds::read_bucket(s, *at as usize));
+        }
+        bits
+    }
+
+    // The buckets in use are marked.
+    pub fn of_used(s: &[u8], alloc: &[u32]) -> BucketBits
+        requires { Checked s.now × KeysAt s.now alloc.now (read_volume s.now).trees.alloc }
+        ensures { Marks result (is_used (read_volume s.now).trees.alloc) }
+    {
+        let mut bits = BucketBits::new();
+        for at in alloc {
+            bits.mark_key(s, *at as usize);
+        }
+        bits
     }
 }

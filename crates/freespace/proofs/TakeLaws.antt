@@ -17,6 +17,7 @@ use Rattle.calls.specs.Limits.{is_run}
 use Rattle.calls.specs.Freespace as calls
 use Rattle.calls.specs.Freespace.{end_of, buckets_of, runs_of, Passed, pass, shortened, walk}
 use Rattle.bucket_bits.specs.Bits.{marked, Marks}
+use Rattle.bucket_bits.specs.declared.marks.BucketBits.{BucketBits}
 use Rattle.reader.specs.Checked.{end_in_range}
 use Rattle.freespace.specs.Runs.{began_early, run_in}
 use Rattle.reader.specs.declared.refusal.Refusal.{Refusal}
@@ -168,7 +169,7 @@ module _ (R U : Bucket → Bool) (k : Key) (n : ℕ) (from : Walked) (before aft
 
     -- a run, by the tables
     pub key-run :
-        {M N : List ℕ} {x : Run} → run_in k ≡ Some x → end_in_range k ≡ true → Marks M R → Marks N U → (r : Result Walked Refusal)
+        {M N : BucketBits} {x : Run} → run_in k ≡ Some x → end_in_range k ≡ true → Marks M R → Marks N U → (r : Result Walked Refusal)
         → WalkEnded (pass (marked M) (marked N) (n - from.count) (buckets_up_to x.start x.end)) from before after r
         → WalkIs n (λ x. k ∷ []) (key_walk R U (n - from.count) k) from before after r
     key-run {M} {N} {x} f end m u r e =

@@ -11,7 +11,7 @@ ghost use Rattle.freespace.specs.Walks.{Walkable, key_walk, unwalked, WalkEnded,
 
 use crate::runs;
 use crate::runs::Run;
-use bucket_bits::marks;
+use bucket_bits::marks::BucketBits;
 use reader::refusal::Refusal;
 use wire::kinds;
 use wire::kinds::Bucket;
@@ -27,93 +27,83 @@ pub struct Walked {
     pub left: u32,
 }
 
-// Walks a run until n buckets are taken: refusal 13 where one of them is used. `walk_key` shows what is asked.
-fn walk_run(
-    run: Run,
-    reserved: &[u8; 8192],
-    used: &[u8; 8192],
-    n: usize,
-    from: Walked,
-    taken: &mut [Bucket],
-) -> Result<Walked, Refusal>
-    requires { (run.end.0 ≤ 65536) × (from.count ≤ n) × (n ≤ length taken.old) × (from.passed < 2 ^ 63) }
-    ensures { WalkEnded (pass (marked reserved.now) (marked used.now) (n - from.count) (buckets_up_to run.start run.end)) from taken.old taken.new result }
-{
-    let mut count = from.count;
-    let mut left: u32 = 0;
-    let mut met_used = false;
-    for number in run.start.0..run.end.0 {
-        let b = Bucket(number);
-        if count == n {
-            left = kinds::buckets_between(b, run.end);
-            break;
-        }
-        if !marks::is_marked(reserved, b) {
-            met_used |= marks::is_marked(used, b);
-            taken[count] = b;
-            count += 1;
-        }
-    }
-    if met_used {
-        return Err(Refusal::BucketInUse);
-    }
-    Ok(Walked {
-        count,
-        passed: from.passed + 1,
-        left,
-    })
+// What the walk goes by: a list, the bits of its reserved buckets and of those in use, and how many buckets are wanted.
+#[derive(Clone, Copy, Drop)]
+pub struct Walker<'a> {
+    pub list: &'a [u8],
+    pub reserved: &'a BucketBits,
+    pub used: &'a BucketBits,
+    pub wanted: usize,
+    pub ghost tables: { Tables list.now reserved.now used.now },
 }
 
-// Walks one key, if it is a run. `take_buckets` shows what is asked.
-fn walk_key(
-    s: &[u8],
-    at: usize,
-    reserved: &[u8; 8192],
-    used: &[u8; 8192],
-    n: usize,
-    from: Walked,
-    taken: &mut [Bucket],
-) -> Result<Walked, Refusal>
-    requires { Walkable s.now at reserved.now used.now n from taken.old }
-    ensures { WalkIs n (λ w. key_here s.now at ∷ []) (key_walk (is_in (read_volume s.now).reserved) (is_used (read_volume s.now).trees.alloc) (n - from.count) (key_here s.now at)) from taken.old taken.new result }
-{
-    if runs::began_early(s, at) {
-        return Err(Refusal::RunBeforeBuckets);
-    }
-    match runs::run_of(s, at) {
-        Some(run) => walk_run(run, reserved, used, n, from, taken),
-        None => Ok(Walked {
-            count: from.count,
+impl<'a> Walker<'a> {
+    // Walks a run until all buckets are taken: refusal 13 where one of them is used. `walk_key` shows what is asked.
+    fn walk_run(&self, run: Run, from: Walked, taken: &mut [Bucket]) -> Result<Walked, Refusal>
+        requires { (run.end.0 ≤ 65536) × (from.count ≤ self.now.wanted) × (self.now.wanted ≤ length taken.old) × (from.passed < 2 ^ 63) }
+        ensures { WalkEnded (pass (marked self.now.reserved.now) (marked self.now.used.now) (self.now.wanted - from.count) (buckets_up_to run.start run.end)) from taken.old taken.new result }
+    {
+        let mut count = from.count;
+        let mut left: u32 = 0;
+        let mut met_used = false;
+        for number in run.start.0..run.end.0 {
+            let b = Bucket(number);
+            if count == self.wanted {
+                left = kinds::buckets_between(b, run.end);
+                break;
+            }
+            if !self.reserved.is_marked(b) {
+                met_used |= self.used.is_marked(b);
+                taken[count] = b;
+                count += 1;
+            }
+        }
+        if met_used {
+            return Err(Refusal::BucketInUse);
+        }
+        Ok(Walked {
+            count,
             passed: from.passed + 1,
-            left: 0,
-        }),
+            left,
+        })
     }
-}
 
-// Takes n buckets from the runs, in their order. Refusals 2 and 3, the reader, the lent table, `mark_reserved` and `mark_used` show the rest.
-pub fn take_buckets(
-    s: &[u8],
-    runs: &[u32],
-    reserved: &[u8; 8192],
-    used: &[u8; 8192],
-    n: usize,
-    taken: &mut [Bucket],
-) -> Result<Walked, Refusal>
-    requires { Checked s.now × KeysAt s.now runs.now (read_volume s.now).trees.freespace × (n ≤ length taken.old) × Tables s.now reserved.now used.now }
-    ensures { WalkIs n (λ w. take w.passed (read_volume s.now).trees.freespace) (walk (is_in (read_volume s.now).reserved) (is_used (read_volume s.now).trees.alloc) n (runs_of (read_volume s.now).trees.freespace)) unwalked taken.old taken.new result }
-{
-    let mut w = Walked {
-        count: 0,
-        passed: 0,
-        left: 0,
-    };
-    for at in runs {
-        if w.count == n {
-            return Ok(w);
+    // Walks one key, if it is a run. `take_buckets` shows what is asked.
+    fn walk_key(&self, at: usize, from: Walked, taken: &mut [Bucket]) -> Result<Walked, Refusal>
+        requires { Walkable self.now.list.now at self.now.wanted from taken.old }
+        ensures { WalkIs self.now.wanted (λ w. key_here self.now.list.now at ∷ []) (key_walk (is_in (read_volume self.now.list.now).reserved) (is_used (read_volume self.now.list.now).trees.alloc) (self.now.wanted - from.count) (key_here self.now.list.now at)) from taken.old taken.new result }
+    {
+        if runs::began_early(self.list, at) {
+            return Err(Refusal::RunBeforeBuckets);
         }
-        w = walk_key(s, *at as usize, reserved, used, n, w, taken)?;
+        match runs::run_of(self.list, at) {
+            Some(run) => self.walk_run(run, from, taken),
+            None => Ok(Walked {
+                count: from.count,
+                passed: from.passed + 1,
+                left: 0,
+            }),
+        }
     }
-    Ok(w)
+
+    // Takes the buckets that are wanted from the runs, in their order. Refusals 2 and 3, the reader and the lent table show the rest.
+    pub fn take_buckets(&self, runs: &[u32], taken: &mut [Bucket]) -> Result<Walked, Refusal>
+        requires { Checked self.now.list.now × KeysAt self.now.list.now runs.now (read_volume self.now.list.now).trees.freespace × (self.now.wanted ≤ length taken.old) }
+        ensures { WalkIs self.now.wanted (λ w. take w.passed (read_volume self.now.list.now).trees.freespace) (walk (is_in (read_volume self.now.list.now).reserved) (is_used (read_volume self.now.list.now).trees.alloc) self.now.wanted (runs_of (read_volume self.now.list.now).trees.freespace)) unwalked taken.old taken.new result }
+    {
+        let mut w = Walked {
+            count: 0,
+            passed: 0,
+            left: 0,
+        };
+        for at in runs {
+            if w.count == self.wanted {
+                return Ok(w);
+            }
+            w = self.walk_key(*at as usize, w, taken)?;
+        }
+        Ok(w)
+    }
 }
 
 // The walk, with its tables filled. Refusals 2 and 3, the reader and the lent table show what is asked.
@@ -128,9 +118,13 @@ pub fn walk_runs(
     requires { Checked s.now × KeysAt s.now alloc.now (read_volume s.now).trees.alloc × KeysAt s.now runs.now (read_volume s.now).trees.freespace × BucketsAt s.now reserved.now (read_volume s.now).reserved × (n ≤ length taken.old) }
     ensures { WalkIs n (λ w. take w.passed (read_volume s.now).trees.freespace) (walk (is_in (read_volume s.now).reserved) (is_used (read_volume s.now).trees.alloc) n (runs_of (read_volume s.now).trees.freespace)) unwalked taken.old taken.new result }
 {
-    let mut reserved_bits = [0u8; 8192];
-    let mut used_bits = [0u8; 8192];
-    marks::mark_reserved(s, reserved, &mut reserved_bits);
-    marks::mark_used(s, alloc, &mut used_bits);
-    take_buckets(s, runs, &reserved_bits, &used_bits, n, taken)
+    let reserved = BucketBits::of_reserved(s, reserved);
+    let used = BucketBits::of_used(s, alloc);
+    let walker = Walker {
+        list: s,
+        reserved: &reserved,
+        used: &used,
+        wanted: n,
+    };
+    walker.take_buckets(runs, taken)
 }

@@ -10,9 +10,9 @@ use Rattle.calls.specs.Pieces.{Slot, next_fit}
 use Rattle.reader.specs.declared.piece.Piece.{Piece}
 use Rattle.next_fit.specs.Fit.{slot_number, slots_in, fit_slot, fit_piece, lay, unused}
 use Rattle.next_fit.specs.declared.slot.Open.{Open}
-use Rattle.next_fit.proofs.NextFitLaws.{fit_none}
+use Rattle.next_fit.proofs.NextFitLaws.{fit-used, fit_none}
 use Rattle.next_fit.proofs.SlotLaws.{number_read, slots-put}
-use Rattle.next_fit.proofs.LayLaws.{no_piece, lay-more, lay-end, index-grows, offset-within, slots_next}
+use Rattle.next_fit.proofs.LayLaws.{no_piece, slot_is, lay-more, lay-end, index-grows, offset-within, slots_next}
 
 -- the sectors of some pieces
 abbrev pub stored : List Piece → List ℕ
@@ -38,8 +38,8 @@ module _ {B at : ℕ} {ps : List Piece} {c : Open} {ts : List ℕ} (d : LaidUpTo
       ≡ fit_slot B c piece ∷ next_fit B (fit_piece B c piece).index (fit_piece B c piece).used (stored (drop (at + 1) ps))
   rest-is l = rw (add-one, drop-cons ps at no_piece l) (slots_next B c piece (stored (drop (suc at) ps)))
 
-  pub laid_next : at < length ps → length ps ≤ length ts → (fit_piece B c piece).used < 65536 → LaidUpTo B ps (at + 1) (fit_piece B c piece) (set ts at (slot_number (fit_slot B c piece)))
-  laid_next l k z =
+  laid-on : at < length ps → length ps ≤ length ts → (fit_piece B c piece).used < 65536 → LaidUpTo B ps (at + 1) (fit_piece B c piece) (set ts at (slot_number (fit_slot B c piece)))
+  laid-on l k z =
       let n = slot_number (fit_slot B c piece) in
       record {
         upto = omega (arith, l);
@@ -54,6 +54,13 @@ module _ {B at : ℕ} {ps : List Piece} {c : Open} {ts : List ℕ} (d : LaidUpTo
         below = omega (arith, index-grows B c piece, d.below);
         short = z;
       }
+
+  -- by the slot that next fit gives the next piece
+  module _ (t : Slot) (e : next_fit B c.index c.used (piece.stored ∷ []) ≡ t ∷ []) where
+    pub laid_next : at < length ps → length ps ≤ length ts → B < 65536 → piece.stored < 65536
+        → LaidUpTo B ps (at + 1) (record { index = t.index; used = t.offset + piece.stored }) (set ts at (slot_number t))
+    unfolding fit_piece
+    laid_next l k b z = rw (slot_is B c piece t e) at (laid-on l k (rw (← slot_is B c piece t e) at (fit-used B c.index c.used piece.stored t e z b)))
 
   -- at the end all are
   pub laid_end : length ps ≤ at → (c ≡ lay B unused ps) × (slots_in (take (length ps) ts) ≡ next_fit B 0 0 (stored ps))

@@ -1,5 +1,5 @@
 // Next fit: which bucket a piece goes into.
-ghost use Rattle.std.specs.Prelude.{◌≡◌, ◌<◌, ◌^◌, [], ◌∷◌, length, get_or};
+ghost use Rattle.std.specs.Prelude.{◌≡◌, ◌<◌, ◌^◌, [], ◌∷◌};
 ghost use Rattle.calls.specs.Pieces.{next_fit};
 ghost use Rattle.next_fit.specs.Fit.{slot_in, slot_number, slot_of};
 
@@ -46,17 +46,16 @@ impl Slot {
     {
         (self.index as u64 * 65536 + self.offset) as u32
     }
-}
 
-// The slot at an index of a table.
-#[tactic(auto, unfolding(crate::specs::Fit::slot_of))]
-pub fn slot_at(slots: &[u32], i: usize) -> Slot
-    requires { i < length slots.now }
-    ensures { slot_in result ≡ slot_of (get_or slots.now i 0) }
-{
-    let n = slots[i] as u64;
-    Slot {
-        index: (n / 65536) as usize,
-        offset: n % 65536,
+    // The slot whose number a table holds.
+    #[tactic(auto, unfolding(crate::specs::Fit::slot_of))]
+    pub fn of_number(number: u32) -> Slot
+        ensures { slot_in result ≡ slot_of number }
+    {
+        let n = number as u64;
+        Slot {
+            index: (n / 65536) as usize,
+            offset: n % 65536,
+        }
     }
 }

@@ -4,7 +4,7 @@ ghost use Rattle.calls.specs.Place.{placed_of, walk_of};
 ghost use Rattle.calls.specs.Answers.{read_call};
 ghost use Rattle.place_keys.specs.Plan.{PlanKnown, Dirty};
 
-use next_fit::slot;
+use next_fit::slot::Slot;
 use reader::piece;
 
 // Adds each piece's stored sectors to the count of its bucket; the counts are 0 before.
@@ -15,7 +15,7 @@ pub fn fill_dirty(dirty: &mut [u32], s: &[u8], pieces: &[u32], slots: &[u32])
 {
     for (i, at) in pieces.iter().enumerate() {
         let piece = piece::read_piece(s, *at as usize);
-        let slot = slot::slot_at(slots, i);
+        let slot = Slot::of_number(slots[i]);
         dirty[slot.index] += piece.stored as u32;
     }
 }

@@ -28,8 +28,8 @@ pub fn put_lrus(out: &mut Output, taken: &[Bucket], dirty: &[u32], sectors: u64)
     ensures { (ps : List calls.Placed) → Dirty ps taken.now dirty.now → (out.new ≡ with_bytes out.old (keys_bytes 10 (flat_map (λ b. lru_keys sectors b (dirty_in ps b)) taken.now))) × (result ≡ lru_wanted sectors (map (dirty_in ps) taken.now)) }
 {
     let mut root_wanted = false;
-    for (i, b) in taken.iter().enumerate() {
-        root_wanted |= put_lru(out, *b, dirty[i], sectors);
+    for (b, stored) in taken.iter().zip(dirty) {
+        root_wanted |= put_lru(out, *b, *stored, sectors);
     }
     root_wanted
 }

@@ -4,7 +4,6 @@ ghost use Rattle.place_keys.specs.Plan as specs;
 ghost use Rattle.place_keys.specs.Plan.{Reached, PieceStepped};
 
 use crate::placed::Placed;
-use next_fit::slot;
 use next_fit::slot::Slot;
 use reader::head::Head;
 use reader::piece;
@@ -12,6 +11,7 @@ use wire::kinds;
 use wire::kinds::{Bucket, FileSector};
 
 // What planning hands over: a list, where its pieces stand, the numbers of their slots, the buckets taken, their generations and the head.
+// The buckets, their generations and, beside a plan, their dirty counts are tables of their own: the walk fills the first, a lookup the second, a sum over the pieces the third.
 #[derive(Clone, Copy, Drop)]
 pub struct Plan<'a> {
     pub list: &'a [u8],
@@ -45,7 +45,7 @@ impl<'a> Plan<'a> {
         ensures is { slot_in result ≡ slot_of (get_or self.now.slots.now i 0) }
         ensures in_bounds { (result.index < length self.now.taken.now) × (result.index < length self.now.gens.now) × (result.offset < 65536) }
     {
-        slot::slot_at(self.slots, i)
+        Slot::of_number(self.slots[i])
     }
 
     // Piece i at its place: its extent starts where the last one ends.

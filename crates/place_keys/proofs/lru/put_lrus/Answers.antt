@@ -1,7 +1,9 @@
-use Rattle.std.proofs.Common.{arith, sym, ap, ◌∙◌, map, drop, get_or, Bool, ℕ, ◌≡◌, ◌||◌, ◌+◌}
+use Rattle.std.proofs.Common.{arith, sym, ap, ◌∙◌, map, drop, get_or, Bool, ℕ, ◌≡◌, ◌||◌, ◌+◌, length, [], ◌∷◌, ◌++◌, length-append}
 use lib.ListN.{drop_of_length-le}
+use Rattle.std.proofs.lemmas.Slice.Zip.{zip_turn, zip_end}
 use Rattle.wire.specs.Encode.{key_field}
 use Rattle.wire.specs.Kinds.{no_bucket}
+use Rattle.wire.specs.declared.kinds.Bucket.{Bucket}
 use Rattle.wire.specs.Output.{with_bytes}
 use Rattle.wire.proofs.OutputLaws.{drop-next}
 use Rattle.calls.specs.Lru.{part_filled, lru_keys, lru_wanted}
@@ -13,28 +15,35 @@ use Rattle.place_keys.proofs.RootLaws.{wanted-next, wanted-none}
 use Rattle.place_keys.proofs.WalkLaws.{run-put, all-put}
 use Rattle.place_keys.proofs.lru.put_lrus.Goals as goal
 
-pub loop-i-preserved : goal.loop-i-preserved
-loop-i-preserved c =
-    let i = c.loop-i.i in
+pub loop-b-preserved : goal.loop-b-preserved
+loop-b-preserved c =
+    let i = length c.loop-b.yielded in
     let bs = c.args.taken.now in
     let n = c.args.sectors in
     let b = get_or bs i no_bucket in
-    let next = drop-next no_bucket bs i (omega arith) in
-    λ ps d.
-    let e : get_or c.args.dirty.now i 0 ≡ dirty_in ps b = d.at i (omega arith) ∙ ap (dirty_in ps) (sym (bucket-at bs i)) in
-    let q = c.loop-i.invariant ps d in (
-      run-put c.loop-i.out _ _ (flat-next (key_field 10) (λ a. lru_keys n a (dirty_in ps a)) next)
-          (c.put_lru-root_wanted.ensures.0 ∙ ap (λ (z : ℕ). with_bytes c.loop-i.out (keys_bytes 10 (lru_keys n b z))) e)
+    let first = ap (λ z. z.a.rest.now) c.into_iter-b-iterator.ensures.into_iter_gives ∙ ap (λ z. z.rest.now) c.zip-b-items.ensures.first ∙ c.iter.ensures.rest in
+    let second = ap (λ z. z.b.rest.now) c.into_iter-b-iterator.ensures.into_iter_gives ∙ c.zip-b-items.ensures.second.0 in
+    let turn = zip_turn bs c.args.dirty.now c.loop-b.yielded _ c.loop-b.b-iterator c.next.new.self c.next.result first second c.loop-b.yielded_by _ c.in-Some.is c.next.ensures.steps in
+    let next = drop-next no_bucket bs i turn.0 in
+    let more : length (c.loop-b.yielded ++ (c.in-Some.b, c.in-Some.stored) ∷ []) ≡ i + 1 = length-append c.loop-b.yielded _ in
+    rw more λ ps d.
+    let e : c.in-Some.stored.now ≡ dirty_in ps b = turn.3 0 ∙ d.at i turn.0 ∙ ap (dirty_in ps) (sym (bucket-at bs i)) in
+    let q = c.loop-b.invariant ps d in (
+      run-put c.loop-b.out _ _ (flat-next (key_field 10) (λ a. lru_keys n a (dirty_in ps a)) next)
+          (c.put_lru-root_wanted.ensures.0 ∙ ap (λ (y : Bucket). with_bytes c.loop-b.out (keys_bytes 10 (lru_keys n y c.in-Some.stored.now))) (turn.2 no_bucket) ∙ ap (λ (z : ℕ). with_bytes c.loop-b.out (keys_bytes 10 (lru_keys n b z))) e)
           ∙ q.0,
-      ap (λ (t : Bool). (c.loop-i.root_wanted || t) || lru_wanted n (map (dirty_in ps) (drop (i + 1) bs))) (c.put_lru-root_wanted.ensures.1 ∙ ap (part_filled n) e)
-          ∙ wanted-next n (dirty_in ps) c.loop-i.root_wanted next q.1,
+      ap (λ (t : Bool). (c.loop-b.root_wanted || t) || lru_wanted n (map (dirty_in ps) (drop (i + 1) bs))) (c.put_lru-root_wanted.ensures.1 ∙ ap (part_filled n) e)
+          ∙ wanted-next n (dirty_in ps) c.loop-b.root_wanted next q.1,
     )
 
 pub returns : goal.returns
 returns c =
-    let none = drop_of_length-le c.args.taken.now {i = c.loop-i.i} (omega arith) in
+    let first = ap (λ z. z.a.rest.now) c.into_iter-b-iterator.ensures.into_iter_gives ∙ ap (λ z. z.rest.now) c.zip-b-items.ensures.first ∙ c.iter.ensures.rest in
+    let second = ap (λ z. z.b.rest.now) c.into_iter-b-iterator.ensures.into_iter_gives ∙ c.zip-b-items.ensures.second.0 in
+    let end = zip_end c.args.taken.now c.args.dirty.now c.loop-b.yielded _ c.loop-b.b-iterator c.next.new.self c.next.result first second c.loop-b.yielded_by c.in-None.is c.next.ensures.steps in
+    let none = drop_of_length-le c.args.taken.now {i = length c.loop-b.yielded} (omega (arith, end, c.requires.taken_in_bounds.0)) in
     λ ps d.
-    let q = c.loop-i.invariant ps d in (
-      sym (all-put c.loop-i.out (flat-none (key_field 10) (λ b. lru_keys c.args.sectors b (dirty_in ps b)) none)) ∙ q.0,
-      wanted-none c.args.sectors (dirty_in ps) c.loop-i.root_wanted none q.1,
+    let q = c.loop-b.invariant ps d in (
+      sym (all-put c.loop-b.out (flat-none (key_field 10) (λ b. lru_keys c.args.sectors b (dirty_in ps b)) none)) ∙ q.0,
+      wanted-none c.args.sectors (dirty_in ps) c.loop-b.root_wanted none q.1,
     )

@@ -1,7 +1,7 @@
 use Rattle.std.proofs.Common.{◌||◌, arith, sym, ap, ◌∙◌}
 use Rattle.freespace.proofs.WalkLaws.{ahead-skip, ahead-take, ahead-full, ahead-done}
-use Rattle.freespace.proofs.take.walk_run.Goals as goal
-use Rattle.freespace.proofs.take.walk_run.Goals.{then-not-is_marked, else-not-is_marked, else-loop-number-test, then-loop-number-test+then-count-n}
+use Rattle.freespace.proofs.take.Walker.walk_run.Goals as goal
+use Rattle.freespace.proofs.take.Walker.walk_run.Goals.{then-not-is_marked, else-not-is_marked, else-loop-number-test, then-loop-number-test+then-count-self}
 
 pub loop-number-preserved : goal.loop-number-preserved
 loop-number-preserved c =
@@ -23,6 +23,6 @@ returns c =
     let a = c.loop-number.invariant.ahead in
     elim c.loop-number-test.branch [
       | else-loop-number-test w ↦ rw (w.left-is, c.loop-number.invariant.left) (ahead-done _ _ a c.if-met_used.false w.loop-number-test.false)
-      | then-loop-number-test+then-count-n w ↦
-          rw w.left-is (ahead-full _ _ a c.if-met_used.false w.if-count-n.true w.buckets_between-left.ensures)
+      | then-loop-number-test+then-count-self w ↦
+          rw w.left-is (ahead-full _ _ a c.if-met_used.false w.if-count-self.true w.buckets_between-left.ensures)
     ]

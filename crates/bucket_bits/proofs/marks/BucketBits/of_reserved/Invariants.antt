@@ -2,7 +2,7 @@ use Rattle.std.proofs.Common.{drop}
 use Rattle.wire.specs.Kinds.{same_bucket}
 use Rattle.calls.specs.Answers.{read_volume}
 use Rattle.bucket_bits.proofs.MarkLaws.{Marking}
-use Rattle.bucket_bits.proofs.marks.mark_reserved.Given as goal
+use Rattle.bucket_bits.proofs.marks.BucketBits.of_reserved.Given as goal
 
 abbrev pub invariant-loop-at : goal.invariant-loop-at
 invariant-loop-at l =

@@ -3,7 +3,7 @@ use Rattle.reader.specs.KeyHere.{key_here}
 use Rattle.reader.proofs.CheckedLaws.{range_at}
 use Rattle.bucket_bits.specs.Bits.{used_mark}
 use Rattle.bucket_bits.proofs.MarkLaws.{used-inode-0}
-use Rattle.bucket_bits.proofs.marks.mark_key.Goals as goal
+use Rattle.bucket_bits.proofs.marks.BucketBits.mark_key.Goals as goal
 
 pub mark-requires : goal.mark-requires
 mark-requires c =

@@ -2,10 +2,10 @@ use Rattle.std.proofs.Common.{sym, ◌∙◌, arith}
 use Rattle.reader.proofs.CheckedLaws.{trees-in-order}
 use Rattle.reader.proofs.KeyHereLaws.{whole-at}
 use Rattle.bucket_bits.proofs.MarkLaws.{marking-start, marking-end, uses_bucket, used-any, used-ranged, used-more}
-use Rattle.bucket_bits.proofs.marks.mark_used.Goals as goal
+use Rattle.bucket_bits.proofs.marks.BucketBits.of_used.Goals as goal
 
 pub loop-at-init : goal.loop-at-init
-loop-at-init c = marking-start uses_bucket _ _ c.requires.2
+loop-at-init c = marking-start uses_bucket _ _ c.new-bits.ensures
 
 pub mark_key-requires : goal.mark_key-requires
 mark_key-requires c =

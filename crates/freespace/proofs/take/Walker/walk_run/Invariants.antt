@@ -1,0 +1,14 @@
+use Rattle.std.proofs.Common.{◌-◌, ◌≡◌}
+use Rattle.wire.specs.Kinds.{bucket_is, buckets_up_to}
+use Rattle.calls.specs.Freespace.{pass}
+use Rattle.bucket_bits.specs.Bits.{marked}
+use Rattle.freespace.proofs.WalkLaws.{Ahead}
+use Rattle.freespace.proofs.take.Walker.walk_run.Given as goal
+
+abbrev pub invariant-loop-number : goal.invariant-loop-number
+invariant-loop-number l =
+    let all = pass (marked l.self.reserved.now) (marked l.self.used.now) (l.self.wanted - l.fn.from.count) (buckets_up_to l.run.start l.run.end) in
+    record {
+      ahead : Ahead (marked l.self.reserved.now) (marked l.self.used.now) all l.self.wanted l.fn.from l.fn.taken l.run.end (bucket_is l.number) l.count l.met_used l.taken;
+      left : l.left ≡ 0;
+    }
