@@ -1,13 +1,12 @@
 -- Laws of rows: those that are left out, rows one after the other, signed arguments.
-use mathlib.Core.Path.{◌≡◌, refl, sym, ap, ◌∙◌}
-use mathlib.Core.Bool.{Bool, true, false, not, ◌||◌}
+use mathlib.Core.Path.{◌≡◌, sym, ap, ◌∙◌}
+use mathlib.Core.Bool.{Bool, true, false, not}
 use mathlib.Core.List.{List, [], ◌∷◌, ◌++◌, map}
 use Prim.Native.Nat.{◌<◌, ◌^◌}
 use lib.IntN.{ℤ}
 use lib.Signed.{mag}
 use mir.Syntax.{w64}
 use mir.Val.{to_z, of_z}
-use Rattle.std.specs.List.{list_any}
 use Rattle.wire.specs.Encode.{encode}
 use Rattle.wire.specs.declared.output.Output.{Output}
 use Rattle.wire.specs.Output.{with_bytes}
@@ -23,12 +22,6 @@ use Rattle.accounting.specs.RowBytes.{rows_bytes}
 -- a row has a number other than 0
 abbrev pub is_other : ℤ → Bool
 is_other z = not (is_zero z)
-
--- the same of a list, in std's word
-pub any-listed : {A : Type 0} (t : A → Bool) (xs : List A) → list_any t xs ≡ any_of t xs
-unfolding any_of
-any-listed t [] = refl
-any-listed t (x ∷ xs) = ap (λ (b : Bool). t x || b) (any-listed t xs)
 
 pub counted-one : (r : Counters) → any_of is_other r.numbers ≡ true → counted_rows (r ∷ []) ≡ r ∷ []
 unfolding counted_rows

@@ -2,7 +2,7 @@
 use mathlib.Core.Path.{◌≡◌, refl, ap, sym, ◌∙◌}
 use mathlib.Core.Bool.{Bool, true, false, ◌&&◌, and-true, and-false}
 use mathlib.Core.List.{List, [], ◌∷◌, ◌++◌, append_assoc}
-use Prim.Native.Nat.{ℕ}
+use Prim.Native.Nat.{ℕ, ◌<◌}
 use native.Mathlib.Omega.{arith}
 use lib.Dec.{leb}
 use lib.ListN.{length}
@@ -15,11 +15,7 @@ use Rattle.calls.specs.Answers.{answered, answer, read_volume, next_volume, appl
 use Rattle.calls.proofs.answers.AnswerLaws.{apply-is}
 use Rattle.calls.proofs.answers.OutcomeLaws.{answer-stops, refused}
 use Rattle.calls.proofs.answers.RefusalLaws.{verdict-first}
-use Rattle.reader.specs.Readings.{volume_refusal, ListRead}
-use Rattle.reader.proofs.PartsLaws.{volume-passed}
-use Rattle.reader.specs.declared.head.Head.{Head}
-use Rattle.reader.specs.declared.table.Ends.{Ends}
-use Rattle.apply.specs.NextVolume.{Ready}
+use Rattle.reader.specs.Readings.{volume_refusal}
 
 -- the tests of a volume behind that of its layout
 abbrev later_tests : List ℕ → List ℕ
@@ -29,28 +25,6 @@ later_tests vol = test 22 (none_twice (read_volume vol)) ∷ test 3 (volume_with
 refusal_is : (vol : List ℕ) → volume_refusal vol ≡ verdict (test 2 (volume_laid_out vol) ∷ later_tests vol)
 unfolding volume_refusal
 refusal_is vol = refl
-
--- it is 2 only where the layout is broken
-only-layout : (a b c : Bool) → verdict (test 2 a ∷ test 22 b ∷ test 3 c ∷ []) ≡ 2 → a ≡ false
-unfolding verdict
-only-layout false b c e = refl
-only-layout true false c e = absurd (omega arith)
-only-layout true true false e = absurd (omega arith)
-only-layout true true true e = absurd (omega arith)
-
-module _ (vol : List ℕ) {number : ℕ} (read : number ≡ volume_refusal vol) where
-  -- a volume that is refused with 2
-  broken : number ≡ 2 → volume_laid_out vol ≡ false
-  broken e =
-      only-layout (volume_laid_out vol) (none_twice (read_volume vol)) (volume_within (read_volume vol)) (sym (read ∙ refusal_is vol) ∙ e)
-
-  -- what the writing of the next volume asks
-  pub ready :
-      {index : List ℕ} {h : Head} {ends : Ends} {list : List ℕ} → number ≡ 0 → ListRead 0 vol index h ends → change_laid_out list ≡ true
-      → Ready vol index h ends list
-  ready e r c =
-      let p = volume-passed vol (sym e ∙ read) in
-      record { laid = p.laid; once = p.once; within = p.within; change = c; read = r }
 
 -- the answers
 
@@ -80,19 +54,12 @@ module _ (vol list xs : List ℕ) where
   gives-2 : (volume_laid_out vol && change_laid_out list) ≡ false → made 2 0 xs ≡ outcome (apply vol list room) xs
   gives-2 e = refused 2 xs (answer-by false e ∙ answer-stops 2 (later_tests vol ++ next) bytes room (λ z. omega arith)) refl
 
-  pub volume-broken : {number : ℕ} → number ≡ volume_refusal vol → number ≡ 2 → made number 0 xs ≡ outcome (apply vol list room) xs
-  volume-broken r e = rw e (gives-2 (ap (λ (t : Bool). t && change_laid_out list) (broken vol r e)))
-
   pub change-broken : change_laid_out list ≡ false → made 2 0 xs ≡ outcome (apply vol list room) xs
   change-broken e = gives-2 (ap (λ (t : Bool). volume_laid_out vol && t) e ∙ and-false (volume_laid_out vol))
 
   -- the volume's own refusal, where the change list keeps its layout
-  pub volume-refused :
-      {number : ℕ} → number ≡ volume_refusal vol → change_laid_out list ≡ true → (number ≡ 0 → ⊥) → made number 0 xs ≡ outcome (apply vol list room) xs
-  volume-refused {number} r c f =
-      let e : number ≡ verdict (test 2 (volume_laid_out vol) ∷ later_tests vol) = r ∙ refusal_is vol in
-      refused number xs
-      (answer-by (volume_laid_out vol) (ap (λ (t : Bool). volume_laid_out vol && t) c ∙ and-true (volume_laid_out vol))
-      ∙ answer-first (test 2 (volume_laid_out vol) ∷ later_tests vol) next bytes room (λ z. f (e ∙ z))
-      ∙ (λ i. record { number = sym e i; written = [] }))
-      refl
+  pub volume-refused : change_laid_out list ≡ true → 0 < volume_refusal vol → apply vol list room ≡ record { number = volume_refusal vol; written = [] }
+  volume-refused c f =
+      answer-by (volume_laid_out vol) (ap (λ (t : Bool). volume_laid_out vol && t) c ∙ and-true (volume_laid_out vol))
+      ∙ answer-first (test 2 (volume_laid_out vol) ∷ later_tests vol) next bytes room (λ z. omega (arith, refusal_is vol ∙ z))
+      ∙ (λ i. record { number = sym (refusal_is vol) i; written = [] })

@@ -8,14 +8,15 @@ use lib.Dec.{leb}
 use lib.ListN.{length, drop, get_or}
 use borrow.Author.Tests.{le-leb, lt-leb}
 use Rattle.reader.specs.Heads.{head_in}
-use Rattle.reader.specs.declared.head.Head.{Head}
-use Rattle.reader.specs.declared.table.Ends.{Ends}
+use Rattle.reader.specs.declared.read_list.ReadList.{ReadList}
+use Rattle.reader.proofs.PartsLaws.{volume-passed}
 use Rattle.wire.specs.Numbers.{each}
 use Rattle.wire.specs.Output.{cap, with_bytes}
 use Rattle.wire.specs.declared.output.Output.{Output}
 use Rattle.wire.proofs.AppendLaws.{with-none, with-with}
 use Rattle.wire.proofs.OutputLaws.{drop-next, each_next, each_none}
 use Rattle.calls.specs.Lists.{all_of}
+use Rattle.calls.specs.CallList.{volume_laid_out, none_twice}
 use Rattle.calls.specs.Limits.{volume_within}
 use Rattle.calls.specs.ChangeList.{change_laid_out}
 use Rattle.calls.specs.Refusals.{test}
@@ -47,22 +48,23 @@ pub record Sectioning (n : Lists) (o o' : Output) (most i : ℕ) : Type 0 where
   pub fits : (leb most 4096 && all_of (next_within n.volume n.change) (drop i sections)) ≡ volume_within (next_volume n.volume n.change)
 
 -- what `roots_after` asks
-pub roots-ready : {vol index list : List ℕ} {h : Head} {e : Ends} → Ready vol index h e list → (h.roots < 8) × (change_laid_out list ≡ true)
-roots-ready {vol} r = (rw (ap (λ x. x.roots) r.read.head) (roots-low vol r.laid), r.change)
+pub roots-ready : {r : ReadList} {list : List ℕ} → Ready r list → (r.head.roots < 8) × (change_laid_out list ≡ true)
+roots-ready {r} q = (rw (ap (λ x. x.roots) q.read.read.head) (roots-low r.list.now (volume-passed r.list.now q.read.passed).laid), q.change)
 
-module _ {vol index list : List ℕ} {h : Head} {e : Ends} {roots : ℕ} (r : Ready vol index h e list) (b : roots ≡ roots_after list h.roots) where
+module _ {r : ReadList} {list : List ℕ} {roots : ℕ} (q : Ready r list) (b : roots ≡ roots_after list r.head.roots) where
   abbrev lists : Lists
-  lists = record { volume = vol; change = list }
+  lists = record { volume = r.list.now; change = list }
 
-  pub sections-start : {o o' : Output} → o' ≡ with_bytes o (front_bytes (head_in h) roots) → Sectioning lists o o' 0 0
+  pub sections-start : {o o' : Output} → o' ≡ with_bytes o (front_bytes (head_in r.head) roots) → Sectioning lists o o' 0 0
   sections-start {o} f =
-      let g : roots ≡ roots_after list (read_volume vol).head.roots = b ∙ ap (λ x. roots_after list x.roots) r.read.head in
+      let vol = r.list.now in
+      let g : roots ≡ roots_after list (read_volume vol).head.roots = b ∙ ap (λ x. roots_after list x.roots) q.read.read.head in
       record {
         wrote =
-            ap (λ (x : Output). with_bytes x (each (next_bytes vol list) sections)) (rw (g, r.read.head) at f)
+            ap (λ (x : Output). with_bytes x (each (next_bytes vol list) sections)) (rw (g, q.read.read.head) at f)
             ∙ with-with o _ _
-            ∙ ap (with_bytes o) (sym (next-bytes vol list r.change));
-        fits = sym (next-within vol list r.change r.within);
+            ∙ ap (with_bytes o) (sym (next-bytes vol list q.change));
+        fits = sym (next-within vol list q.change (volume-passed vol q.read.passed).within);
       }
 
 module _ {n : Lists} {o o' : Output} {most i : ℕ} (c : Sectioning n o o' most i) where
@@ -101,18 +103,23 @@ module _ {n : Lists} {o o' : Output} {most i : ℕ} (c : Sectioning n o o' most 
       ∙ ap (λ (us : List ℕ). leb most 4096 && all_of (next_within n.volume n.change) us) z
       ∙ and-true (leb most 4096)
 
-  pub sections-end : {index : List ℕ} {h : Head} {e : Ends} → Ready n.volume index h e n.change → i ≡ 7 → VolumeDone n o o' most
-  sections-end r e =
+  pub sections-end : {r : ReadList} {list : List ℕ} → Ready r list → r.list.now ≡ n.volume → list ≡ n.change → i ≡ 7 → VolumeDone n o o' most
+  sections-end {r} {list} q e f z =
       let bytes = bytes_after n in
+      let p = volume-passed r.list.now q.read.passed in
+      let laid : volume_laid_out n.volume ≡ true = rw (← e) p.laid in
+      let change : change_laid_out n.change ≡ true = rw (← f) q.change in
+      let once : none_twice (read_volume n.volume) ≡ true = rw (← e) p.once in
+      let within : volume_within (read_volume n.volume) ≡ true = rw (← e) p.within in
       record {
-        wrote = end-wrote e;
+        wrote = end-wrote z;
         answers =
             λ room.
             apply-is n.volume n.change room
-            ∙ answer-next _ _ bytes room (rw (r.laid, r.change))
-            ∙ answer-next _ _ bytes room (rw r.once)
-            ∙ answer-next _ _ bytes room (rw r.within)
-            ∙ ap (λ (b : Bool). answer (test 3 b ∷ []) bytes room) (end-fits e);
+            ∙ answer-next _ _ bytes room (rw (laid, change))
+            ∙ answer-next _ _ bytes room (rw once)
+            ∙ answer-next _ _ bytes room (rw within)
+            ∙ ap (λ (b : Bool). answer (test 3 b ∷ []) bytes room) (end-fits z);
       }
 
 -- the answers

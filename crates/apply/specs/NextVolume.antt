@@ -1,20 +1,18 @@
 -- What is asked before the next volume is written, and what is promised of each of its sections and of the whole.
-use Rattle.std.specs.Prelude.{◌≡◌, true, ℕ, List, [], ◌∷◌, map, leb}
+use Rattle.std.specs.Prelude.{◌≡◌, true, ℕ, None, List, [], ◌∷◌, map, leb}
 use Rattle.wire.specs.Bytes.{All}
 use Rattle.wire.specs.Fields.{fields}
 use Rattle.wire.specs.Keys.{Key}
 use Rattle.wire.specs.Output.{with_bytes}
 use Rattle.wire.specs.declared.output.Output.{Output}
-use Rattle.calls.specs.CallList.{volume_laid_out, none_twice, volume_bytes}
-use Rattle.calls.specs.Limits.{volume_within}
+use Rattle.calls.specs.CallList.{volume_bytes}
 use Rattle.calls.specs.ChangeList.{change_laid_out}
 use Rattle.calls.specs.Trees.{apply_queue}
 use Rattle.calls.specs.Refusals.{test}
-use Rattle.calls.specs.Answers.{answer, read_volume, next_volume, apply}
-use Rattle.reader.specs.Readings.{ListRead}
+use Rattle.calls.specs.Answers.{answer, next_volume, apply}
+use Rattle.reader.specs.Readings.{ReadAs}
 use Rattle.reader.specs.Table.{sorted_bodies}
-use Rattle.reader.specs.declared.head.Head.{Head}
-use Rattle.reader.specs.declared.table.Ends.{Ends}
+use Rattle.reader.specs.declared.read_list.ReadList.{ReadList}
 use Rattle.sorting.specs.Entries.{entries, entry_of}
 use Rattle.sorting.specs.EntryPlaces.{EntryAt, entries_at}
 use Rattle.merge.specs.Queues.{gather, ascending}
@@ -29,17 +27,10 @@ pub record Lists : Type 0 where
 abbrev pub bytes_after : Lists → List ℕ
 bytes_after n = volume_bytes (next_volume n.volume n.change)
 
--- where the places of each section end in the table of a volume
-abbrev pub ends_of : Ends → List ℕ
-ends_of e = e.alloc ∷ e.lru ∷ e.freespace ∷ e.need_discard ∷ e.backpointers ∷ e.gens ∷ e.reserved ∷ []
-
 -- refusals 2, 22 and 3 of the volume and 2 of the change list were tested, and the volume was read
-pub record Ready (vol index : List ℕ) (h : Head) (e : Ends) (list : List ℕ) : Type 0 where
-  pub laid : volume_laid_out vol ≡ true
-  pub once : none_twice (read_volume vol) ≡ true
-  pub within : volume_within (read_volume vol) ≡ true
+pub record Ready (r : ReadList) (list : List ℕ) : Type 0 where
+  pub read : ReadAs None r
   pub change : change_laid_out list ≡ true
-  pub read : ListRead 0 vol index h e
 
 -- the keys of section t of a volume, in order
 unfoldable pub section_keys : List ℕ → ℕ → List Key

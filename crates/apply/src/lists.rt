@@ -6,15 +6,14 @@ ghost use Rattle.sorting.specs.Entries.{sections};
 ghost use Rattle.merge.specs.Merging.{Done};
 ghost use Rattle.merge.specs.QueueTable.{InParts};
 ghost use Rattle.apply.specs.Roots.{roots_after};
-ghost use Rattle.apply.specs.NextVolume.{Lists, bytes_after, ends_of, Ready, next_of, SectionReady, QueueReady, VolumeDone};
+ghost use Rattle.apply.specs.NextVolume.{Lists, bytes_after, Ready, next_of, SectionReady, QueueReady, VolumeDone};
 
 use crate::front;
 use merge::{merge as merging, queue};
 use reader::answer;
 use reader::answer::Emit;
-use reader::head::Head;
+use reader::read_list::ReadList;
 use reader::refusal::Refusal;
-use reader::table::Ends;
 use sorting::entries;
 use std::marker::Model;
 use wire::output::Output;
@@ -22,46 +21,28 @@ use wire::output::Output;
 // How many keys a section may have.
 const MOST: usize = 4096;
 
-// What the next volume is made of: a volume and the table of its fields, with where the places of each section end; its head, with the root bits of the next; a change
-// list, and the table of its queued keys, with where those of each section end where the table holds them.
+// What the next volume is made of: a volume that was read, with the root bits of the next; a change list, and the table of its queued keys, with where those of each
+// section end where the table holds them.
 #[derive(Drop)]
 pub struct NextVolume<'a> {
-    vol: &'a [u8],
-    index: &'a [u32],
-    head: Head,
+    read: ReadList<'a>,
     roots: u8,
-    ends: Ends,
     list: &'a [u8],
     table: &'a [usize],
     queue: Option<[usize; 7]>,
 }
 
-// It is seen as both lists. Their layouts were tested, and the tables are theirs.
+// It is seen as both lists. Their layouts were tested, and the places are theirs.
 impl<'a> Model for NextVolume<'a> {
     ghost Value = { Lists };
 
-    ghost view = { λ n. record { volume = n.vol.now; change = n.list.now } };
+    ghost view = { λ n. record { volume = n.read.list.now; change = n.list.now } };
 
-    ghost invariant = { λ n. Ready n.vol.now n.index.now n.head n.ends n.list.now × (n.roots ≡ roots_after n.list.now n.head.roots) × InParts n.list.now n.table.now n.queue };
-}
-
-// Where the places of each section end in the table of a volume.
-fn section_ends(e: Ends) -> [usize; 7]
-    ensures { result ≡ ends_of e }
-{
-    [
-        e.alloc,
-        e.lru,
-        e.freespace,
-        e.need_discard,
-        e.backpointers,
-        e.gens,
-        e.reserved,
-    ]
+    ghost invariant = { λ n. Ready n.read n.list.now × (n.roots ≡ roots_after n.list.now n.read.head.roots) × InParts n.list.now n.table.now n.queue };
 }
 
 // The part of a table with an index: it begins where the part before ends.
-fn part<'a, T>(table: &'a [T], ends: [usize; 7], i: usize) -> &'a [T]
+fn part(table: &[usize], ends: [usize; 7], i: usize) -> &[usize]
     requires { (i < 7) × (get_or (0 ∷ ends) i 0 ≤ get_or ends i 0) × (get_or ends i 0 ≤ length table.now) }
     ensures { result.now ≡ take (get_or ends i 0 - get_or (0 ∷ ends) i 0) (drop (get_or (0 ∷ ends) i 0) table.now) }
 {
@@ -75,7 +56,17 @@ impl<'a> NextVolume<'a> {
         requires { i < 7 }
         ensures { SectionReady (get_or sections i 0) self.now.volume result.now }
     {
-        part(self.index, section_ends(self.ends), i)
+        let r = &self.read;
+        let sections = [
+            r.alloc,
+            r.lru,
+            r.freespace,
+            r.need_discard,
+            r.backpointers,
+            r.gens,
+            r.reserved,
+        ];
+        sections[i]
     }
 
     // The places of its queued keys, where the table holds them.
@@ -97,8 +88,15 @@ impl<'a> NextVolume<'a> {
         let section = entries::section_at(i);
         let keys = self.keys(i);
         match self.queued(i) {
-            Some(queue) => merging::put_section(out, self.vol, keys, self.list, section, queue),
-            None => merging::put_section_in_chunks(out, self.vol, keys, self.list, section),
+            Some(queue) => merging::put_section(
+                out,
+                self.read.list,
+                keys,
+                self.list,
+                section,
+                queue,
+            ),
+            None => merging::put_section_in_chunks(out, self.read.list, keys, self.list, section),
         }
     }
 
@@ -106,7 +104,7 @@ impl<'a> NextVolume<'a> {
     fn put(&self, out: &mut Output) -> usize
         ensures { VolumeDone self.now out.old out.new result }
     {
-        front::put_front(out, self.head, self.roots);
+        front::put_front(out, self.read.head, self.roots);
         let mut most: usize = 0;
         for i in 0..7 {
             most = most.max(self.put_section(out, i));
@@ -142,25 +140,19 @@ impl<'a> Emit for NextVolume<'a> {
 
 // Apply, with tables that are lent for the change list's queued keys.
 fn apply_with(
-    vol: &[u8],
-    index: &[u32],
-    h: Head,
-    e: Ends,
+    read: &ReadList,
     list: &[u8],
     table: &mut [usize],
     spare: &mut [usize],
     out: &mut [u8],
 ) -> Result<usize, Refusal>
-    requires { Ready vol.now index.now h e list.now × (length table.old / 2 ≤ length spare.old) }
-    ensures { made_by result out.new ≡ outcome (apply vol.now list.now (length out.old)) out.old }
+    requires { Ready read.now list.now × (length table.old / 2 ≤ length spare.old) }
+    ensures { made_by result out.new ≡ outcome (apply read.now.list.now list.now (length out.old)) out.old }
 {
     let queue = queue::sort_queue(list, table, spare);
     let next = NextVolume {
-        vol,
-        index,
-        head: h,
-        roots: front::roots_after(list, h.roots),
-        ends: e,
+        read: *read,
+        roots: front::roots_after(list, read.head.roots),
         list,
         table,
         queue,
@@ -168,24 +160,17 @@ fn apply_with(
     next.write(out)
 }
 
-// Apply, once `read_volume` accepted the volume and `check_change` the change list. A queued key takes seven bytes and more, and no call queues more than 16,384.
-pub fn apply_lists(
-    vol: &[u8],
-    index: &[u32],
-    h: Head,
-    e: Ends,
-    list: &[u8],
-    out: &mut [u8],
-) -> Result<usize, Refusal>
-    requires { Ready vol.now index.now h e list.now }
-    ensures { made_by result out.new ≡ outcome (apply vol.now list.now (length out.old)) out.old }
+// Apply, once the volume was read and `check_change` accepted the change list. A queued key takes seven bytes and more, and no call queues more than 16,384.
+pub fn apply_lists(read: &ReadList, list: &[u8], out: &mut [u8]) -> Result<usize, Refusal>
+    requires { Ready read.now list.now }
+    ensures { made_by result out.new ≡ outcome (apply read.now.list.now list.now (length out.old)) out.old }
 {
     if list.len() <= 3584 {
         let mut table = [0usize; 512];
         let mut spare = [0usize; 256];
-        return apply_with(vol, index, h, e, list, &mut table, &mut spare, out);
+        return apply_with(read, list, &mut table, &mut spare, out);
     }
     let mut table = [0usize; 16384];
     let mut spare = [0usize; 8192];
-    apply_with(vol, index, h, e, list, &mut table, &mut spare, out)
+    apply_with(read, list, &mut table, &mut spare, out)
 }

@@ -1,11 +1,12 @@
 -- The answer to a discard: the offsets that the reader gives find the keys of the definition, and its tests in their order.
 use Prim.Native.Nat.{ℕ, zero, suc, ◌≤◌, ◌<◌}
 use mathlib.Core.Path.{◌≡◌, refl, sym, ap, ◌∙◌}
-use mathlib.Core.Bool.{Bool, true, false, not, ◌||◌}
+use mathlib.Core.Bool.{Bool, true, not, ◌||◌}
+use Rattle.std.proofs.Common.{Some}
 use mathlib.Core.List.{List, [], ◌∷◌, map, map-map}
 use native.Mathlib.Omega.{arith}
 use lib.Dec.{eqb}
-use lib.ListN.{length, take, drop, length-map}
+use lib.ListN.{length, drop, length-map}
 use borrow.Author.Tests.{eq-eqb, ne_eqb, leb-true}
 use Rattle.wire.specs.Bytes.{All, none, more}
 use Rattle.wire.specs.Keys.{Key}
@@ -25,19 +26,15 @@ use Rattle.calls.proofs.encoding.KeyFitsLaws.{list-within}
 use Rattle.calls.proofs.lists.MapLaws.{map-take, map-drop}
 use Rattle.calls.proofs.lists.ThoseLaws.{those-map}
 use Rattle.reader.specs.Located.{KeyAt, KeysAt}
-use Rattle.reader.specs.Readings.{call_refusal, ListRead}
-use Rattle.reader.specs.declared.head.Head.{Head}
-use Rattle.reader.specs.declared.table.Ends.{Ends}
+use Rattle.reader.specs.Readings.{call_refusal, ReadAs}
+use Rattle.reader.specs.declared.read_list.ReadList.{ReadList}
 use Rattle.reader.proofs.KeyHereLaws.{keys-tail, keys-here}
-use Rattle.reader.proofs.OfferedLaws.{call_kept}
-use Rattle.reader.proofs.PartsLaws.{passed, read-on, read-refused, alloc-part, need-discard-part}
+use Rattle.reader.proofs.PartsLaws.{passed, read-on, read-refused, located}
 use Rattle.reader.specs.KeyHere.{key_here, keys_here}
-use Rattle.reader.specs.Table.{between}
 use Rattle.need_discard.specs.Kept.{AllocKept, NeedKept}
 use Rattle.need_discard.specs.Chosen.{need_trees, discarded_from}
 use Rattle.discard.specs.Emitted.{batches_from, changes_from}
 use Rattle.discard.specs.Given.{DiscardGiven}
-use Rattle.discard.specs.declared.changes.Given.{Given}
 
 -- what the offsets have of a test that each key passes
 found : {P : ℕ → Type 0} {s os : List ℕ} {ks : List Key} (t : Key → Bool) → ((o : ℕ) (k : Key) → KeyAt s o k → t k ≡ true → P o)
@@ -71,12 +68,12 @@ pub record Found (s alloc needs : List ℕ) : Type 0 where
   pub few_allocs : length alloc ≤ 4096
   pub few_waits : length needs ≤ 4096
 
-pub ready-found : {g : Given} → DiscardGiven g → Found g.list.now g.alloc.now g.needs.now
+pub ready-found : {r : ReadList} → DiscardGiven r → Found r.list.now r.alloc.now r.need_discard.now
 unfolding volume_within counts_ok few_keys buckets_ok
-ready-found {g} r =
-    let v = read_volume g.list.now in
+ready-found {r} q =
+    let v = read_volume r.list.now in
     let t = v.trees in
-    let a = parts (counts_ok t) _ r.within in
+    let a = parts (counts_ok t) _ q.within in
     let b = parts (buckets_ok t) _ a.1 in
     let c = parts (all_of (λ k. not (at_inode0 k) || bucket_in_range (bucket_in k.pos)) t.alloc) _ b.0 in
     let d = parts (all_of (λ k. not (is_set k) || bucket_in_range (bucket_in k.pos)) t.need_discard) _ c.1 in
@@ -85,10 +82,10 @@ ready-found {g} r =
     let g = parts (few_keys t.freespace) _ f.1 in
     let h = parts (few_keys t.need_discard) _ g.1 in
     record {
-      allocs = alloc-kept r.alloc_at c.0;
-      waits = needs-kept r.needs_at d.0;
-      few_allocs = omega (arith, r.alloc_at.count, leb-true (length t.alloc) 4096 e.0);
-      few_waits = omega (arith, r.needs_at.count, leb-true (length t.need_discard) 4096 h.0);
+      allocs = alloc-kept q.alloc_at c.0;
+      waits = needs-kept q.needs_at d.0;
+      few_allocs = omega (arith, q.alloc_at.count, leb-true (length t.alloc) 4096 e.0);
+      few_waits = omega (arith, q.needs_at.count, leb-true (length t.need_discard) 4096 h.0);
     }
 
 -- the batches of the offsets are those of the definition
@@ -124,14 +121,14 @@ module _ (t : Trees) (s needs : List ℕ) (e : t.need_discard ≡ keys_here s ne
       rw (keys-chosen alloc f, same-batch, length-map os (key_here s), chunks-map (key_here s) (length os) size os)
       (map-map (discard_batch (need_trees s needs)) (map (key_here s)) (chunks (length os) size os))
 
-pub changes-are : {g : Given} → DiscardGiven g
-    → changes_from g.list.now g.needs.now g.head.batch (discarded_from g.list.now g.needs.now g.alloc.now)
-    ≡ change_bytes (discard_batches (read_volume g.list.now))
+pub changes-are : {r : ReadList} → DiscardGiven r
+    → changes_from r.list.now r.need_discard.now r.head.batch (discarded_from r.list.now r.need_discard.now r.alloc.now)
+    ≡ change_bytes (discard_batches (read_volume r.list.now))
 unfolding discard_batches
-changes-are {g} r =
-    let v = read_volume g.list.now in
-    let b : g.head.batch ≡ v.head.batch = ap (λ h. h.batch) r.headed in
-    ap change_bytes (rw b (sym (batches-are v.trees g.list.now g.needs.now (keys-here r.needs_at) g.alloc.now v.head.batch (keys-here r.alloc_at))))
+changes-are {r} q =
+    let v = read_volume r.list.now in
+    let b : r.head.batch ≡ v.head.batch = ap (λ h. h.batch) q.headed in
+    ap change_bytes (rw b (sym (batches-are v.trees r.list.now r.need_discard.now (keys-here q.needs_at) r.alloc.now v.head.batch (keys-here q.alloc_at))))
 
 -- the answer of the definition: the tests of the reader, then 20, then 21
 module _ (s : List ℕ) (room : ℕ) where
@@ -141,8 +138,8 @@ module _ (s : List ℕ) (room : ℕ) where
   abbrev bytes : List ℕ
   bytes = change_bytes (discard_batches (read_volume s))
 
-  pub discard-refused : {n : ℕ} → n ≡ call_refusal 3 s → 0 < call_refusal 3 s → discard s room ≡ record { number = n; written = [] }
-  discard-refused {n} e l = discard-is s room ∙ read-refused 3 s (batch20 ∷ []) bytes room n e l
+  pub discard-refused : 0 < call_refusal 3 s → discard s room ≡ record { number = call_refusal 3 s; written = [] }
+  discard-refused l = discard-is s room ∙ read-refused 3 s (batch20 ∷ []) bytes room _ refl l
 
   module _ (h : 0 ≡ call_refusal 3 s) where
     read_past : discard s room ≡ answer (batch20 ∷ []) bytes room
@@ -155,14 +152,13 @@ module _ (s : List ℕ) (room : ℕ) where
     discard-after b = read_past ∙ answer-next batch20 [] bytes room (rw (ne_eqb (read_volume s).head.batch 0 b))
 
 -- a list that was read, with a batch that is not 0
-module _ (s index : List ℕ) (h : Head) (e : Ends) (z : 0 ≡ call_refusal 3 s) (q : ListRead 3 s index h e) where
-  pub read-ready : (g : Given) → g.list.now ≡ s → g.head ≡ h → g.alloc.now ≡ take e.alloc index → g.needs.now ≡ between e.freespace e.need_discard index
-      → (h.batch ≡ 0 → ⊥) → DiscardGiven g
-  read-ready g p r f n b =
-      record {
-        headed = rw (p, r) q.head;
-        alloc_at = rw (p, f) (alloc-part 3 false s index h e (call_kept 3 s z) q).1;
-        needs_at = rw (p, n) (need-discard-part 3 false s index h e (call_kept 3 s z) q).1;
-        within = rw p (list-within (read_call s) (passed 3 s z).within).0;
-        batched = rw r b;
-      }
+pub read-ready : {r : ReadList} → ReadAs (Some 3) r → (r.head.batch ≡ 0 → ⊥) → DiscardGiven r
+read-ready {r} q b =
+    let s = r.list.now in
+    record {
+      headed = q.read.head;
+      alloc_at = (located q).alloc;
+      needs_at = (located q).need_discard;
+      within = (list-within (read_call s) (passed 3 s q.passed).within).0;
+      batched = b;
+    }

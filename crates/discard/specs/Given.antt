@@ -5,18 +5,18 @@ use Rattle.calls.specs.Limits.{volume_within}
 use Rattle.calls.specs.Answers.{read_volume}
 use Rattle.reader.specs.Heads.{head_in}
 use Rattle.reader.specs.Located.{KeysAt}
+use Rattle.reader.specs.declared.read_list.ReadList.{ReadList}
 use Rattle.need_discard.specs.Kept.{DiscardedKept}
 use Rattle.need_discard.specs.Table.{WaitingTable}
 use Rattle.discard.specs.declared.batch.Discarded.{Discarded}
-use Rattle.discard.specs.declared.changes.Given.{Given}
 
--- The list's head, where its alloc and need-discard keys stand, its limits (refusal 3), and a batch that is not 0 (refusal 20).
-pub record DiscardGiven (g : Given) : Type 0 where
-  pub headed : head_in g.head ≡ (read_volume g.list.now).head
-  pub alloc_at : KeysAt g.list.now g.alloc.now (read_volume g.list.now).trees.alloc
-  pub needs_at : KeysAt g.list.now g.needs.now (read_volume g.list.now).trees.need_discard
-  pub within : volume_within (read_volume g.list.now) ≡ true
-  pub batched : g.head.batch ≡ 0 → ⊥
+-- A list of a discard: its head, where its alloc and need-discard keys stand, its limits (refusal 3), and a batch that is not 0 (refusal 20).
+pub record DiscardGiven (r : ReadList) : Type 0 where
+  pub headed : head_in r.head ≡ (read_volume r.list.now).head
+  pub alloc_at : KeysAt r.list.now r.alloc.now (read_volume r.list.now).trees.alloc
+  pub needs_at : KeysAt r.list.now r.need_discard.now (read_volume r.list.now).trees.need_discard
+  pub within : volume_within (read_volume r.list.now) ≡ true
+  pub batched : r.head.batch ≡ 0 → ⊥
 
 -- What is shown of alloc keys that are discarded: each offset finds one, they are within the limit, and the table is one of the need-discard keys.
 pub record Shown (d : Discarded) : Type 0 where

@@ -14,19 +14,10 @@ use crate::batch::Discarded;
 use need_discard::{discarded, waiting as waiting_keys};
 use reader::answer;
 use reader::answer::Emit;
-use reader::head::Head;
+use reader::read_list::ReadList;
 use reader::refusal::Refusal;
 use std::marker::Model;
 use wire::output::Output;
-
-// What a discard is given: the list, its head, and the offsets of its alloc and need-discard keys.
-#[derive(Clone, Copy, Drop)]
-pub struct Given<'a> {
-    pub list: &'a [u8],
-    pub head: Head,
-    pub alloc: &'a [u32],
-    pub needs: &'a [u32],
-}
 
 // The batches, in alloc order. Refusal 20 shows that a batch has a key, `discarded_keys`, `discard_lists` and the limits the rest.
 pub fn discard_freed(out: &mut Output, size: u32, d: &Discarded)
@@ -78,53 +69,53 @@ impl<'a> Emit for Changes<'a> {
 // The answer to a discard, with room for the offsets of its alloc keys. `discard_lists` shows what is required, here and below.
 fn discard_into(
     room: &mut [u32],
-    g: &Given,
+    read: &ReadList,
     table: &[u16],
     out: &mut [u8],
 ) -> Result<usize, Refusal>
-    requires { DiscardGiven g.now × WaitingTable g.now.list.now g.now.needs.now table.now × (length g.now.alloc.now ≤ length room.old) }
-    ensures { made_by result out.new ≡ outcome (answer [] (change_bytes (discard_batches (read_volume g.now.list.now))) (length out.old)) out.old }
+    requires { DiscardGiven read.now × WaitingTable read.now.list.now read.now.need_discard.now table.now × (length read.now.alloc.now ≤ length room.old) }
+    ensures { made_by result out.new ≡ outcome (answer [] (change_bytes (discard_batches (read_volume read.now.list.now))) (length out.old)) out.old }
 {
-    let n = discarded::discarded_keys(room, g.list, g.alloc, g.needs, table);
+    let n = discarded::discarded_keys(room, read.list, read.alloc, read.need_discard, table);
     let d = Discarded {
-        list: g.list,
+        list: read.list,
         offsets: &room[..n],
-        needs: g.needs,
+        needs: read.need_discard,
         table,
     };
-    answer::written(&Changes::new(g.head.batch, d), out)
+    answer::written(&Changes::new(read.head.batch, d), out)
 }
 
 // The answer to a discard, with its table: little room is cleared where the alloc keys are few.
-fn discard_tabled(g: &Given, table: &[u16], out: &mut [u8]) -> Result<usize, Refusal>
-    requires { DiscardGiven g.now × WaitingTable g.now.list.now g.now.needs.now table.now }
-    ensures { made_by result out.new ≡ outcome (answer [] (change_bytes (discard_batches (read_volume g.now.list.now))) (length out.old)) out.old }
+fn discard_tabled(read: &ReadList, table: &[u16], out: &mut [u8]) -> Result<usize, Refusal>
+    requires { DiscardGiven read.now × WaitingTable read.now.list.now read.now.need_discard.now table.now }
+    ensures { made_by result out.new ≡ outcome (answer [] (change_bytes (discard_batches (read_volume read.now.list.now))) (length out.old)) out.old }
 {
-    if g.alloc.len() <= 64 {
-        discard_into(&mut [0u32; 64], g, table, out)
+    if read.alloc.len() <= 64 {
+        discard_into(&mut [0u32; 64], read, table, out)
     } else {
-        discard_into(&mut [0u32; 4096], g, table, out)
+        discard_into(&mut [0u32; 4096], read, table, out)
     }
 }
 
 // The answer to a discard, with a filled table.
-fn discard_many(g: &Given, out: &mut [u8]) -> Result<usize, Refusal>
-    requires { DiscardGiven g.now }
-    ensures { made_by result out.new ≡ outcome (answer [] (change_bytes (discard_batches (read_volume g.now.list.now))) (length out.old)) out.old }
+fn discard_many(read: &ReadList, out: &mut [u8]) -> Result<usize, Refusal>
+    requires { DiscardGiven read.now }
+    ensures { made_by result out.new ≡ outcome (answer [] (change_bytes (discard_batches (read_volume read.now.list.now))) (length out.old)) out.old }
 {
     let mut table = [0u16; 65536];
-    waiting_keys::note_waiting(&mut table, g.list, g.needs);
-    discard_tabled(g, &table, out)
+    waiting_keys::note_waiting(&mut table, read.list, read.need_discard);
+    discard_tabled(read, &table, out)
 }
 
 // The answer to a discard whose list passed refusals 2, 3 and 20, which the reader and its caller show. A table of one entry stands for none.
-pub fn discard_lists(g: &Given, out: &mut [u8]) -> Result<usize, Refusal>
-    requires { DiscardGiven g.now }
-    ensures { made_by result out.new ≡ outcome (answer [] (change_bytes (discard_batches (read_volume g.now.list.now))) (length out.old)) out.old }
+pub fn discard_lists(read: &ReadList, out: &mut [u8]) -> Result<usize, Refusal>
+    requires { DiscardGiven read.now }
+    ensures { made_by result out.new ≡ outcome (answer [] (change_bytes (discard_batches (read_volume read.now.list.now))) (length out.old)) out.old }
 {
-    if g.alloc.len() > 64 || g.needs.len() > 16 {
-        discard_many(g, out)
+    if read.alloc.len() > 64 || read.need_discard.len() > 16 {
+        discard_many(read, out)
     } else {
-        discard_tabled(g, &[0u16], out)
+        discard_tabled(read, &[0u16], out)
     }
 }

@@ -57,6 +57,7 @@ pub fn overlaps(s: &[u8], runs: &[u32]) -> bool
     requires { Checked s.now × KeysAt s.now runs.now (read_volume s.now).trees.freespace }
     ensures { result ≡ overlaps (runs_of (read_volume s.now).trees.freespace) }
 {
+    // A loop and not `any`: std's lemmas on `any` are of a closure that leaves what it captures as it was, and each turn needs the end of the one before.
     let mut last = Bucket(0);
     for at in runs {
         if let Some(run) = run_of(s, *at as usize) {

@@ -1,6 +1,7 @@
 -- The outcome by what the tests find: refusals 2, 22, 3 and 21 in their order, and the generations.
 use mathlib.Core.Path.{◌≡◌, refl, ap, sym, ◌∙◌}
 use mathlib.Core.Bool.{Bool, true, false, ◌&&◌, and-false}
+use Rattle.std.proofs.Common.{Result, Ok, Err}
 use mathlib.Core.List.{List, [], ◌∷◌, ◌++◌}
 use Prim.Native.Nat.{ℕ, ◌≤◌, ◌<◌}
 use native.Mathlib.Omega.{arith}
@@ -18,6 +19,8 @@ use Rattle.calls.specs.Answers.{Answer, answer, read_volume, with_visited, gener
 use Rattle.calls.proofs.answers.AnswerLaws.{generations-is}
 use Rattle.calls.proofs.answers.OutcomeLaws.{answer-next, answer-stops, answer-short, answer-fits, looked-refused, looked-accepted}
 use Rattle.reader.specs.Readings.{volume_refusal}
+use Rattle.reader.specs.Refusals.{number_in, looked_up_by}
+use Rattle.reader.specs.declared.refusal.Refusal.{Refusal}
 use Rattle.reader.proofs.PartsLaws.{volume-passed}
 use Rattle.gens.specs.Joint.{Looked}
 
@@ -73,13 +76,18 @@ module _ (s : List ℕ) (bs : List Bucket) (out : List ℕ) where
       ∙ answer-stops 2 _ bytes room (λ z. omega arith))
 
   module _ (o : in_order bucket_below bs ≡ true) where
-    pub volume-refused : {n : ℕ} → n ≡ volume_refusal s → 0 < volume_refusal s → looked_up n 0 out ≡ generations_outcome (generations s bs room) out
+    refused-volume : {n : ℕ} → n ≡ volume_refusal s → 0 < volume_refusal s → looked_up n 0 out ≡ generations_outcome (generations s bs room) out
     unfolding answer-by volume_refusal
-    volume-refused {n} e l =
+    refused-volume {n} e l =
         refused-by n (λ z. omega (arith, e, l))
         (ap (λ (t : Bool). answer-by (volume_laid_out s && t) (none_twice (read_volume s)) (volume_within (read_volume s) && buckets_within bs)) o
         ∙ first-refusal bytes room (volume_laid_out s) (none_twice (read_volume s)) (volume_within (read_volume s)) (buckets_within bs) l
         ∙ (λ i. record { number = sym e i; written = [] }))
+
+    pub volume-refused : (result : Result ℕ Refusal) → number_in result ≡ volume_refusal s → 0 < volume_refusal s
+        → looked_up_by result out ≡ generations_outcome (generations s bs room) out
+    volume-refused (Ok visited) e l = absurd (omega arith)
+    volume-refused (Err r) e l = refused-volume e l
 
     module _ (z : 0 ≡ volume_refusal s) where
       -- the volume meets none

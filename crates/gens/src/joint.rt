@@ -89,6 +89,7 @@ pub fn bucket_gens<N: BucketNumber>(out: &mut [u8], s: &[u8], gens: &[u32], buck
     ensures { Looked (keys_here s.now gens.now) (N.buckets_in buckets.now) out.old out.new result }
 {
     let mut k: usize = 0;
+    // By index: nothing is known of what a slice holds after `iter_mut().zip(..)`.
     for (i, n) in buckets.iter().enumerate() {
         let b = n.bucket();
         k = keys_up_to(s, gens, k, b);

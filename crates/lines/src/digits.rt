@@ -24,6 +24,7 @@ fn put_digits(out: &mut Output, base: u64, count: usize, n: u64)
 {
     let mut text = [0u8; 20];
     let mut rest = n;
+    // By index: nothing is known of what an array holds after `iter_mut().rev()`.
     for i in (20 - count..20).rev() {
         text[i] = digit_of(rest % base);
         rest /= base;

@@ -22,6 +22,7 @@ pub fn read_pieces(s: &[u8], offsets: &[u32]) -> [Piece; 1024]
         checksum: 0,
     };
     let mut ps = [none; 1024];
+    // By index: nothing is known of what an array holds after `iter_mut().zip(..)`.
     for (i, at) in offsets.iter().enumerate() {
         ps[i] = piece::read_piece(s, *at as usize);
     }

@@ -24,7 +24,7 @@ use Rattle.calls.proofs.freespace.CoverLaws.{cover-once}
 use Rattle.calls.proofs.freespace.RunLaws.{covered, walk-gives}
 use Rattle.calls.proofs.trees.SortedLaws.{Sorted}
 use Rattle.calls.proofs.history.View.{bucket, covers, cover_of}
-use Rattle.reader.specs.declared.head.Head.{Head}
+use Rattle.reader.specs.declared.read_list.ReadList.{ReadList}
 use Rattle.place_tests.specs.Called.{Called}
 use Rattle.place_tests.specs.Choice.{ChosenIs}
 use Rattle.freespace.specs.Walks.{unwalked, queue_of, WalkTook}
@@ -77,22 +77,24 @@ taken-once R U n l sorted apart b = go (R (bucket b)) refl
     go false e = omega (arith, (covered R U n l b sorted).plain e, cover-once b (runs_of l) apart, cover-runs b l)
 
 -- what is chosen, for the change list
-pub record Choice (s : List ℕ) (h : Head) (runs pieces numbers : List ℕ) (table : List Bucket) (r : Walked) : Type 0 where
+pub record Choice (l : ReadList) (numbers : List ℕ) (table : List Bucket) (r : Walked) : Type 0 where
   pub few : r.count ≤ 1024
-  pub plan : PlanFor s h pieces numbers (take r.count table)
-  pub walk : Walk s runs r.passed r.left
+  pub plan : PlanFor l.list.now l.head l.requests.now numbers (take r.count table)
+  pub walk : Walk l.list.now l.freespace.now r.passed r.left
 
 module _
-    {s : List ℕ} {h : Head} {allocs_at runs-at reserved-at pieces-at : List ℕ} {before table : List Bucket} {numbers : List ℕ} {r : Walked}
-    (q : Called s h allocs_at runs-at reserved-at pieces-at) (o : ChosenIs s before table numbers (Ok r)) where
+    {l : ReadList} {before table : List Bucket} {numbers : List ℕ} {r : Walked} (q : Called l) (o : ChosenIs l.list.now before table numbers (Ok r)) where
+  abbrev s : List ℕ
+  s = l.list.now
+
   abbrev c : CallList
   c = read_call s
 
   abbrev ks : List Key
   ks = (read_volume s).trees.freespace
 
-  passed : TestsPassed c h
-  passed = accepted c h q.head (sym o.refusal)
+  passed : TestsPassed c l.head
+  passed = accepted c l.head q.head (sym o.refusal)
 
   taken-many : length (walk_of c).taken ≡ buckets_needed (slots_of c)
   unfolding walk_of
@@ -121,7 +123,7 @@ module _
   passed-all : length (take r.passed ks) ≡ r.passed
   passed-all = omega (arith, w.passed)
 
-  pub chosen : Choice s h runs-at pieces-at numbers table r
+  pub chosen : Choice l numbers table r
   chosen =
       let few : r.count ≤ 1024 = omega (arith, w.count, taken-many, needed-short q passed.requests) in
       record {

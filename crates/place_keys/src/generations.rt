@@ -15,6 +15,7 @@ pub fn fill_gens(out: &mut [u8], s: &[u8], records: &[u32], taken: &[Bucket])
     requires taken_in_bounds { (length taken.now ≤ length out.old) × (all_of bucket_in_range taken.now ≡ true) }
     ensures { take (length taken.now) out.new ≡ map (gen_of (read_volume s.now).trees.gens) taken.now }
 {
+    // By index: nothing is known of what a slice holds after `iter_mut().zip(..)`.
     for (i, b) in taken.iter().enumerate() {
         out[i] = lookup::bucket_gen(s, records, *b);
     }

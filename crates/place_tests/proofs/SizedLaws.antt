@@ -14,7 +14,7 @@ use Rattle.calls.specs.Lists.{all_of}
 use Rattle.calls.specs.Pieces.{next_fit, buckets_needed, kind_listed, piece_sized}
 use Rattle.calls.specs.Place.{slots_of}
 use Rattle.calls.proofs.lists.BoolLaws.{parts as and-true}
-use Rattle.reader.specs.declared.head.Head.{Head}
+use Rattle.reader.specs.declared.read_list.ReadList.{ReadList}
 use Rattle.place_tests.specs.Called.{Called}
 use Rattle.place_tests.proofs.RefusalLaws.{Asked}
 
@@ -75,15 +75,15 @@ needed-few B block (p ∷ ps) h = go (leb (0 + p.stored) B) refl
     go false e =
         absurd (omega (arith, leb-false (0 + p.stored) B e, stored-fits B block p (and-true (piece_sized B block p) (all_of (piece_sized B block) ps) h).0))
 
-module _ {s : List ℕ} {h : Head} {allocs_at runs-at reserved-at pieces-at : List ℕ} (q : Called s h allocs_at runs-at reserved-at pieces-at) where
-  sectors : (read_volume s).head.bucket_sectors ≡ h.bucket_sectors
+module _ {r : ReadList} (q : Called r) where
+  sectors : (read_volume r.list.now).head.bucket_sectors ≡ r.head.bucket_sectors
   sectors = ap (λ (x : calls.Head). x.bucket_sectors) (sym q.head)
 
   -- the slots that the code lays out
-  pub slots-are : next_fit h.bucket_sectors 0 0 (map (λ p. p.stored) (read_call s).pieces) ≡ slots_of (read_call s)
+  pub slots-are : next_fit r.head.bucket_sectors 0 0 (map (λ p. p.stored) (read_call r.list.now).pieces) ≡ slots_of (read_call r.list.now)
   unfolding slots_of
   slots-are = rw sectors
 
-  pub needed-short : Asked (read_call s) h → buckets_needed (slots_of (read_call s)) ≤ 1024
+  pub needed-short : Asked (read_call r.list.now) r.head → buckets_needed (slots_of (read_call r.list.now)) ≤ 1024
   unfolding slots_of
-  needed-short a = rw sectors (omega (arith, needed-few h.bucket_sectors _ (read_call s).pieces a.sizes, q.few, q.pieces.count))
+  needed-short a = rw sectors (omega (arith, needed-few r.head.bucket_sectors _ (read_call r.list.now).pieces a.sizes, q.few, q.pieces.count))

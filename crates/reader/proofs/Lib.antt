@@ -13,6 +13,7 @@ pub mod OfferedLaws
 pub mod OrderingLaws
 pub mod PieceLaws
 pub mod PlaceLaws
+pub mod PlacedLaws
 pub mod RankLaws
 pub mod BesideLaws
 pub mod ListRefusalLaws
@@ -29,6 +30,7 @@ pub mod CheckedLaws
 pub mod SortedBodyLaws
 pub mod LaidLaws
 pub mod ReadLaws
+pub mod LendingLaws
 pub mod CollectedLaws
 pub mod BodyOrderLaws
 pub mod SkipLaws

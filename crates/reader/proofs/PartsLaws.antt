@@ -1,33 +1,29 @@
--- The parts of a call's list that was read: the offsets between two ends, and what they find.
-use Prim.Native.Nat.{ℕ, ◌+◌, ◌-◌, ◌≤◌, ◌<◌}
+-- What a list that was read shows: that it meets none of 2, 22 and 3, and where its keys, its reserved buckets and its requests stand.
+use Prim.Native.Nat.{ℕ, ◌≤◌, ◌<◌}
 use native.Mathlib.Omega.{arith}
 use mathlib.Core.Path.{◌≡◌, refl, sym, ap, ◌∙◌}
 use mathlib.Core.Bool.{Bool, true, false}
+use Rattle.std.proofs.Common.{Option, Some, None}
 use mathlib.Core.List.{List, [], ◌∷◌, map}
-use lib.ListN.{length, take, length-map}
-use lib.Dec.{leb}
-use borrow.Author.Tests.{leb-true}
+use lib.ListN.{length}
 use Rattle.wire.specs.Fields.{fields}
 use Rattle.wire.specs.Keys.{key_of}
-use Rattle.wire.specs.Kinds.{bucket_read}
-use Rattle.calls.specs.CallList.{CallList, bodies, key_below, keys_of, sorted_trees, reserved_of, call_list_of, call_laid_out, volume_laid_out, none_twice, piece_of, freed_of}
+use Rattle.calls.specs.CallList.{bodies, key_below, keys_of, sorted_trees, reserved_of, call_list_of, call_laid_out, volume_laid_out, none_twice}
 use Rattle.calls.specs.Sorting.{sorted_by}
-use Rattle.calls.specs.Limits.{few_keys, counts_ok, buckets_ok, volume_within, list_within}
+use Rattle.calls.specs.Limits.{volume_within, list_within}
 use Rattle.calls.specs.Refusals.{test, verdict}
 use Rattle.calls.specs.Answers.{Answer, answer, read_call, read_volume}
-use Rattle.calls.proofs.lists.BoolLaws.{parts}
 use Rattle.calls.proofs.encoding.KeyFitsLaws.{list-within}
 use Rattle.calls.proofs.answers.RefusalLaws.{verdict-ok, test-ok}
 use Rattle.calls.proofs.answers.OutcomeLaws.{answer-next, answer-stops}
-use Rattle.reader.specs.Table.{sorted_bodies, Tabled}
-pub use Rattle.reader.specs.Table.{between}
-use Rattle.reader.specs.Readings.{call_refusal, volume_refusal, list_refusal, ListRead}
+use Rattle.reader.specs.Table.{sorted_bodies}
+use Rattle.reader.specs.Collected.{PlacesOf}
+use Rattle.reader.specs.Readings.{call_refusal, volume_refusal, list_refusal, Read, ReadAs}
 use Rattle.reader.specs.Located.{KeysAt, BucketsAt, PiecesAt, FreedsAt}
-use Rattle.reader.specs.declared.head.Head.{Head}
-use Rattle.reader.specs.declared.table.Ends.{Ends}
+use Rattle.reader.specs.declared.read_list.ReadList.{ReadList}
 use Rattle.reader.proofs.VolumeLaws.{volume-refusal}
 use Rattle.reader.proofs.OfferedLaws.{call_kept, limits-kept}
-use Rattle.reader.proofs.SortedBodyLaws.{sorted-length, keys-sorted-are, buckets-sorted-are}
+use Rattle.reader.proofs.SortedBodyLaws.{keys-sorted-are, buckets-sorted-are}
 use Rattle.reader.proofs.LocatedLaws.{keys-located, buckets-located, pieces-located, freeds-located}
 
 -- a list that `read_call` read meets none of 2, 22 and 3
@@ -109,129 +105,51 @@ module _ (call : ℕ) (s ts bytes : List ℕ) (room : ℕ) where
           ∙ stopped 22 e
       go false b c e l = answer-stops 2 (test 22 b ∷ test 3 c ∷ ts) bytes room (λ z. absurd (omega (arith, z))) ∙ stopped 2 e
 
--- at most 4,096 keys of a tree and reserved buckets, at most 1,024 requests
-record Few (c : CallList) : Type 0 where
-  alloc : length c.volume.trees.alloc ≤ 4096
-  freespace : length c.volume.trees.freespace ≤ 4096
-  need_discard : length c.volume.trees.need_discard ≤ 4096
-  gens : length c.volume.trees.gens ≤ 4096
-  reserved : length c.volume.reserved ≤ 4096
+-- where the keys of trees 4, 11, 12 and 14 and the reserved buckets of a list that was read stand
+pub record Located (r : ReadList) : Type 0 where
+  pub alloc : KeysAt r.list.now r.alloc.now (read_volume r.list.now).trees.alloc
+  pub freespace : KeysAt r.list.now r.freespace.now (read_volume r.list.now).trees.freespace
+  pub need_discard : KeysAt r.list.now r.need_discard.now (read_volume r.list.now).trees.need_discard
+  pub gens : KeysAt r.list.now r.gens.now (read_volume r.list.now).trees.gens
+  pub reserved : BucketsAt r.list.now r.reserved.now (read_volume r.list.now).reserved
 
-few-in : (c : CallList) → list_within c ≡ true → Few c
-unfolding list_within volume_within counts_ok few_keys
-few-in c h =
-    let v = c.volume in
-    let t = v.trees in
-    let w = (parts (volume_within v) _ h).0 in
-    let a = parts (counts_ok t) _ w in
-    let alloc = parts (few_keys t.alloc) _ a.0 in
-    let lru = parts (few_keys t.lru) _ alloc.1 in
-    let freespace = parts (few_keys t.freespace) _ lru.1 in
-    let needs = parts (few_keys t.need_discard) _ freespace.1 in
-    let back = parts (few_keys t.backpointers) (few_keys t.gens) needs.1 in
-    let reserved = parts (leb (length v.reserved) 4096) _ (parts (buckets_ok t) _ a.1).1 in
-    record {
-      alloc = leb-true (length t.alloc) 4096 alloc.0;
-      freespace = leb-true (length t.freespace) 4096 freespace.0;
-      need_discard = leb-true (length t.need_discard) 4096 needs.0;
-      gens = leb-true (length t.gens) 4096 back.1;
-      reserved = leb-true (length v.reserved) 4096 reserved.0;
-    }
+module _ (call : ℕ) (any : Bool) (r : ReadList) (kept : 0 ≡ list_refusal call any r.list.now) (q : Read call r) where
+  abbrev s : List ℕ
+  s = r.list.now
 
--- a part of the table within it
-pub record TablePart (from to most : ℕ) (index : List ℕ) : Type 0 where
-  pub forth : from ≤ to
-  pub within : to ≤ length index
-  pub few : to - from ≤ most
+  -- the keys of a tree
+  keys_at : {os : List ℕ} (t : ℕ) → 1 < t → t ≤ 14 → PlacesOf s t os (sorted_bodies t (fields s)) → KeysAt s os (sorted_by key_below (map key_of (bodies t (fields s))))
+  keys_at t l m p = rw (← keys-sorted-are t m (fields s)) (keys-located call any s kept l m p)
 
-module _ (call : ℕ) (any : Bool) (s index : List ℕ) (h : Head) (c : Ends) (kept : 0 ≡ list_refusal call any s) (q : ListRead call s index h c) where
-  few : Few (read_call s)
-  few = few-in (read_call s) (limits-kept call any s kept)
+  located_as : Located r
+  unfolding call_list_of sorted_trees keys_of reserved_of
+  located_as =
+      record {
+        alloc = keys_at 4 (omega arith) (omega arith) q.alloc;
+        freespace = keys_at 11 (omega arith) (omega arith) q.freespace;
+        need_discard = keys_at 12 (omega arith) (omega arith) q.need_discard;
+        gens = keys_at 14 (omega arith) (omega arith) q.gens;
+        reserved = rw (← buckets-sorted-are (fields s)) (buckets-located call any s kept q.reserved);
+      }
 
-  -- a part of the table, of as many offsets as bodies
-  counted : (from to t : ℕ) → 1 < t → t ≤ 14 → to ≡ from + length (bodies t (fields s)) → to ≤ length index
-      → length (sorted_by key_below (map key_of (bodies t (fields s)))) ≤ 4096 → Tabled s index from t (sorted_bodies t (fields s))
-      → TablePart from to 4096 index × KeysAt s (between from to index) (sorted_by key_below (map key_of (bodies t (fields s))))
-  counted from to t l m e low short tab =
-      let n = sorted-length t (fields s) in
-      let w : to - from ≡ length (sorted_bodies t (fields s)) = omega arith in
-      let k = keys-sorted-are t m (fields s) in (
-        record { forth = omega arith; within = low; few = omega (arith, w, short, ap length k, length-map (sorted_bodies t (fields s)) key_of) },
-        rw (← k, w) (keys-located call any s kept index from t l m (omega (arith, e, low)) tab),
-      )
+pub located : {asked : Option ℕ} {r : ReadList} → ReadAs asked r → Located r
+located {asked = Some call} {r} c = located_as call false r (call_kept call r.list.now c.passed) c.read
+located {asked = None} {r} c = located_as 0 true r (volume-kept r.list.now c.passed) c.read
 
-  -- trees 4, 11, 12 and 14
-  pub alloc-part : TablePart 0 c.alloc 4096 index × KeysAt s (take c.alloc index) (read_volume s).trees.alloc
-  unfolding call_list_of sorted_trees keys_of
-  alloc-part =
-      let e = q.ends in
-      let r =
-      counted 0 c.alloc 4 (omega arith) (omega arith) (omega (arith, e.alloc))
-      (omega (arith, e.lru, e.freespace, e.need_discard, e.backpointers, e.gens, e.reserved, e.requests, e.within))
-      few.alloc q.table.alloc in
-      let n : c.alloc - 0 ≡ c.alloc = omega arith in
-      (r.0, rw n at r.1)
+-- the requests of a placement, at most 1,024
+pub pieces-read : {r : ReadList} → ReadAs (Some 1) r → PiecesAt r.list.now r.requests.now (read_call r.list.now).pieces × (length r.requests.now ≤ 1024)
+unfolding call_list_of
+pieces-read {r} c =
+    let s = r.list.now in
+    let few = (list-within (read_call s) (limits-kept 1 false s (call_kept 1 s c.passed))).1 in
+    let at = pieces-located 1 false s (call_kept 1 s c.passed) c.read.requests in
+    (at, omega (arith, at.count, few))
 
-  pub freespace-part : TablePart c.lru c.freespace 4096 index × KeysAt s (between c.lru c.freespace index) (read_volume s).trees.freespace
-  unfolding call_list_of sorted_trees keys_of
-  freespace-part =
-      let e = q.ends in
-      counted c.lru c.freespace 11 (omega arith) (omega arith) e.freespace
-      (omega (arith, e.need_discard, e.backpointers, e.gens, e.reserved, e.requests, e.within))
-      few.freespace q.table.freespace
-
-  pub need-discard-part : TablePart c.freespace c.need_discard 4096 index × KeysAt s (between c.freespace c.need_discard index) (read_volume s).trees.need_discard
-  unfolding call_list_of sorted_trees keys_of
-  need-discard-part =
-      let e = q.ends in
-      counted c.freespace c.need_discard 12 (omega arith) (omega arith) e.need_discard
-      (omega (arith, e.backpointers, e.gens, e.reserved, e.requests, e.within))
-      few.need_discard q.table.need_discard
-
-  pub gens-part : TablePart c.backpointers c.gens 4096 index × KeysAt s (between c.backpointers c.gens index) (read_volume s).trees.gens
-  unfolding call_list_of sorted_trees keys_of
-  gens-part =
-      let e = q.ends in
-      counted c.backpointers c.gens 14 (omega arith) (omega arith) e.gens
-      (omega (arith, e.reserved, e.requests, e.within))
-      few.gens q.table.gens
-
-  -- the reserved buckets
-  pub reserved-part : TablePart c.gens c.reserved 4096 index × BucketsAt s (between c.gens c.reserved index) (read_volume s).reserved
-  unfolding call_list_of reserved_of
-  reserved-part =
-      let bs = sorted_bodies 64 (fields s) in
-      let n = sorted-length 64 (fields s) in
-      let e = q.ends in
-      let w : c.reserved - c.gens ≡ length bs = omega (arith, e.reserved) in
-      let m : c.reserved ≤ length index = omega (arith, e.requests, e.within) in
-      let k = buckets-sorted-are (fields s) in (
-        record { forth = omega (arith, e.reserved); within = m; few = omega (arith, w, few.reserved, ap length k, length-map bs bucket_read) },
-        rw (← k, w) (buckets-located call any s kept index c.gens (omega (arith, e.reserved, m, n)) q.table.reserved),
-      )
-
--- the requests of a placement
-module _ (s index : List ℕ) (h : Head) (c : Ends) (z : 0 ≡ call_refusal 1 s) (q : ListRead 1 s index h c) where
-  pub pieces-part : TablePart c.reserved c.requests 1024 index × PiecesAt s (between c.reserved c.requests index) (read_call s).pieces
-  unfolding call_list_of
-  pieces-part =
-      let bs = bodies 65 (fields s) in
-      let e : c.requests ≡ c.reserved + length bs = q.ends.requests in
-      let few = (list-within (read_call s) (limits-kept 1 false s (call_kept 1 s z))).1 in
-      let w : c.requests - c.reserved ≡ length bs = omega arith in (
-        record { forth = omega arith; within = q.ends.within; few = omega (arith, w, few, length-map bs piece_of) },
-        rw w (pieces-located 1 false s (call_kept 1 s z) index c.reserved (omega (arith, e, q.ends.within)) q.table.requests),
-      )
-
--- the requests of a release
-module _ (s index : List ℕ) (h : Head) (c : Ends) (z : 0 ≡ call_refusal 2 s) (q : ListRead 2 s index h c) where
-  pub freeds-part : TablePart c.reserved c.requests 1024 index × FreedsAt s (between c.reserved c.requests index) (read_call s).releases
-  unfolding call_list_of
-  freeds-part =
-      let bs = bodies 66 (fields s) in
-      let e : c.requests ≡ c.reserved + length bs = q.ends.requests in
-      let few = (list-within (read_call s) (limits-kept 2 false s (call_kept 2 s z))).2 in
-      let w : c.requests - c.reserved ≡ length bs = omega arith in (
-        record { forth = omega arith; within = q.ends.within; few = omega (arith, w, few, length-map bs freed_of) },
-        rw w (freeds-located 2 false s (call_kept 2 s z) index c.reserved (omega (arith, e, q.ends.within)) q.table.requests),
-      )
+-- and of a release
+pub freeds-read : {r : ReadList} → ReadAs (Some 2) r → FreedsAt r.list.now r.requests.now (read_call r.list.now).releases × (length r.requests.now ≤ 1024)
+unfolding call_list_of
+freeds-read {r} c =
+    let s = r.list.now in
+    let few = (list-within (read_call s) (limits-kept 2 false s (call_kept 2 s c.passed))).2 in
+    let at = freeds-located 2 false s (call_kept 2 s c.passed) c.read.requests in
+    (at, omega (arith, at.count, few))

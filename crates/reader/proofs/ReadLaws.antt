@@ -1,5 +1,6 @@
 -- What a list is read as, by what the pass over it found.
-use Prim.Native.Nat.{ℕ, ◌≤◌}
+use Rattle.std.proofs.Common.{Option, Some, None, unwrap_or, is_none}
+use Prim.Native.Nat.{ℕ, ◌≤◌, ◌<◌}
 use native.Mathlib.Omega.{arith}
 use mathlib.Core.Path.{◌≡◌, refl, sym, ◌∙◌, ap}
 use mathlib.Core.List.{List}
@@ -13,14 +14,16 @@ use Rattle.calls.proofs.lists.BoolLaws.{clash}
 use Rattle.reader.specs.CallFields.{head_within}
 use Rattle.reader.specs.Heads.{head_in}
 use Rattle.reader.specs.Table.{ends_in, rank_end, Ended}
-use Rattle.reader.specs.Readings.{list_refusal, ListRead}
+use Rattle.reader.specs.Readings.{list_refusal, TableRead, Read, refusal_of, ReadAs}
 use Rattle.reader.specs.Arranged.{Sortable, Arranged, PastAsked}
 use Rattle.reader.specs.Surveyed.{Counted, LaidFound}
 use Rattle.reader.specs.declared.head.Head.{Head}
 use Rattle.reader.specs.declared.table.Ends.{Ends}
+use Rattle.reader.specs.declared.read_list.ReadList.{ReadList}
 use Rattle.reader.proofs.LimitLaws.{within-parts}
 use Rattle.reader.proofs.BoolLaws.{fails}
 use Rattle.reader.proofs.ListRefusalLaws.{RefusedBy, twice-refused, past-refused, accepted}
+use Rattle.reader.proofs.VolumeLaws.{call-refusal, volume-refusal}
 use Rattle.reader.proofs.LaidLaws.{laid-sectioned, sortable}
 
 -- the head keeps its limits in a list that keeps them
@@ -88,7 +91,7 @@ module _
     pub table-sortable : (e : Ends) → e ≡ ends_in counts → Sortable call s index e
     table-sortable e z = rw z (sortable s call any found.laid index (ends_in counts) kept-within counted.short counted.ends)
 
-    pub read-ordered : (e : Ends) → e ≡ ends_in counts → ordered ≡ true → (0 ≡ list_refusal call any s) × ListRead call s index first e
+    pub read-ordered : (e : Ends) → e ≡ ends_in counts → ordered ≡ true → (0 ≡ list_refusal call any s) × TableRead call s index first e
     read-ordered e z o = (
       accepted s call any found.laid (found.once o) kept-within,
       rw z (record { head = head-is; ends = counted.ends; table = found.table o (both_false over (head_within (head_in first)) h).0 }),
@@ -103,7 +106,7 @@ module _
         was-false false x = refl
 
     pub read-sorted : (e : Ends) → e ≡ ends_in counts → {index' : List ℕ} → length index' ≡ length index → (r : Bool) → r ≡ false → Arranged call s index' e r
-        → (0 ≡ list_refusal call any s) × ListRead call s index' first e
+        → (0 ≡ list_refusal call any s) × TableRead call s index' first e
     read-sorted e z l r q a = (
       accepted s call any found.laid (was-true (none_twice (read_volume s)) (sym q ∙ a.double)) kept-within,
       record { head = head-is; ends = ended-in {index = index} (rw z counted.ends) l; table = a.table q },
@@ -112,3 +115,17 @@ module _
         was-true : (b : Bool) → false ≡ not b → b ≡ true
         was-true true x = refl
         was-true false x = absurd (clash refl (sym x))
+
+-- the refusal of what is asked for
+refusal-is : (asked : Option ℕ) (s : List ℕ) → list_refusal (unwrap_or asked 0) (is_none asked) s ≡ refusal_of asked s
+refusal-is (Some call) s = call-refusal call s
+refusal-is None s = volume-refusal s
+
+-- the table's refusal
+pub table-refused : (asked : Option ℕ) (s : List ℕ) (n : ℕ) → RefusedBy s (unwrap_or asked 0) (is_none asked) n → (n ≡ refusal_of asked s) × (0 < refusal_of asked s)
+table-refused asked s n a = rw (refusal-is asked s) at a
+
+-- or the list, cut into its parts
+pub table-cut : (asked : Option ℕ) {s : List ℕ} {r : ReadList} → 0 ≡ list_refusal (unwrap_or asked 0) (is_none asked) s → r.list.now ≡ s → Read (unwrap_or asked 0) r
+    → (r.list.now ≡ s) × ReadAs asked r
+table-cut asked {s} z e q = (e, record { passed = rw e (z ∙ refusal-is asked s); read = q })

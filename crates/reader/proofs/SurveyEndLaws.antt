@@ -19,6 +19,8 @@ use Rattle.reader.specs.CallFields.{any_field_ok, others, follows, ascends, head
 use Rattle.reader.specs.Table.{most_of, rank_end, Fits, sorted_bodies, Indexed, Ended, ends_in, request_bodies, request_tag, Tabled}
 use Rattle.reader.specs.Readings.{laid_as}
 use Rattle.reader.specs.Surveyed.{Counted, LaidFound, Surveyed, OrderSurveyed}
+use Rattle.wire.specs.declared.fields.FieldPlace.{FieldPlace}
+use Rattle.reader.specs.declared.table.PlaceTable.{PlaceTable}
 use Rattle.reader.specs.declared.survey.Laid.{Laid}
 use Rattle.std.proofs.Common.{Option, Some, None}
 use Rattle.reader.proofs.BoolLaws.{apart}
@@ -41,8 +43,8 @@ field_of t (b ∷ bs) zero h = refl
 field_of t (b ∷ bs) (suc i) h = field_of t bs i (omega arith)
 
 module _
-    (s : List ℕ) (call : ℕ) (any : Bool) (at m : ℕ) (head : Option ℕ) (last before : ℕ) (over : Bool) (counts index : List ℕ)
-    (g : Going s call any at m head last before over counts index) (e : length s ≤ at) where
+    (s : List ℕ) (call : ℕ) (any : Bool) (at : ℕ) (head : Option ℕ) (last : FieldPlace) (over : Bool) (table : PlaceTable)
+    (g : Going s call any at head last over table) (e : length s ≤ at) where
   abbrev fs : List Field
   fs = others (fields s)
 
@@ -80,18 +82,18 @@ module _
     ends-past : over ≡ true → list_within (read_call s) ≡ false
     ends-past h = limit over h g.limits
       where
-        limit : (o : Bool) → o ≡ true → Limits s call at (head_size head) m counts index o → list_within (read_call s) ≡ false
+        limit : (o : Bool) → o ≡ true → Limits s call at (head_size head) table.n table.counts table.index.now o → list_within (read_call s) ≡ false
         limit true z w = w listed
         limit false z w = apart (sym z)
 
     -- fields in order
 
-    module _ (h : last ≡ 255 → ⊥) where
+    module _ (h : last.tag ≡ 255 → ⊥) where
       all-ordered : in_order follows fs ≡ true
       unfolding in_order fields_after
-      all-ordered = sym (rw (nothing_left, others-none, append-nil (last_field s last before g.len)) at (g.order h)) ∙ alone (eqb last 0)
+      all-ordered = sym (rw (nothing_left, others-none, append-nil (last_field s last)) at (g.order h)) ∙ alone (eqb last.tag 1)
         where
-          alone : (q : Bool) → in_order follows (cond q [] (field_at s last before g.len ∷ [])) ≡ true
+          alone : (q : Bool) → in_order follows (cond q [] (field_at s last.tag last.start last.len ∷ [])) ≡ true
           alone true = refl
           alone false = refl
 
@@ -111,10 +113,10 @@ module _
     -- fields within their limits
 
     module _ (h : over ≡ false) where
-      noted : Noting s fs at (head_size head) m counts index
+      noted : Noting s fs at (head_size head) table.n table.counts table.index.now
       noted = none_passed over h g.limits
         where
-          none_passed : (o : Bool) → o ≡ false → Limits s call at (head_size head) m counts index o → Noting s fs at (head_size head) m counts index
+          none_passed : (o : Bool) → o ≡ false → Limits s call at (head_size head) table.n table.counts table.index.now o → Noting s fs at (head_size head) table.n table.counts table.index.now
           none_passed true z w = apart z
           none_passed false z w = w
 
@@ -134,16 +136,16 @@ module _
       abbrev RankIs : ℕ → ℕ → List (List ℕ) → Type 0
       RankIs k t bs = in_rank k fs ≡ map (field t) bs
 
-      count-is : (k t : ℕ) (bs : List (List ℕ)) → k < 8 → RankIs k t bs → get_or counts k 0 ≡ length bs
-      count-is k t bs l z = rank-counted s fs at (head_size head) m counts index noted e k l ∙ ap length z ∙ length-map bs (field t)
+      count-is : (k t : ℕ) (bs : List (List ℕ)) → k < 8 → RankIs k t bs → get_or table.counts k 0 ≡ length bs
+      count-is k t bs l z = rank-counted s fs at (head_size head) table.n table.counts table.index.now noted e k l ∙ ap length z ∙ length-map bs (field t)
 
       few-is : (k t : ℕ) (bs : List (List ℕ)) → k < 8 → RankIs k t bs → length bs ≤ most_of k
       few-is k t bs l z = omega (arith, count-is k t bs l z, noted.few k l)
 
       -- where a rank ends
-      end_is : (k t : ℕ) (bs : List (List ℕ)) → k < 8 → RankIs k t bs → rank_end counts (suc k) ≡ rank_end counts k + length bs
+      end_is : (k t : ℕ) (bs : List (List ℕ)) → k < 8 → RankIs k t bs → rank_end table.counts (suc k) ≡ rank_end table.counts k + length bs
       unfolding rank_end
-      end_is k t bs l z = ap (λ (x : ℕ). rank_end counts k + x) (count-is k t bs l z)
+      end_is k t bs l z = ap (λ (x : ℕ). rank_end table.counts k + x) (count-is k t bs l z)
 
       alloc : RankIs 0 4 (bodies 4 (fields s))
       alloc = rank-bodies 0 4 (omega arith) (rank-alloc call fs listed)
@@ -166,11 +168,11 @@ module _
       reserved : RankIs 6 64 (bodies 64 (fields s))
       reserved = rank-bodies 6 64 (omega arith) (rank-reserved call fs listed)
 
-      first-end : rank_end counts 1 ≡ length (bodies 4 (fields s))
+      first-end : rank_end table.counts 1 ≡ length (bodies 4 (fields s))
       unfolding rank_end
       first-end = omega (arith, count-is 0 4 (bodies 4 (fields s)) (omega arith) alloc)
 
-      ends-ended : Ended call s index (ends_in counts)
+      ends-ended : Ended call s table.index.now (ends_in table.counts)
       ends-ended =
           record {
             alloc = first-end;
@@ -181,7 +183,7 @@ module _
             gens = end_is 5 14 (bodies 14 (fields s)) (omega arith) gens;
             reserved = end_is 6 64 (bodies 64 (fields s)) (omega arith) reserved;
             requests = end_is 7 (request_tag call) (request_bodies call (fields s)) (omega arith) rank-requests;
-            within = omega (arith, end-most counts g.width, noted.all, noted.inside);
+            within = omega (arith, end-most table.counts g.width, noted.all, noted.inside);
           }
 
       -- the requests of the call are within their limit, and the other call's are none
@@ -203,7 +205,7 @@ module _
               omega (arith, ap length (sym (beside-bodies 66 (omega arith) (fields s)) ∙ no-releases call fs listed (eqb-false call 2 x)))
 
       fields-ok : all_of field_within (fields s) ≡ true
-      fields-ok = sym (others-within (fields s)) ∙ all-within s fs at (head_size head) m counts index noted e
+      fields-ok = sym (others-within (fields s)) ∙ all-within s fs at (head_size head) table.n table.counts table.index.now noted e
 
       within_all : head_within (read_volume s).head ≡ true → FieldsWithin (fields s)
       unfolding call_list_of
@@ -225,35 +227,35 @@ module _
             releases = releases-few;
           }
 
-      ends-counted : Counted call s counts index
+      ends-counted : Counted call s table.counts table.index.now
       ends-counted =
           record {
             within = λ z. parts_within (fields s) (within_all z);
             ends = ends-ended;
-            fits = ends-fit s fs at (head_size head) m counts index g.width noted;
-            short = omega (arith, e, place-fits s fs at (head_size head) m counts index g.width noted (head-most head));
+            fits = ends-fit s fs at (head_size head) table.n table.counts table.index.now g.width noted;
+            short = omega (arith, e, place-fits s fs at (head_size head) table.n table.counts table.index.now g.width noted (head-most head));
           }
 
       -- the places of a rank stand after those of the ranks below
-      module _ (o : last ≡ 255 → ⊥) where
+      module _ (o : last.tag ≡ 255 → ⊥) where
         in-ranks : InRanks fs
         in-ranks = ranked call fs (all-ordered o) listed
 
         in-rank : (k : ℕ) → k < 8 → (i : ℕ) → i < length (in_rank k fs)
-            → Standing s (get_or index (rank_end counts k + i) 0) (get_or (in_rank k fs) i no_field)
+            → Standing s (get_or table.index.now (rank_end table.counts k + i) 0) (get_or (in_rank k fs) i no_field)
         in-rank k l i z =
-            let base : rank_end counts k ≡ fewer k fs = counted-fewer counts fs (rank-counted s fs at (head_size head) m counts index noted e) k (omega arith) in
-            rw (base, ← rank-at in-ranks k i z) (all_here s fs at (head_size head) m counts index noted e (fewer k fs + i) (rank-inside fs k i z))
+            let base : rank_end table.counts k ≡ fewer k fs = counted-fewer table.counts fs (rank-counted s fs at (head_size head) table.n table.counts table.index.now noted e) k (omega arith) in
+            rw (base, ← rank-at in-ranks k i z) (all_here s fs at (head_size head) table.n table.counts table.index.now noted e (fewer k fs + i) (rank-inside fs k i z))
 
-        table_is : (k t : ℕ) (bs : List (List ℕ)) → k < 8 → RankIs k t bs → Tabled s index (rank_end counts k) t bs
+        table_is : (k t : ℕ) (bs : List (List ℕ)) → k < 8 → RankIs k t bs → Tabled s table.index.now (rank_end table.counts k) t bs
         table_is k t bs l z i y =
             rw (z, field_of t bs i y) at (in-rank k l i (omega (arith, ap length z, length-map bs (field t))))
 
         -- a section that is in order
-        section-is : (k t : ℕ) → k < 8 → KeyTag t ⊎ (t ≡ 64) → RankIs k t (bodies t (fields s)) → Tabled s index (rank_end counts k) t (sorted_bodies t (fields s))
+        section-is : (k t : ℕ) → k < 8 → KeyTag t ⊎ (t ≡ 64) → RankIs k t (bodies t (fields s)) → Tabled s table.index.now (rank_end table.counts k) t (sorted_bodies t (fields s))
         section-is k t l y z = rw (in_order_lem o t y) (table_is k t (bodies t (fields s)) l z)
 
-        ends-indexed : Indexed call s index (ends_in counts)
+        ends-indexed : Indexed call s table.index.now (ends_in table.counts)
         unfolding rank_end
         ends-indexed =
             record {
@@ -267,7 +269,7 @@ module _
               requests = table_is 7 (request_tag call) (request_bodies call (fields s)) (omega arith) rank-requests;
             }
 
-    pub ends_found : (ordered : Bool) → (ordered ≡ true → last ≡ 255 → ⊥) → LaidFound call any s counts index b over ordered
+    pub ends_found : (ordered : Bool) → (ordered ≡ true → last.tag ≡ 255 → ⊥) → LaidFound call any s table.counts table.index.now b over ordered
     ends_found ordered told =
         record {
           laid = ends-laid;
@@ -280,26 +282,26 @@ module _
         }
 
 -- the one outcome of the pass, or the other
-pub broken-found : {call : ℕ} {any : Bool} {s counts index : List ℕ} → laid_as call any s ≡ false → Surveyed call any s counts index None
+pub broken-found : {call : ℕ} {any : Bool} {s index : List ℕ} → laid_as call any s ≡ false → Surveyed call any s index None
 broken-found h = record { broken = λ e. h; found = λ p e. absurd (let z : ◌≡◌ {A = ℕ} 0 1 = cc in omega arith) }
 
-pub laid-found : {call : ℕ} {any : Bool} {s counts index : List ℕ} {p : Laid}
-    → LaidFound call any s counts index p.head p.over p.ordered → Surveyed call any s counts index (Some p)
-laid-found {call = call} {any = any} {s = s} {counts = counts} {index = index} {p = p} f =
+pub laid-found : {call : ℕ} {any : Bool} {s index : List ℕ} {p : Laid}
+    → LaidFound call any s p.counts index p.head p.over p.ordered → Surveyed call any s index (Some p)
+laid-found {call = call} {any = any} {s = s} {index = index} {p = p} f =
     record {
       broken = λ e. absurd (let z : ◌≡◌ {A = ℕ} 0 1 = cc in omega arith);
       found = λ q e.
           let z : p ≡ q = cc in
-          subst (λ (o : Laid). LaidFound call any s counts index o.head o.over o.ordered) z f;
+          subst (λ (o : Laid). LaidFound call any s o.counts index o.head o.over o.ordered) z f;
     }
 
-pub ordered-found : {call : ℕ} {any : Bool} {s counts index : List ℕ} {p : Laid}
-    → Fits s index → LaidFound call any s counts index p.head p.over p.ordered → p.ordered ≡ true → OrderSurveyed call any s counts index (Some p)
-ordered-found {call = call} {any = any} {s = s} {counts = counts} {index = index} {p = p} w f t =
+pub ordered-found : {call : ℕ} {any : Bool} {s index : List ℕ} {p : Laid}
+    → Fits s index → LaidFound call any s p.counts index p.head p.over p.ordered → p.ordered ≡ true → OrderSurveyed call any s index (Some p)
+ordered-found {call = call} {any = any} {s = s} {index = index} {p = p} w f t =
     record {
       found = λ q e.
           let z : p ≡ q = cc in
-          subst (λ (o : Laid). LaidFound call any s counts index o.head o.over o.ordered) z f;
+          subst (λ (o : Laid). LaidFound call any s o.counts index o.head o.over o.ordered) z f;
       ordered = λ q e.
           let z : p ≡ q = cc in
           subst (λ (o : Laid). o.ordered ≡ true) z t;

@@ -11,6 +11,7 @@ use lib.Dec.{eqb}
 use borrow.Author.Tests.{ne_eqb, eqb-true, lt-ltb, le-ltb}
 use native.Mathlib.Omega.{arith}
 use Rattle.wire.specs.Fields.{Field, fields, field_at, step_of, whole, found}
+use Rattle.wire.specs.declared.fields.FieldPlace.{FieldPlace}
 use Rattle.wire.proofs.NumberLaws.{body-length}
 use Rattle.wire.proofs.FieldLaws.{FieldAt, field-at, FieldsWalked, walked_none, walked_more, whole-stop}
 use Rattle.calls.specs.Lists.{all_of, in_order}
@@ -19,8 +20,9 @@ use Rattle.calls.specs.Limits.{list_within}
 use Rattle.calls.specs.Answers.{read_call}
 use Rattle.calls.proofs.encoding.Blocks.{field}
 use Rattle.reader.specs.CallFields.{rest_shapes, call_field_ok, head_field_ok, any_field_ok, others, field_from, least_of, follows, field_within}
-use Rattle.reader.specs.Table.{rank_of, most_of, Fits, Free, room, FieldNoted}
+use Rattle.reader.specs.Table.{rank_of, most_of, Fits, Free, Unfilled, room, FieldNoted}
 use Rattle.reader.specs.Readings.{laid_as}
+use Rattle.reader.specs.declared.table.PlaceTable.{PlaceTable}
 use Rattle.reader.proofs.BoolLaws.{apart, and_left, fails}
 use Rattle.reader.proofs.ShapeLaws.{same_or}
 use Rattle.reader.proofs.ListLaws.{bodies-here, bodies-other}
@@ -58,40 +60,37 @@ none-passed None h = refl
 none-passed (Some b) h = apart h
 
 -- the last field that was passed beside field 1
-abbrev pub last_field : List ℕ → ℕ → ℕ → ℕ → List Field
-last_field s last before len = cond (eqb last 0) [] (field_at s last before len ∷ [])
+abbrev pub last_field : List ℕ → FieldPlace → List Field
+last_field s last = cond (eqb last.tag 1) [] (field_at s last.tag last.start last.len ∷ [])
 
--- m fields beside field 1 were passed; the last has the tag `last`, 0 where none was, and 255 where they are not in order
-pub record Going (s : List ℕ) (call : ℕ) (any : Bool) (at m : ℕ) (head : Option ℕ) (last before : ℕ) (over : Bool) (counts index : List ℕ) : Type 0 where
+-- the pass at a place of the list: the last field that was passed has the tag 1 where none beside field 1 was, and 255 where they are not in order
+pub record Going (s : List ℕ) (call : ℕ) (any : Bool) (at : ℕ) (head : Option ℕ) (last : FieldPlace) (over : Bool) (table : PlaceTable) : Type 0 where
   pub walked : FieldsWalked s at
   pub heads : head_bodies s head ++ bodies 1 (fields (drop at s)) ≡ bodies 1 (fields s)
   pub inside : (b : ℕ) → head ≡ Some b → b + 39 ≤ length s
   pub fine : all_of (any_field_ok call any) (fields (drop at s)) ≡ all_of (any_field_ok call any) (fields s)
-  pub len : ℕ
-  pub kept : (last ≡ 0) ⊎ ((before + len ≤ length s) × (least_of last ≤ len))
-  pub order : (last ≡ 255 → ⊥) → in_order follows (last_field s last before len ++ others (fields (drop at s))) ≡ in_order follows (others (fields s))
-  pub width : length counts ≡ 8
-  pub fits : Fits s index
-  pub many : 3 * m ≤ at
-  pub limits : Limits s call at (head_size head) m counts index over
+  pub kept : (last.tag ≡ 1) ⊎ ((last.start + last.len ≤ length s) × (least_of last.tag ≤ last.len))
+  pub order : (last.tag ≡ 255 → ⊥) → in_order follows (last_field s last ++ others (fields (drop at s))) ≡ in_order follows (others (fields s))
+  pub width : length table.counts ≡ 8
+  pub fits : Fits s table.index.now
+  pub many : 3 * table.n ≤ at
+  pub limits : Limits s call at (head_size head) table.n table.counts table.index.now over
 
-abbrev pub zeros : List ℕ
-zeros = 0 ∷ 0 ∷ 0 ∷ 0 ∷ 0 ∷ 0 ∷ 0 ∷ 0 ∷ []
-
-pub going_start : (s : List ℕ) (call : ℕ) (any : Bool) (index counts : List ℕ) → Fits s index → counts ≡ zeros → Going s call any 0 0 None 0 0 false counts index
-going_start s call any index counts z e =
+pub going_start :
+    (s : List ℕ) (call : ℕ) (any : Bool) (last : FieldPlace) (table : PlaceTable) → last.tag ≡ 1 → Fits s table.index.now → Unfilled table
+    → Going s call any 0 None last false table
+going_start s call any last table t z e =
     record {
       walked = walked_none s;
       heads = refl;
       inside = λ b n. absurd (let z : ◌≡◌ {A = ℕ} 0 1 = cc in omega arith);
       fine = refl;
-      len = 0;
-      kept = inl refl;
-      order = λ h. refl;
-      width = ap length e;
+      kept = inl t;
+      order = λ h. rw t refl;
+      width = ap length e.0;
       fits = z;
-      many = omega arith;
-      limits = rw e (noting-none s index);
+      many = omega (arith, e.1);
+      limits = rw (e.0, e.1) (noting-none s table.index.now);
     }
 
 ok-listed : (s : List ℕ) (call t b n : ℕ) → b + n ≤ length s → call_field_ok call (field_at s t b n) ≡ true → FieldListed call t n
@@ -113,8 +112,8 @@ module _ (s : List ℕ) (call : ℕ) (any : Bool) where
   miscounted n = list-laid s call any ∙ simp (ne_eqb (length (bodies 1 (fields s))) 1 n, and-false)
 
 module _
-    (s : List ℕ) (call : ℕ) (any : Bool) (at m : ℕ) (head : Option ℕ) (last before : ℕ) (over : Bool) (counts index : List ℕ)
-    (g : Going s call any at m head last before over counts index) where
+    (s : List ℕ) (call : ℕ) (any : Bool) (at : ℕ) (head : Option ℕ) (last : FieldPlace) (over : Bool) (table : PlaceTable)
+    (g : Going s call any at head last over table) where
   pub breaks : step_of at (drop at s) ≡ None → eqb at (length s) ≡ false → laid_as call any s ≡ false
   breaks e h = cut s call any (whole-stop s at g.walked e ∙ h)
 
@@ -158,16 +157,16 @@ module _
             ap (λ (k : ℕ). take k (drop b s) ∷ bodies 1 (fields (drop (b + n) s))) (sym head-long) ∙ sym comes
             ∙ ap (λ (x : Option ℕ). head_bodies s x ++ bodies 1 (fields (drop at s))) (sym (none-passed head h)) ∙ g.heads
 
-        passed-limits : (o : Bool) → Limits s call at (head_size head) m counts index o → Limits s call (b + n) 42 m counts index o
+        passed-limits : (o : Bool) → Limits s call at (head_size head) table.n table.counts table.index.now o → Limits s call (b + n) 42 table.n table.counts table.index.now o
         passed-limits true w = w
         passed-limits false w =
             let z : head_size head ≡ 0 = ap head_size (none-passed head h) in
-            rw head-long (noting-head s (others (fields s)) at (head_size head) m counts index g.width w z b first-at)
+            rw head-long (noting-head s (others (fields s)) at (head_size head) table.n table.counts table.index.now g.width w z b first-at)
 
         others_same : others (fields (drop at s)) ≡ others (fields (drop (b + n) s))
         others_same = ap others f.here ∙ others-head (field_at s t b n) (fields (drop (b + n) s)) e
 
-        pub goes-head : Going s call any (b + n) m (Some b) last before over counts index
+        pub goes-head : Going s call any (b + n) (Some b) last over table
         goes-head =
             record {
               walked = walked_more s at g.walked t b n f;
@@ -176,9 +175,8 @@ module _
                   let y : b ≡ c = cc in
                   omega (arith, f.within, head-long);
               fine = passed-fine (any_head call any (field_at s t b n) e ∙ ok);
-              len = g.len;
               kept = g.kept;
-              order = λ o. ap (λ (fs : List Field). in_order follows (last_field s last before g.len ++ fs)) (sym others_same) ∙ g.order o;
+              order = λ o. ap (λ (fs : List Field). in_order follows (last_field s last ++ fs)) (sym others_same) ∙ g.order o;
               width = g.width;
               fits = g.fits;
               many = omega (arith, g.many, f.on);
@@ -200,7 +198,7 @@ module _
       pub next-below : t ≡ 255 → ⊥
       next-below e = omega (arith, listed_below next-listed)
 
-      pub last_within : last ≡ t → before + least_of t ≤ length s
+      pub last_within : last.tag ≡ t → last.start + least_of t ≤ length s
       last_within e =
           ⊎_elim (λ z. absurd (omega (arith, listed_above next-listed)))
           (λ k. rw (← e) (omega (arith, k.0, k.1))) g.kept
@@ -211,27 +209,27 @@ module _
           ap others f.here ∙ others-more (field_at s t b n) (fields (drop (b + n) s)) (λ e. omega (arith, listed_above next-listed))
 
       abbrev ordered_on : List Field → Bool
-      ordered_on rest = follows (field_from s last before) (field_from s t b) && in_order follows (field_at s t b n ∷ rest)
+      ordered_on rest = follows (field_from s last.tag last.start) (field_from s t b) && in_order follows (field_at s t b n ∷ rest)
 
       -- it is the first of them, or stands after another
-      order-first : last ≡ 0 → (rest : List Field) → ordered_on rest ≡ in_order follows (last_field s last before g.len ++ (field_at s t b n ∷ rest))
+      order-first : last.tag ≡ 1 → (rest : List Field) → ordered_on rest ≡ in_order follows (last_field s last ++ (field_at s t b n ∷ rest))
       unfolding follows
-      order-first z rest = rw (z, lt-ltb 0 t (omega (arith, listed_above next-listed)))
+      order-first z rest = rw (z, lt-ltb 1 t (omega (arith, listed_above next-listed)))
 
-      order-later : (last ≡ 0 → ⊥) → least_of last ≤ g.len → (rest : List Field)
-          → ordered_on rest ≡ in_order follows (last_field s last before g.len ++ (field_at s t b n ∷ rest))
+      order-later : (last.tag ≡ 1 → ⊥) → least_of last.tag ≤ last.len → (rest : List Field)
+          → ordered_on rest ≡ in_order follows (last_field s last ++ (field_at s t b n ∷ rest))
       unfolding in_order
       order-later z l rest =
-          rw (ne_eqb last 0 z)
+          rw (ne_eqb last.tag 1 z)
           (ap (λ (x : Bool). x && in_order follows (field_at s t b n ∷ rest))
-          (sym (follows-cut s last before g.len t b n l (listed-least next-listed))))
+          (sym (follows-cut s last.tag last.start last.len t b n l (listed-least next-listed))))
 
-      order-here : (last ≡ 255 → ⊥) → ordered_on (others (fields (drop (b + n) s))) ≡ in_order follows (others (fields s))
+      order-here : (last.tag ≡ 255 → ⊥) → ordered_on (others (fields (drop (b + n) s))) ≡ in_order follows (others (fields s))
       order-here o =
           ⊎_elim (λ z. order-first z (others (fields (drop (b + n) s))))
           (λ z. order-later z (⊎_elim (λ k. absurd (z k)) (λ k. k.1) g.kept) (others (fields (drop (b + n) s))))
-          (same_or last 0)
-          ∙ ap (λ (fs : List Field). in_order follows (last_field s last before g.len ++ fs)) (sym comes-beside)
+          (same_or last.tag 1)
+          ∙ ap (λ (fs : List Field). in_order follows (last_field s last ++ fs)) (sym comes-beside)
           ∙ g.order o
 
 -- a limit that is passed
@@ -260,13 +258,17 @@ set-length true xs i v = refl
 set-length false xs i v = length-set xs i v
 
 pub passed_length :
-    {s : List ℕ} {over : Bool} {t b m : ℕ} {counts counts' index index' : List ℕ} {r : Bool}
-    → FieldNoted s over t b m counts counts' index index' r → length index' ≡ length index
-passed_length {b = b} {m = m} {index = index} {r = r} p = ap length p.placed ∙ set-length r index m b
+    {s : List ℕ} {over : Bool} {t b : ℕ} {before after : PlaceTable} {r : Bool} → FieldNoted s over t b before after r
+    → length after.index.now ≡ length before.index.now
+passed_length {b = b} {before = before} {r = r} p = ap length p.placed ∙ set-length r before.index.now before.n b
+
+at-most-one : (r : Bool) (n : ℕ) → cond r n (n + 1) ≤ n + 1
+at-most-one true n = omega arith
+at-most-one false n = omega arith
 
 module _
-    (s : List ℕ) (call : ℕ) (any : Bool) (at m : ℕ) (head : Option ℕ) (last before : ℕ) (over : Bool) (counts index : List ℕ)
-    (g : Going s call any at m head last before over counts index) (t b n : ℕ) (e : step_of at (drop at s) ≡ found t b n)
+    (s : List ℕ) (call : ℕ) (any : Bool) (at : ℕ) (head : Option ℕ) (last : FieldPlace) (over : Bool) (table : PlaceTable)
+    (g : Going s call any at head last over table) (t b n : ℕ) (e : step_of at (drop at s) ≡ found t b n)
     (ok : call_field_ok call (field_at s t b n) ≡ true) where
   f : FieldAt s at t b n
   f = field-at s at t b n e
@@ -284,42 +286,43 @@ module _
   here-within q h = within-cut s b n t (listed-least l) ∙ sym h
 
   -- an entry for it, where it is noted
-  entry_free : (o : Bool) → o ≡ false → Limits s call at h m counts index o → Free counts (rank_of t) m index
+  entry_free : (o : Bool) → o ≡ false → Limits s call at h table.n table.counts table.index.now o → Free table (rank_of t)
   entry_free true z w = apart z
   entry_free false z w =
       λ k.
       ⊎_elim
-      (λ l. omega (arith, table-free s (others (fields s)) at h m counts index g.width w (rank_of t) (rank_below t) k))
+      (λ l. omega (arith, table-free s (others (fields s)) at h table.n table.counts table.index.now g.width w (rank_of t) (rank_below t) k))
       (λ l. omega (arith, g.many, f.on, f.within))
       g.fits
 
-  pub next-free : over ≡ false → Free counts (rank_of t) m index
+  pub next-free : over ≡ false → Free table (rank_of t)
   next-free z = entry_free over z g.limits
 
   limits-next :
-      (o p q : Bool) → p ≡ field_within (field_from s t b) → q ≡ room counts (rank_of t) b → Limits s call at h m counts index o
-      → Limits s call (b + n) h (m + 1)
-      (cond (o || (not p || not q)) counts (set counts (rank_of t) (get_or counts (rank_of t) 0 + 1)))
-      (cond (o || (not p || not q)) index (set index m b))
+      (o p q : Bool) → p ≡ field_within (field_from s t b) → q ≡ room table.counts (rank_of t) b
+      → Limits s call at h table.n table.counts table.index.now o
+      → Limits s call (b + n) h (cond (o || (not p || not q)) table.n (table.n + 1))
+      (cond (o || (not p || not q)) table.counts (set table.counts (rank_of t) (get_or table.counts (rank_of t) 0 + 1)))
+      (cond (o || (not p || not q)) table.index.now (set table.index.now table.n b))
       (o || (not p || not q))
   limits-next true p q hp hq w = w
   limits-next false false q hp hq w =
       λ r.
       over-field s call
-      (field-over s (others (fields s)) at h m counts index g.width w t b n f beside (here-within false hp))
+      (field-over s (others (fields s)) at h table.n table.counts table.index.now g.width w t b n f beside (here-within false hp))
   limits-next false true false hp hq w =
       λ r.
       over-rank s call t n l r
-      (rank-full s (others (fields s)) at h m counts index g.width w t b n f beside
-      (room-false counts (rank_of t) b
-      (omega (arith, f.on, place-fits s (others (fields s)) at h m counts index g.width w (head-most head))) hq))
+      (rank-full s (others (fields s)) at h table.n table.counts table.index.now g.width w t b n f beside
+      (room-false table.counts (rank_of t) b
+      (omega (arith, f.on, place-fits s (others (fields s)) at h table.n table.counts table.index.now g.width w (head-most head))) hq))
   limits-next false true true hp hq w =
-      noting-more s (others (fields s)) at h m counts index g.width w t b n f beside
-      (entry_free false refl w (room-true counts (rank_of t) b hq)) (here-at s at t b n e f)
-      (listed-most l) (here-within true hp) (room-true counts (rank_of t) b hq)
+      noting-more s (others (fields s)) at h table.n table.counts table.index.now g.width w t b n f beside
+      (entry_free false refl w (room-true table.counts (rank_of t) b hq)) (here-at s at t b n e f)
+      (listed-most l) (here-within true hp) (room-true table.counts (rank_of t) b hq)
 
   -- none stands in order after 255
-  last_some : follows (field_from s last before) (field_from s t b) ≡ true → last ≡ 255 → ⊥
+  last_some : follows (field_from s last.tag last.start) (field_from s t b) ≡ true → last.tag ≡ 255 → ⊥
   unfolding follows
   last_some z e =
       apart (sym z ∙ rw (e, le-ltb 255 t (omega (arith, listed_below l)), ne_eqb 255 t (λ y. omega (arith, listed_below l))))
@@ -328,22 +331,22 @@ module _
   abbrev next_tag : Bool → ℕ
   next_tag q = cond q t 255
 
-  passed-order : (q : Bool) → follows (field_from s last before) (field_from s t b) ≡ q → (next_tag q ≡ 255 → ⊥)
-      → in_order follows (last_field s (next_tag q) b n ++ others (fields (drop (b + n) s))) ≡ in_order follows (others (fields s))
+  passed-order : (q : Bool) → follows (field_from s last.tag last.start) (field_from s t b) ≡ q → (next_tag q ≡ 255 → ⊥)
+      → in_order follows (last_field s (record { tag = next_tag q; start = b; len = n }) ++ others (fields (drop (b + n) s))) ≡ in_order follows (others (fields s))
   passed-order false z k = absurd (k refl)
   passed-order true z k =
-      rw (ne_eqb t 0 (λ y. omega (arith, listed_above l)))
-      (simp z at (order-here s call any at m head last before over counts index g t b n f ok (last_some z)))
+      rw (ne_eqb t 1 (λ y. omega (arith, listed_above l)))
+      (simp z at (order-here s call any at head last over table g t b n f ok (last_some z)))
 
   least-next : (q : Bool) → least_of (next_tag q) ≤ n
   least-next true = listed-least l
   least-next false = omega arith
 
   pub goes_on :
-      (counts' index' : List ℕ) (r : Bool) (tag : ℕ) → tag ≡ cond (follows (field_from s last before) (field_from s t b)) t 255
-      → FieldNoted s over t b m counts counts' index index' r → Going s call any (b + n) (m + 1) head tag b r counts' index'
-  goes_on counts' index' r tag z p =
-      let q = follows (field_from s last before) (field_from s t b) in
+      (after : PlaceTable) (r : Bool) (tag : ℕ) → tag ≡ cond (follows (field_from s last.tag last.start) (field_from s t b)) t 255
+      → FieldNoted s over t b table after r → Going s call any (b + n) head (record { tag = tag; start = b; len = n }) r after
+  goes_on after r tag z p =
+      let q = follows (field_from s last.tag last.start) (field_from s t b) in
       record {
         walked = walked_more s at g.walked t b n f;
         heads =
@@ -352,23 +355,22 @@ module _
             ∙ g.heads;
         inside = g.inside;
         fine =
-            passed-fine s call any at m head last before over counts index g t b n f
+            passed-fine s call any at head last over table g t b n f
             (any-beside call any (field_at s t b n) beside ∙ ok);
-        len = n;
         kept = inr (f.within, rw z (least-next q));
         order = rw z (passed-order q refl);
-        width = ap length p.counted ∙ set-length r counts (rank_of t) _ ∙ g.width;
+        width = ap length p.counted ∙ set-length r table.counts (rank_of t) _ ∙ g.width;
         fits =
             let z = passed_length p in
             ⊎_elim (λ l. inl (omega arith)) (λ l. inr (omega arith)) g.fits;
-        many = omega (arith, g.many, f.on);
+        many = omega (arith, g.many, f.on, p.number, at-most-one r table.n);
         limits =
-            rw (p.counted, p.placed, p.answer)
-            (limits-next over (field_within (field_from s t b)) (room counts (rank_of t) b) refl refl g.limits);
+            rw (p.counted, p.placed, p.number, p.answer)
+            (limits-next over (field_within (field_from s t b)) (room table.counts (rank_of t) b) refl refl g.limits);
       }
 
   -- where it follows the last
   pub goes_after :
-      (counts' index' : List ℕ) (r : Bool) → follows (field_from s last before) (field_from s t b) ≡ true
-      → FieldNoted s over t b m counts counts' index index' r → Going s call any (b + n) (m + 1) head t b r counts' index'
-  goes_after counts' index' r z p = goes_on counts' index' r t (sym (rw z)) p
+      (after : PlaceTable) (r : Bool) → follows (field_from s last.tag last.start) (field_from s t b) ≡ true
+      → FieldNoted s over t b table after r → Going s call any (b + n) head (record { tag = t; start = b; len = n }) r after
+  goes_after after r z p = goes_on after r t (sym (rw z)) p

@@ -3,6 +3,7 @@ pub mod Bodies
 pub mod CallFields
 pub mod Table
 pub mod Readings
+pub mod Lending
 pub mod KeyHere
 pub mod Located
 pub mod Pieces

@@ -39,12 +39,12 @@ abbrev pub HeadFirst : ℕ → Bool → List ℕ → Option ℕ → Type 0
 HeadFirst call any s r = (b : ℕ) → r ≡ Some b → HeadAt call any s b
 
 -- none where the list breaks the layout, else what is found
-pub record Surveyed (call : ℕ) (any : Bool) (s counts index : List ℕ) (r : Option Laid) : Type 0 where
+pub record Surveyed (call : ℕ) (any : Bool) (s index : List ℕ) (r : Option Laid) : Type 0 where
   pub broken : r ≡ None → laid_as call any s ≡ false
-  pub found : (p : Laid) → r ≡ Some p → LaidFound call any s counts index p.head p.over p.ordered
+  pub found : (p : Laid) → r ≡ Some p → LaidFound call any s p.counts index p.head p.over p.ordered
 
 -- what is answered is laid out and in order; none tells nothing of the list
-pub record OrderSurveyed (call : ℕ) (any : Bool) (s counts index : List ℕ) (r : Option Laid) : Type 0 where
-  pub found : (p : Laid) → r ≡ Some p → LaidFound call any s counts index p.head p.over p.ordered
+pub record OrderSurveyed (call : ℕ) (any : Bool) (s index : List ℕ) (r : Option Laid) : Type 0 where
+  pub found : (p : Laid) → r ≡ Some p → LaidFound call any s p.counts index p.head p.over p.ordered
   pub ordered : (p : Laid) → r ≡ Some p → p.ordered ≡ true
   pub fits : Fits s index

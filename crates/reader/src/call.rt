@@ -1,19 +1,20 @@
 // Call lists and volumes: refusals 2, 22 and 3. A list in order is judged in one pass; any other has its table sorted.
-ghost use Rattle.std.specs.Prelude.{◌≡◌, ◌||◌, not, cond, unwrap_or, is_none};
+ghost use Rattle.std.specs.Prelude.{◌≡◌, ◌<◌, ◌||◌, not, cond, unwrap_or, is_none};
 ghost use Rattle.calls.specs.CallList.{none_twice};
 ghost use Rattle.calls.specs.Answers.{read_volume};
 ghost use Rattle.reader.specs.CallFields.{head_within};
 ghost use Rattle.reader.specs.Heads.{head_in};
-ghost use Rattle.reader.specs.Refusals.{number_of};
+ghost use Rattle.reader.specs.Refusals.{number_of, number_in};
 ghost use Rattle.reader.specs.Arranged.{PastAsked};
 ghost use Rattle.reader.specs.Table.{Fits};
-ghost use Rattle.reader.specs.Readings.{call_refusal, volume_refusal, list_refusal, Answered};
+ghost use Rattle.reader.specs.Lending.{AnswersRead};
+ghost use Rattle.reader.specs.Readings.{list_refusal, TableAnswered, refusal_of, ReadAs, ReadAnswered};
 
 use crate::head::Head;
+use crate::read_list::ReadList;
 use crate::refusal::Refusal;
-use crate::survey::Laid;
 use crate::table::Ends;
-use crate::{arrange, head, survey, table};
+use crate::{arrange, head, read_list, survey, table};
 
 // Whether a limit is passed, by a field or by the head.
 fn past_limit(over: bool, first: Head) -> bool
@@ -37,27 +38,19 @@ fn past_refusal(s: &[u8], ordered: bool) -> Refusal
 }
 
 // A list of the call that is asked for, or of whatever call its head names: its head, and where the places of each tag end in the table. The table that is lent shows the bound.
-fn read_list(s: &[u8], asked: Option<u8>, index: &mut [u32]) -> Result<(Head, Ends), Refusal>
+fn read_table(s: &[u8], asked: Option<u8>, index: &mut [u32]) -> Result<(Head, Ends), Refusal>
     requires { Fits s.now index.old }
-    ensures { Answered (list_refusal (unwrap_or asked 0) (is_none asked) s.now) (unwrap_or asked 0) s.now index.new result }
+    ensures { TableAnswered (list_refusal (unwrap_or asked 0) (is_none asked) s.now) (unwrap_or asked 0) s.now index.new result }
 {
-    let mut counts = [0usize; 8];
-    let Some(
-        Laid {
-            head,
-            over,
-            ordered,
-        },
-    ) = survey::survey(s, asked, &mut counts, index)
-    else {
+    let Some(laid) = survey::survey(s, asked, index) else {
         return Err(Refusal::Layout);
     };
-    let first = head::read_head(s, head);
-    if past_limit(over, first) {
-        return Err(past_refusal(s, ordered));
+    let first = head::read_head(s, laid.head);
+    if past_limit(laid.over, first) {
+        return Err(past_refusal(s, laid.ordered));
     }
-    let ends = table::ends_of(counts);
-    if ordered {
+    let ends = table::ends_of(laid.counts);
+    if laid.ordered {
         return Ok((first, ends));
     }
     if arrange::sort_table(s, asked.unwrap_or(0), ends, index) {
@@ -66,18 +59,52 @@ fn read_list(s: &[u8], asked: Option<u8>, index: &mut [u32]) -> Result<(Head, En
     Ok((first, ends))
 }
 
-// Reads a call's list: refusal 2, then 22, then 3, else its head and the table of its fields.
-pub fn read_call(s: &[u8], call: u8, index: &mut [u32]) -> Result<(Head, Ends), Refusal>
+// The same, with the table cut into its parts.
+fn read_parts<'a>(
+    s: &'a [u8],
+    asked: Option<u8>,
+    index: &'a mut [u32],
+) -> Result<ReadList<'a>, Refusal>
     requires { Fits s.now index.old }
-    ensures { Answered (call_refusal call s.now) call s.now index.new result }
+    ensures { ReadAnswered asked s.now result }
 {
-    read_list(s, Some(call), index)
+    let (first, ends) = read_table(s, asked, index)?;
+    Ok(read_list::cut(s, first, index, ends))
 }
 
-// Reads a volume in the same way: a list of any call, without requests.
-pub fn read_volume(s: &[u8], index: &mut [u32]) -> Result<(Head, Ends), Refusal>
-    requires { Fits s.now index.old }
-    ensures { Answered (volume_refusal s.now) 0 s.now index.new result }
+// Reads a list by a table, and answers it.
+fn answer_by<F: FnOnce(&ReadList, &mut [u32], &mut [u8]) -> Result<usize, Refusal>>(
+    list: &[u8],
+    asked: Option<u8>,
+    index: &mut [u32],
+    scratch: &mut [u32],
+    out: &mut [u8],
+    answer: F,
+) -> Result<usize, Refusal>
+    requires fits { Fits list.now index.old }
+    requires callable { (r : _) (t : _) (o : _) → ReadAs asked r.now → r.now.list.now ≡ list.now → t.now ≡ scratch.old → o.now ≡ out.old → F.pre answer r t o }
+    ensures refused { 0 < refusal_of asked list.now → (number_in result ≡ refusal_of asked list.now) × (scratch.new ≡ scratch.old) × (out.new ≡ out.old) }
+    ensures answered { 0 ≡ refusal_of asked list.now → AnswersRead F.FnOnce answer asked list.now scratch.old out.old result scratch.new out.new }
 {
-    read_list(s, None, index)
+    let read = read_parts(list, asked, index)?;
+    answer(&read, scratch, out)
+}
+
+// Reads a list of the call that is asked for, or a volume: refusal 2, then 22, then 3, else what is answered to it, with the scratch and the output that are lent. A short
+// list has a table of its own, since a long one takes time to clear.
+pub fn with_list<F: FnOnce(&ReadList, &mut [u32], &mut [u8]) -> Result<usize, Refusal>>(
+    list: &[u8],
+    asked: Option<u8>,
+    scratch: &mut [u32],
+    out: &mut [u8],
+    answer: F,
+) -> Result<usize, Refusal>
+    requires callable { (r : _) (t : _) (o : _) → ReadAs asked r.now → r.now.list.now ≡ list.now → t.now ≡ scratch.old → o.now ≡ out.old → F.pre answer r t o }
+    ensures refused { 0 < refusal_of asked list.now → (number_in result ≡ refusal_of asked list.now) × (scratch.new ≡ scratch.old) × (out.new ≡ out.old) }
+    ensures answered { 0 ≡ refusal_of asked list.now → AnswersRead F.FnOnce answer asked list.now scratch.old out.old result scratch.new out.new }
+{
+    if list.len() <= 3072 {
+        return answer_by(list, asked, &mut [0u32; 1024], scratch, out, answer);
+    }
+    answer_by(list, asked, &mut [0u32; 29696], scratch, out, answer)
 }

@@ -8,13 +8,13 @@ use crate::keys;
 use wire::fields::{FieldPlace, Fields};
 use wire::{keys as wire_keys, le};
 
-// Whether a body of len bytes names a root: 10, 12 or 14. A field's length shows the bound.
+// Whether a field's body names a root: 10, 12 or 14. Its length shows the bound, here and below.
 #[tactic(auto, using(crate::proofs::ShapeLaws::root_cases))]
-fn root_ok(s: &[u8], start: usize, len: usize) -> bool
-    requires { start + len ≤ length s.now }
-    ensures { result ≡ root_ok (take len (drop start s.now)) }
+fn root_ok(s: &[u8], field: FieldPlace) -> bool
+    requires { field.start + field.len ≤ length s.now }
+    ensures { result ≡ root_ok (take field.len (drop field.start s.now)) }
 {
-    len == 1 && matches!(le::le8(s, start), 10 | 12 | 14)
+    field.len == 1 && matches!(le::le8(s, field.start), 10 | 12 | 14)
 }
 
 // Whether a row has one number or three.
@@ -24,21 +24,21 @@ fn row_sized(len: usize) -> bool
     len == 24 || len == 40
 }
 
-// Whether a field may stand in a change list. A field's length shows the bound.
+// Whether a field may stand in a change list.
 #[tactic(auto, using(crate::proofs::ShapeLaws::change_cases))]
-fn field_ok(s: &[u8], tag: u8, start: usize, len: usize) -> bool
-    requires { start + len ≤ length s.now }
-    ensures { result ≡ change_field_ok (field_at s.now tag start len) }
+fn field_ok(s: &[u8], field: FieldPlace) -> bool
+    requires { field.start + field.len ≤ length s.now }
+    ensures { result ≡ change_field_ok (field_at s.now field.tag field.start field.len) }
 {
-    match tag {
-        0 => wire_keys::key_sized(len),
-        4 | 10..=14 => keys::key_ok(s, start, len),
-        70 => root_ok(s, start, len),
-        71 | 75 => len == 4,
-        72 => len == 15,
-        73 => row_sized(len),
-        74 => len == 8,
-        76 => len == 0,
+    match field.tag {
+        0 => wire_keys::key_sized(field.len),
+        4 | 10..=14 => keys::key_ok(s, field),
+        70 => root_ok(s, field),
+        71 | 75 => field.len == 4,
+        72 => field.len == 15,
+        73 => row_sized(field.len),
+        74 => field.len == 8,
+        76 => field.len == 0,
         _ => false,
     }
 }
@@ -57,11 +57,11 @@ pub fn check_change(s: &[u8]) -> bool
 {
     let mut fields = Fields::of(s);
     let mut last: u8 = 76;
-    while let Some(FieldPlace { tag, start, len }) = fields.next() {
-        if !field_ok(s, tag, start, len) || !tag_after(last, tag) {
+    while let Some(field) = fields.next() {
+        if !field_ok(s, field) || !tag_after(last, field.tag) {
             return false;
         }
-        last = tag;
+        last = field.tag;
     }
     fields.at_end() && last == 76
 }

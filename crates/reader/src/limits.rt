@@ -3,6 +3,7 @@ ghost use Rattle.std.specs.Prelude.{◌≡◌, ◌+◌, ◌≤◌, length, drop}
 ghost use Rattle.wire.specs.Keys.{key_of};
 ghost use Rattle.reader.specs.CallFields.{alloc_within, run_within, waiting_within, field_within, field_from, least_of};
 
+use wire::fields::FieldPlace;
 use wire::key_types::KeyType;
 use wire::{keys, kinds, positions};
 
@@ -41,15 +42,15 @@ fn waiting_within(s: &[u8], start: usize) -> bool
 
 // Whether a field after field 1 keeps the limits. The length that its tag asks shows the bound.
 #[tactic(auto, using(crate::proofs::OrderingLaws::within_cases))]
-pub fn field_within(s: &[u8], tag: u8, start: usize) -> bool
-    requires { start + least_of tag ≤ length s.now }
-    ensures { result ≡ field_within (field_from s.now tag start) }
+pub fn field_within(s: &[u8], field: FieldPlace) -> bool
+    requires { field.start + least_of field.tag ≤ length s.now }
+    ensures { result ≡ field_within (field_from s.now field.tag field.start) }
 {
-    match tag {
-        4 => alloc_within(s, start),
-        11 => run_within(s, start),
-        12 => waiting_within(s, start),
-        64 => kinds::bucket_in_range(kinds::read_bucket(s, start)),
+    match field.tag {
+        4 => alloc_within(s, field.start),
+        11 => run_within(s, field.start),
+        12 => waiting_within(s, field.start),
+        64 => kinds::bucket_in_range(kinds::read_bucket(s, field.start)),
         _ => true,
     }
 }

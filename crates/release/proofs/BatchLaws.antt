@@ -44,7 +44,7 @@ use Rattle.release_keys.specs.Tables.{no_row, row_buckets, RowsHeld, RowsWithin}
 use Rattle.release_keys.proofs.RowLaws.{rows-held, rows-within}
 use Rattle.release.specs.Given.{volume_in, requests_in, change_of}
 use Rattle.release.specs.Outcomes.{Checked, VolumeTables, BatchTables}
-use Rattle.release.specs.declared.batch.Given.{Given}
+use Rattle.reader.specs.declared.read_list.ReadList.{ReadList}
 
 -- ---- the change list
 one_batch : (b : Batch) → change_bytes (b ∷ []) ≡ encode (batch_fields b)
@@ -108,11 +108,11 @@ emptied-named generation [] = refl
 emptied-named generation (b ∷ bs) = λ x. b ∷ emptied-named generation bs x
 
 -- the requests that refusal 14 passed
-pub pieces-bounded : {g : Given} → Checked g → g.head.bucket_sectors < 65536 → PiecesBounded g.list.now g.requests.now
+pub pieces-bounded : {g : ReadList} → Checked g → g.head.bucket_sectors < 65536 → PiecesBounded g.list.now g.requests.now
 pieces-bounded {g} p l = record { size = g.head.bucket_sectors; some-sectors = p.some-sectors; small = l; ok = p.checked }
 
 -- no more rows than requests
-pub tables-few : {g : Given} {rows : List FreedBucket} {records : List ℕ} → VolumeTables g rows records → length rows ≤ 1024
+pub tables-few : {g : ReadList} {rows : List FreedBucket} {records : List ℕ} → VolumeTables g rows records → length rows ≤ 1024
 tables-few {g} {rows} t =
     omega (
       arith,
@@ -123,7 +123,7 @@ tables-few {g} {rows} t =
       t.passed.few,
     )
 
-module _ {g : Given} {rows : List FreedBucket} {records : List ℕ} {emptied : List Emptied} (d : BatchTables g rows records emptied) where
+module _ {g : ReadList} {rows : List FreedBucket} {records : List ℕ} {emptied : List Emptied} (d : BatchTables g rows records emptied) where
   abbrev v : Volume
   v = volume_in g
 

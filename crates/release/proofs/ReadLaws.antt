@@ -1,10 +1,11 @@
 -- From the list that was read to the keys and pieces that its table finds, and from the call's refusals to the answer.
 use mathlib.Core.Path.{◌≡◌, refl, sym, ap, ◌∙◌, subst}
-use mathlib.Core.Bool.{Bool, true, false}
+use mathlib.Core.Bool.{Bool, true}
+use Rattle.std.proofs.Common.{Some}
 use mathlib.Core.List.{List, [], ◌∷◌, ◌++◌, map}
 use Prim.Native.Nat.{ℕ, suc, ◌-◌, ◌≤◌, ◌<◌}
 use native.Mathlib.Omega.{arith}
-use lib.ListN.{length, get_or, take, drop, replicate, length-append, length-take, length-drop, length-replicate, get_or-append}
+use lib.ListN.{length, get_or, take, drop, replicate, length-append, length-drop, length-replicate, get_or-append}
 use lib.Seq.{drop_at}
 use borrow.Author.Tests.{le-leb, lt-leb, lt-ltb, le-ltb, ltb-true}
 use Rattle.wire.specs.Keys.{Key}
@@ -21,14 +22,12 @@ use Rattle.calls.proofs.trees.SixTrees.{EachTree, trees-each}
 use Rattle.reader.specs.KeyHere.{keys_here}
 use Rattle.reader.specs.Heads.{head_in}
 use Rattle.reader.specs.Located.{KeysAt, FreedAt, no_freed, FreedsAt}
-use Rattle.reader.specs.Readings.{call_refusal, ListRead}
+use Rattle.reader.specs.Readings.{call_refusal, ReadAs}
 use Rattle.reader.specs.declared.head.Head.{Head}
-use Rattle.reader.specs.declared.table.Ends.{Ends}
+use Rattle.reader.specs.declared.read_list.ReadList.{ReadList}
 use Rattle.reader.proofs.CheckedLaws.{checked}
 use Rattle.reader.proofs.KeyHereLaws.{keyed, keys-here}
-use Rattle.reader.proofs.OfferedLaws.{call_kept}
-use Rattle.reader.proofs.PartsLaws.{passed, read-on, read-refused, TablePart, alloc-part, gens-part, freeds-part}
-use Rattle.reader.specs.Table.{between}
+use Rattle.reader.proofs.PartsLaws.{passed, read-on, read-refused, located, freeds-read}
 use Rattle.release_sums.specs.Freeds.{freeds_in, Requested}
 use Rattle.release_sums.specs.Summing.{Cleared}
 use Rattle.release_keys.specs.Places.{Keyed}
@@ -89,8 +88,8 @@ module _ (s : List ℕ) (n room : ℕ) where
       release-is s n room ∙ ap first (le-leb 65536 n h)
       ∙ answer-next 0 (test 2 (call_laid_out 2 s) ∷ test 22 (none_twice (read_volume s)) ∷ test 3 (list_within (read_call s)) ∷ later) bytes room refl
 
-  refused-answer : 65536 ≤ n → (m : ℕ) → m ≡ call_refusal 2 s → 0 < call_refusal 2 s → release s n room ≡ record { number = m; written = [] }
-  refused-answer h m e l = past-1 h ∙ read-refused 2 s later bytes room m e l
+  pub release-refused : 65536 ≤ n → 0 < call_refusal 2 s → release s n room ≡ record { number = call_refusal 2 s; written = [] }
+  release-refused h l = past-1 h ∙ read-refused 2 s later bytes room _ refl l
 
   -- the answer of the parts
   parts-answer : {h : Head} {alloc gens requests : List ℕ} → 65536 ≤ n → 0 ≡ call_refusal 2 s → head_in h ≡ (read_volume s).head → KeysAt s alloc (read_volume s).trees.alloc
@@ -141,48 +140,23 @@ module _ (l m : List ℕ) (h : 65536 ≤ length l) (e : m ≡ replicate 65536 0 
       ∙ sym (scratch-long l h)
 
 -- ---- a list that was read
-module _ {s index : List ℕ} {h : Head} {e : Ends} (q : ListRead 2 s index h e) (z : 0 ≡ call_refusal 2 s) where
-  abbrev allocs : List ℕ
-  allocs = take e.alloc index
-
-  abbrev records : List ℕ
-  records = between e.backpointers e.gens index
-
-  abbrev requests : List ℕ
-  requests = between e.reserved e.requests index
-
-  pub parts_within : TablePart 0 e.alloc 4096 index × TablePart e.backpointers e.gens 4096 index × TablePart e.reserved e.requests 1024 index
-  parts_within = ((alloc-part 2 false s index h e (call_kept 2 s z) q).0, (gens-part 2 false s index h e (call_kept 2 s z) q).0, (freeds-part s index h e z q).0)
-
-  allocs-at : KeysAt s allocs (read_volume s).trees.alloc
-  allocs-at = (alloc-part 2 false s index h e (call_kept 2 s z) q).1
-
-  records-at : KeysAt s records (read_volume s).trees.gens
-  records-at = (gens-part 2 false s index h e (call_kept 2 s z) q).1
-
-  requests-at : FreedsAt s requests (read_call s).releases
-  requests-at = (freeds-part s index h e z q).1
-
+module _ {r : ReadList} (q : ReadAs (Some 2) r) where
   -- what `release_lists` requires
-  pub parts-keyed : Keyed s allocs × (keys_ok (keys_here s allocs) ≡ true) × Keyed s records
-  parts-keyed =
-      let a = keyed-ok allocs-at (trees-ok s z).alloc in
-      (a.0, a.1, keyed records-at)
+  pub read-keyed : Keyed r.list.now r.alloc.now × (keys_ok (keys_here r.list.now r.alloc.now) ≡ true) × Keyed r.list.now r.gens.now
+  read-keyed =
+      let a = keyed-ok (located q).alloc (trees-ok r.list.now q.passed).alloc in
+      (a.0, a.1, keyed (located q).gens)
 
-  pub parts-requested : Requested s requests
-  parts-requested = requested requests-at
-
-  pub parts-few : length requests ≤ 1024
-  parts-few = omega (arith, length-take (e.requests - e.reserved) (drop e.reserved index), parts_within.2.few)
+  pub read-requested : Requested r.list.now r.requests.now × (length r.requests.now ≤ 1024)
+  read-requested = let f = freeds-read q in (requested f.0, f.1)
 
   -- its outcome is the call's
-  pub parts-outcome : (n : ℕ) → 65536 ≤ n → (out : List ℕ) {m : Outcome} → m ≡ outcome (answer_of (head_in h) (keys_here s allocs) (keys_here s records) (freeds_in s requests) (length out)) out
-      → m ≡ outcome (release s n (length out)) out
-  parts-outcome n l out p = p ∙ ap (λ (a : Answer). outcome a out) (parts-answer s n (length out) {h = h} l z q.head allocs-at records-at requests-at)
+  pub read-outcome : (n : ℕ) → 65536 ≤ n → (out : List ℕ) {m : Outcome}
+      → m ≡ outcome (answer_of (head_in r.head) (keys_here r.list.now r.alloc.now) (keys_here r.list.now r.gens.now) (freeds_in r.list.now r.requests.now) (length out)) out
+      → m ≡ outcome (release r.list.now n (length out)) out
+  read-outcome n l out p =
+      p ∙ ap (λ (a : Answer). outcome a out) (parts-answer r.list.now n (length out) {h = r.head} l q.passed q.read.head (located q).alloc (located q).gens (freeds-read q).0)
 
--- ---- the outcome of a call that refusals 1 to 3 stop
+-- ---- the outcome of a call that refusal 1 stops
 pub short_outcome : (s : List ℕ) (n : ℕ) (out : List ℕ) → n < 65536 → made 1 0 out ≡ outcome (release s n (length out)) out
 short_outcome s n out h = refused 1 out (short-answer s n (length out) h) refl
-
-pub read-outcome : (s : List ℕ) (n : ℕ) (out : List ℕ) → 65536 ≤ n → (m : ℕ) → m ≡ call_refusal 2 s → 0 < call_refusal 2 s → made m 0 out ≡ outcome (release s n (length out)) out
-read-outcome s n out h m e l = refused m out (refused-answer s n (length out) h m e l) refl

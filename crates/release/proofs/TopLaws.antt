@@ -25,11 +25,11 @@ use Rattle.release_sums.specs.declared.sums.FreedBucket.{FreedBucket}
 use Rattle.release_keys.specs.Tables.{no_row, row_buckets, PlacesOf, FreedTables}
 use Rattle.release.specs.Given.{volume_in, requests_in, change_of}
 use Rattle.release.specs.Outcomes.{Checked, Summed, bucket_tests}
-use Rattle.release.specs.declared.batch.Given.{Given}
+use Rattle.reader.specs.declared.read_list.ReadList.{ReadList}
 use Rattle.release.proofs.BatchLaws.{in-at}
 
 -- ---- the freed buckets, listed
-pub checked-made : {g : Given} → Requested g.list.now g.requests.now → length g.requests.now ≤ 1024 → 0 < g.head.bucket_sectors → all_of (freed_ok g.head.bucket_sectors) (requests_in g) ≡ true → Checked g
+pub checked-made : {g : ReadList} → Requested g.list.now g.requests.now → length g.requests.now ≤ 1024 → 0 < g.head.bucket_sectors → all_of (freed_ok g.head.bucket_sectors) (requests_in g) ≡ true → Checked g
 checked-made q f h ok = record { requested = q; few = f; some-sectors = h; checked = ok }
 
 -- each row's bucket, and its sum
@@ -51,7 +51,7 @@ placed-named [] (g ∷ after) e h = absurd (omega arith)
 placed-named (f ∷ before) [] e h = absurd (omega arith)
 placed-named (f ∷ before) (g ∷ after) e h = λ x. h 0 (omega arith) x ∷ placed-named before after (omega arith) (λ i l. h (suc i) (omega arith)) x
 
-module _ {g : Given} {rows : List FreedBucket} (m : Summed g rows) where
+module _ {g : ReadList} {rows : List FreedBucket} (m : Summed g rows) where
   abbrev sectors : ℕ
   sectors = g.head.bucket_sectors
 
@@ -85,7 +85,7 @@ module _ {g : Given} {rows : List FreedBucket} (m : Summed g rows) where
       }
 
 -- ---- refusals 15 to 19, and what follows
-module _ (g : Given) (room : ℕ) (out : List ℕ) (r : ℕ) (e : r ≡ verdict (map (bucket_refusal (volume_in g) (requests_in g)) (freed_buckets g.head.bucket_sectors (requests_in g)))) where
+module _ (g : ReadList) (room : ℕ) (out : List ℕ) (r : ℕ) (e : r ≡ verdict (map (bucket_refusal (volume_in g) (requests_in g)) (freed_buckets g.head.bucket_sectors (requests_in g)))) where
   pub tables-stop : (r ≡ 0 → ⊥) → made r 0 out ≡ outcome (answer (bucket_tests (volume_in g) (requests_in g)) (change_of g) room) out
   tables-stop n = refused r out (ap (λ (x : ℕ). answer (x ∷ []) (change_of g) room) (sym e) ∙ answer-stops r [] (change_of g) room n) refl
 

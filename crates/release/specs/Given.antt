@@ -7,7 +7,7 @@ use Rattle.calls.specs.Release.{release_batch}
 use Rattle.reader.specs.Heads.{head_in}
 use Rattle.reader.specs.KeyHere.{keys_here}
 use Rattle.release_sums.specs.Freeds.{freeds_in}
-use Rattle.release.specs.declared.batch.Given.{Given}
+use Rattle.reader.specs.declared.read_list.ReadList.{ReadList}
 
 -- what a release reads of a volume: its head, its alloc keys and its generation records
 abbrev pub volume_of : Head → List Key → List Key → Volume
@@ -19,12 +19,12 @@ volume_of h alloc gens =
     }
 
 -- those that it is given
-abbrev pub volume_in : Given → Volume
-volume_in g = volume_of (head_in g.head) (keys_here g.list.now g.alloc.now) (keys_here g.list.now g.gens.now)
+abbrev pub volume_in : ReadList → Volume
+volume_in r = volume_of (head_in r.head) (keys_here r.list.now r.alloc.now) (keys_here r.list.now r.gens.now)
 
-abbrev pub requests_in : Given → List Freed
-requests_in g = freeds_in g.list.now g.requests.now
+abbrev pub requests_in : ReadList → List Freed
+requests_in r = freeds_in r.list.now r.requests.now
 
 -- the bytes of its change list
-abbrev pub change_of : Given → List ℕ
-change_of g = change_bytes (release_batch (volume_in g) (requests_in g) ∷ [])
+abbrev pub change_of : ReadList → List ℕ
+change_of r = change_bytes (release_batch (volume_in r) (requests_in r) ∷ [])

@@ -7,27 +7,17 @@ ghost use Rattle.release.specs.Outcomes.{BatchTables};
 use accounting::released;
 use change_fields::batch_end;
 use reader::answer::Emit;
-use reader::head::Head;
+use reader::read_list::ReadList;
 use release_keys::freed_buckets::Emptied;
 use release_keys::{alloc_keys, backpointers, counts, gen_records, lru_keys, need_discards, roots};
 use release_sums::sums::FreedBucket;
 use std::marker::Model;
 use wire::output::Output;
 
-// What a release is given: the list, its head, and the places of its alloc keys, its generation records and its requests.
-#[derive(Clone, Copy, Drop)]
-pub struct Given<'a> {
-    pub list: &'a [u8],
-    pub head: Head,
-    pub alloc: &'a [u32],
-    pub gens: &'a [u32],
-    pub requests: &'a [u32],
-}
-
-// A release that no refusal stops, with its tables: the freed buckets, the generation records, and the buckets that are emptied. A clause sees its change list.
+// A release that no refusal stops, with its list and its tables: the freed buckets, the generation records, and the buckets that are emptied. A clause sees its change list.
 #[derive(Drop)]
 pub struct ReleaseBatch<'a> {
-    given: Given<'a>,
+    read: ReadList<'a>,
     rows: &'a [FreedBucket],
     records: &'a [u32],
     emptied: &'a [Emptied],
@@ -48,16 +38,16 @@ impl<'a> Model for ReleaseBatch<'a> {
 impl<'a> ReleaseBatch<'a> {
     // The batch of the tables. The refusals show what is required.
     pub fn new(
-        given: Given<'a>,
+        read: ReadList<'a>,
         rows: &'a [FreedBucket],
         records: &'a [u32],
         emptied: &'a [Emptied],
     ) -> ReleaseBatch<'a>
-        requires { BatchTables given rows.now records.now emptied.now }
-        ensures { result ≡ change_of given.entry }
+        requires { BatchTables read rows.now records.now emptied.now }
+        ensures { result ≡ change_of read.entry }
     {
         ReleaseBatch {
-            given,
+            read,
             rows,
             records,
             emptied,
@@ -70,17 +60,17 @@ impl<'a> Emit for ReleaseBatch<'a> {
 
     // The one batch, in the order of its tags.
     fn emit(&self, out: &mut Output) {
-        let g = &self.given;
-        let sectors = g.head.bucket_sectors as u64;
+        let read = &self.read;
+        let sectors = read.head.bucket_sectors as u64;
         let count = self.emptied.len();
-        let total = counts::total_freed(g.list, g.requests);
-        let unused = counts::unused_in(g.list, sectors, self.rows);
-        alloc_keys::put_allocs(out, g.list, g.head.journal, self.rows);
-        lru_keys::put_lrus(out, g.list, sectors, self.rows);
-        need_discards::put_need_discards(out, g.head.journal, self.emptied);
-        backpointers::put_backpointers(out, g.list, g.requests);
-        gen_records::put_gens(out, g.list, self.records, self.emptied);
-        roots::put_roots(out, count, g.head.roots);
+        let total = counts::total_freed(read.list, read.requests);
+        let unused = counts::unused_in(read.list, sectors, self.rows);
+        alloc_keys::put_allocs(out, read.list, read.head.journal, self.rows);
+        lru_keys::put_lrus(out, read.list, sectors, self.rows);
+        need_discards::put_need_discards(out, read.head.journal, self.emptied);
+        backpointers::put_backpointers(out, read.list, read.requests);
+        gen_records::put_gens(out, read.list, self.records, self.emptied);
+        roots::put_roots(out, count, read.head.roots);
         released::put_rows(out, count as u64, total, unused.kept, unused.lost);
         batch_end::put_end(out);
     }

@@ -11,9 +11,10 @@ ghost use Rattle.release_keys.specs.Places.{Keyed};
 ghost use Rattle.release.specs.Given.{volume_in, requests_in, change_of};
 ghost use Rattle.release.specs.Outcomes.{Checked, Summed, VolumeTables, bucket_tests};
 
-use crate::batch::{Given, ReleaseBatch};
+use crate::batch::ReleaseBatch;
 use gens::records;
 use reader::answer;
+use reader::read_list::ReadList;
 use reader::refusal::Refusal;
 use release_keys::freed_buckets::Emptied;
 use release_keys::{allocs, freed_buckets, refusals};
@@ -23,59 +24,63 @@ use wire::kinds::Bucket;
 
 // The answer where the tables are filled: refusals 15 to 19, and what follows. The tables show what is required, here and below.
 fn release_tables(
-    g: &Given,
+    read: &ReadList,
     rows: &[FreedBucket],
     records: &[u32],
     out: &mut [u8],
 ) -> Result<usize, Refusal>
-    requires { VolumeTables g.now rows.now records.now }
-    ensures { made_by result out.new ≡ outcome (answer (bucket_tests (volume_in g.now) (requests_in g.now)) (change_of g.now) (length out.old)) out.old }
+    requires { VolumeTables read.now rows.now records.now }
+    ensures { made_by result out.new ≡ outcome (answer (bucket_tests (volume_in read.now) (requests_in read.now)) (change_of read.now) (length out.old)) out.old }
 {
-    let sectors = g.head.bucket_sectors as u64;
-    refusals::refuse(g.list, sectors, rows, records)?;
+    let sectors = read.head.bucket_sectors as u64;
+    refusals::refuse(read.list, sectors, rows, records)?;
     let mut emptied = [Emptied {
         bucket: Bucket(0),
         generation: 0,
     }; 1024];
-    let n = freed_buckets::find_emptied(g.list, rows, &mut emptied);
-    let batch = ReleaseBatch::new(*g, rows, records, &emptied[..n]);
+    let n = freed_buckets::find_emptied(read.list, rows, &mut emptied);
+    let batch = ReleaseBatch::new(*read, rows, records, &emptied[..n]);
     answer::written(&batch, out)
 }
 
 // The answer where the freed buckets are listed. The layout shows that alloc keys ascend, here and below.
-fn release_buckets(g: &Given, rows: &mut [FreedBucket], out: &mut [u8]) -> Result<usize, Refusal>
-    requires keyed { Keyed g.now.list.now g.now.alloc.now × (keys_ok (keys_here g.now.list.now g.now.alloc.now) ≡ true) × Keyed g.now.list.now g.now.gens.now }
-    requires summed { Summed g.now rows.old }
-    ensures { made_by result out.new ≡ outcome (answer (bucket_tests (volume_in g.now) (requests_in g.now)) (change_of g.now) (length out.old)) out.old }
+fn release_buckets(
+    read: &ReadList,
+    rows: &mut [FreedBucket],
+    out: &mut [u8],
+) -> Result<usize, Refusal>
+    requires keyed { Keyed read.now.list.now read.now.alloc.now × (keys_ok (keys_here read.now.list.now read.now.alloc.now) ≡ true) × Keyed read.now.list.now read.now.gens.now }
+    requires summed { Summed read.now rows.old }
+    ensures { made_by result out.new ≡ outcome (answer (bucket_tests (volume_in read.now) (requests_in read.now)) (change_of read.now) (length out.old)) out.old }
 {
     let mut records = [0u32; 256];
-    allocs::find_allocs(g.list, g.alloc, rows);
-    records::find_records(g.list, g.gens, &mut records);
-    release_tables(g, rows, &records, out)
+    allocs::find_allocs(read.list, read.alloc, rows);
+    records::find_records(read.list, read.gens, &mut records);
+    release_tables(read, rows, &records, out)
 }
 
 // The sums of the requests, listed by bucket; the scratch is left cleared.
-fn sum_up(g: &Given, scratch: &mut [u32], rows: &mut [FreedBucket]) -> usize
-    requires { Checked g.now × Cleared scratch.old × (length g.now.requests.now ≤ length rows.old) }
-    ensures { Listed (freed_buckets g.now.head.bucket_sectors (requests_in g.now)) (summed_row (freed_in g.now.head.bucket_sectors (requests_in g.now))) rows.new result × (scratch.new ≡ replicate 65536 0 ++ drop 65536 scratch.old) }
+fn sum_up(read: &ReadList, scratch: &mut [u32], rows: &mut [FreedBucket]) -> usize
+    requires { Checked read.now × Cleared scratch.old × (length read.now.requests.now ≤ length rows.old) }
+    ensures { Listed (freed_buckets read.now.head.bucket_sectors (requests_in read.now)) (summed_row (freed_in read.now.head.bucket_sectors (requests_in read.now))) rows.new result × (scratch.new ≡ replicate 65536 0 ++ drop 65536 scratch.old) }
 {
-    let sectors = g.head.bucket_sectors as u64;
+    let sectors = read.head.bucket_sectors as u64;
     let mut marks = [0u8; 1024];
-    sums::add_up(g.list, g.requests, sectors, scratch, &mut marks);
+    sums::add_up(read.list, read.requests, sectors, scratch, &mut marks);
     sums::take_freed(scratch, &marks, rows)
 }
 
 // The answer after refusals 1 to 3, and the scratch, which comes cleared. The reader shows what is required.
-pub fn release_lists(g: &Given, scratch: &mut [u32], out: &mut [u8]) -> Result<usize, Refusal>
-    requires keyed { Keyed g.now.list.now g.now.alloc.now × (keys_ok (keys_here g.now.list.now g.now.alloc.now) ≡ true) × Keyed g.now.list.now g.now.gens.now }
-    requires requested { Requested g.now.list.now g.now.requests.now × (length g.now.requests.now ≤ 1024) × Cleared scratch.old }
-    ensures { (made_by result out.new ≡ outcome (answer (release_tests (volume_in g.now) (requests_in g.now)) (change_of g.now) (length out.old)) out.old) × (scratch.new ≡ replicate 65536 0 ++ drop 65536 scratch.old) }
+pub fn release_lists(read: &ReadList, scratch: &mut [u32], out: &mut [u8]) -> Result<usize, Refusal>
+    requires keyed { Keyed read.now.list.now read.now.alloc.now × (keys_ok (keys_here read.now.list.now read.now.alloc.now) ≡ true) × Keyed read.now.list.now read.now.gens.now }
+    requires requested { Requested read.now.list.now read.now.requests.now × (length read.now.requests.now ≤ 1024) × Cleared scratch.old }
+    ensures { (made_by result out.new ≡ outcome (answer (release_tests (volume_in read.now) (requests_in read.now)) (change_of read.now) (length out.old)) out.old) × (scratch.new ≡ replicate 65536 0 ++ drop 65536 scratch.old) }
 {
-    let sectors = g.head.bucket_sectors as u64;
+    let sectors = read.head.bucket_sectors as u64;
     if sectors == 0 {
         return Err(Refusal::NoSectors);
     }
-    if !requests::all_freed_ok(g.list, g.requests, sectors) {
+    if !requests::all_freed_ok(read.list, read.requests, sectors) {
         return Err(Refusal::OutsideBucket);
     }
     let mut rows = [FreedBucket {
@@ -83,6 +88,6 @@ pub fn release_lists(g: &Given, scratch: &mut [u32], out: &mut [u8]) -> Result<u
         freed: 0,
         place: None,
     }; 1024];
-    let n = sum_up(g, scratch, &mut rows);
-    release_buckets(g, &mut rows[..n], out)
+    let n = sum_up(read, scratch, &mut rows);
+    release_buckets(read, &mut rows[..n], out)
 }

@@ -47,6 +47,7 @@ fn take_group(sums: &mut [u32], from: usize, rows: &mut [FreedBucket], n: usize)
     ensures { Appended (summed_from 64 (bucket_is from) sums.old) (summed_row (sum_of sums.old)) rows.old n rows.new result × (sums.new ≡ replicate (from + 64) 0 ++ drop (from + 64) sums.old) }
 {
     let mut n = n;
+    // By the bucket's number, which is the index of its sum.
     for b in from..from + 64 {
         let freed = sums[b];
         if 0 < freed {

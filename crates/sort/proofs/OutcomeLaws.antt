@@ -1,10 +1,11 @@
 -- The answer to a sort: the tests of the reader, then 21, then the sorted form.
 use mathlib.Core.Path.{◌≡◌, refl, ap, sym, subst, ◌∙◌}
 use mathlib.Core.Bool.{Bool, and-true}
+use Rattle.std.proofs.Common.{Some}
 use mathlib.Core.List.{List, [], ◌∷◌, ◌++◌}
 use Prim.Native.Nat.{ℕ, ◌≤◌, ◌<◌}
 use native.Mathlib.Omega.{arith}
-use lib.ListN.{length, take, drop}
+use lib.ListN.{length, drop}
 use borrow.Author.Tests.{eq-eqb}
 use Rattle.wire.specs.Bytes.{All, Bytes}
 use Rattle.wire.specs.Encode.{encode_field}
@@ -18,9 +19,8 @@ use Rattle.calls.proofs.answers.SortedForm.{form-length}
 use Rattle.calls.proofs.encoding.Blocks.{field}
 use Rattle.calls.proofs.encoding.VolumeTrip.{list-laid}
 use Rattle.reader.specs.Heads.{call_byte}
-use Rattle.reader.specs.Readings.{call_refusal, ListRead}
-use Rattle.reader.specs.declared.head.Head.{Head}
-use Rattle.reader.specs.declared.table.Ends.{Ends}
+use Rattle.reader.specs.Readings.{call_refusal, ReadAs}
+use Rattle.reader.specs.declared.read_list.ReadList.{ReadList}
 use Rattle.reader.proofs.PartsLaws.{passed, read-on, read-refused}
 use Rattle.sort.specs.Form.{Placed, form_bytes}
 use Rattle.sort.proofs.FormBlocks.{form-is}
@@ -48,15 +48,12 @@ module _ (s : List ℕ) (room : ℕ) where
       (λ (t : Bool). answer (test 2 t ∷ test 22 (none_twice (read_volume s)) ∷ test 3 (list_within (read_call s)) ∷ []) (sorted_form s) room)
       (sym (listed s))
 
-  pub sort-refused : {call n : ℕ} → call ≡ call_byte s → n ≡ call_refusal call s → 0 < call_refusal call s → sort s room ≡ record { number = n; written = [] }
-  sort-refused {n = n} c e l =
-      let k = ap (λ (m : ℕ). call_refusal m s) c in
-      answers ∙ read-refused (call_byte s) s [] (sorted_form s) room n (e ∙ k) (omega (arith, k))
+  pub sort-refused : {call : ℕ} → call ≡ call_byte s → 0 < call_refusal call s → sort s room ≡ record { number = call_refusal call s; written = [] }
+  sort-refused c l = let k = ap (λ (m : ℕ). call_refusal m s) c in answers ∙ read-refused (call_byte s) s [] (sorted_form s) room _ k (omega (arith, k))
 
--- a list that was read, for the call that its head names
-pub read-own : {call : ℕ} {s index : List ℕ} {h : Head} {e : Ends} → call ≡ call_byte s → (0 ≡ call_refusal call s) × ListRead call s index h e
-    → (0 ≡ call_refusal (call_byte s) s) × ListRead (call_byte s) s index h e
-read-own {s = s} {index} {h} {e} c q = subst (λ (n : ℕ). (0 ≡ call_refusal n s) × ListRead n s index h e) c q
+-- a list that was read for the call that its head names
+pub read-own : {call : ℕ} {s : List ℕ} {r : ReadList} → call ≡ call_byte s → r.list.now ≡ s → ReadAs (Some call) r → ReadAs (Some (call_byte r.list.now)) r
+read-own {r = r} c e q = subst (λ (n : ℕ). ReadAs (Some n) r) (c ∙ ap call_byte (sym e)) q
 
 module _ {s : List ℕ} (r : Bytes s) (z : 0 ≡ call_refusal (call_byte s) s) where
   -- its sorted form is as long
@@ -70,27 +67,31 @@ module _ {s : List ℕ} (r : Bytes s) (z : 0 ≡ call_refusal (call_byte s) s) w
   pub gives-21 : (xs : List ℕ) → length xs < length s → made 21 0 xs ≡ outcome (sort s (length xs)) xs
   gives-21 xs l = refused 21 xs (left (length xs) ∙ answer-short (sorted_form s) (length xs) (omega (arith, form-long))) refl
 
-  module _ {index : List ℕ} {h : Head} {e : Ends} (q : ListRead (call_byte s) s index h e) where
-    -- the table has the places of whole fields
-    pub all_placed : All (Placed s) (take e.requests index)
-    all_placed = (table-stands r q.ends q.table).placed
+-- and its parts
+module _ {r : ReadList} (q : ReadAs (Some (call_byte r.list.now)) r) where
+  -- fields stand at its places
+  pub all_placed : All (Placed r.list.now) r.places.now
+  all_placed = (table-stands q.read).placed
 
-    -- field 1, and the fields at the table's places, are the sorted form
-    form-at : form_bytes s h (take e.requests index) ≡ sorted_form s
-    unfolding form_bytes
-    form-at =
-        let p = passed (call_byte s) s z in
-        let b = sym (table-stands r q.ends q.table).bytes in
-        (λ i. encode_field (field 1 (head_body (q.head i))) ++ b i)
-        ∙ sym (form-is (call_byte s) s (sym (called s) ∙ p.laid) (list-laid r (sym (listed s) ∙ p.laid)))
+  -- field 1, and the fields at its places, are the sorted form
+  form-at : form_bytes r.list.now r.head r.places.now ≡ sorted_form r.list.now
+  unfolding form_bytes
+  form-at =
+      let s = r.list.now in
+      let p = passed (call_byte s) s q.passed in
+      let e = sym (table-stands q.read).bytes in
+      (λ i. encode_field (field 1 (head_body (q.read.head i))) ++ e i)
+      ∙ sym (form-is (call_byte s) s (sym (called s) ∙ p.laid) (list-laid q.read.bytes (sym (listed s) ∙ p.laid)))
 
-    -- which has room where the list has
-    pub form-fits : (xs : List ℕ) → length s ≤ length xs → length (form_bytes s h (take e.requests index)) ≤ length xs
-    form-fits xs l = rw form-at (omega (arith, form-long))
+  -- which has room where the list has
+  pub form-fits : (xs : List ℕ) → length r.list.now ≤ length xs → length (form_bytes r.list.now r.head r.places.now) ≤ length xs
+  form-fits xs l = rw form-at (omega (arith, form-long q.read.bytes q.passed))
 
-    pub gives-0 : (xs : List ℕ) {ys : List ℕ} → length s ≤ length xs
-        → ys ≡ form_bytes s h (take e.requests index) ++ drop (length (form_bytes s h (take e.requests index))) xs
-        → made 0 (length s) ys ≡ outcome (sort s (length xs)) xs
-    gives-0 xs l b =
-        let k : length (sorted_form s) ≤ length xs = omega (arith, form-long) in
-        accepted (sorted_form s) xs (left (length xs) ∙ answer-fits (sorted_form s) (length xs) k) (sym form-long) (rw form-at at b)
+  pub gives-0 : (xs : List ℕ) {ys : List ℕ} → length r.list.now ≤ length xs
+      → ys ≡ form_bytes r.list.now r.head r.places.now ++ drop (length (form_bytes r.list.now r.head r.places.now)) xs
+      → made 0 (length r.list.now) ys ≡ outcome (sort r.list.now (length xs)) xs
+  gives-0 xs l e =
+      let s = r.list.now in
+      let n = form-long q.read.bytes q.passed in
+      let k : length (sorted_form s) ≤ length xs = omega arith in
+      accepted (sorted_form s) xs (left q.read.bytes q.passed (length xs) ∙ answer-fits (sorted_form s) (length xs) k) (sym n) (rw form-at at e)

@@ -1,14 +1,14 @@
 // Of sorted places, the last at each position.
-ghost use Rattle.std.specs.Prelude.{◌≡◌, ◌+◌, ◌≤◌, ◌<◌, length, take, drop, get_or};
+ghost use Rattle.std.specs.Prelude.{◌≡◌, ◌≤◌, length, take, drop, get_or};
 ghost use Rattle.wire.specs.Bytes.{All};
 ghost use Rattle.sorting.specs.Lasts.{ahead, lasts};
 ghost use Rattle.sorting.specs.Places.{FieldInside, place_less};
 
 use crate::places;
 
-// Whether the field at the first of some places stands before the next, or none is left. `keep_last` shows the bounds.
+// Whether the field at the first of some places stands before the next, or no other is left. `keep_last` shows the bounds.
 fn is_ahead(s: &[u8], t: &[usize]) -> bool
-    requires { (0 < length t.now) × All (FieldInside s.now) t.now }
+    requires { All (FieldInside s.now) t.now }
     ensures { result ≡ ahead (place_less s.now) (get_or t.now 0 0) (drop 1 t.now) }
 {
     match t {

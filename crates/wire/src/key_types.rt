@@ -9,7 +9,7 @@ pub enum KeyType {
     Deleted,
     // An extent: 6.
     Extent,
-    // A key that stands for a bucket or a run, without a value: 25.
+    // An LRU key, a run or a need-discard key: 25.
     Set,
     // An alloc key: 27.
     AllocV4,

@@ -1,7 +1,8 @@
 use Rattle.std.proofs.Common.{◌∙◌, rules, tests}
 use Rattle.std.proofs.lemmas.Iterator.{YieldsList-from_slice}
 use Rattle.std.proofs.lemmas.Iterator.Search.{any_from_yields_List}
-use Rattle.accounting.proofs.RowLaws.{is_other, any-listed}
+use Rattle.calls.proofs.lists.ListedLaws.{any-listed}
+use Rattle.accounting.proofs.RowLaws.{is_other}
 use Rattle.accounting.proofs.counters.is_counted.Goals as goal
 
 pub returns : goal.returns

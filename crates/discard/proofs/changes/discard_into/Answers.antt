@@ -8,13 +8,13 @@ discarded_keys-n-requires c = ((ready-found c.requires.0).allocs, c.requires.2, 
 
 pub new-requires : goal.new-requires
 new-requires c =
-    let g = c.args.g.now in
+    let read = c.args.read.now in
     let e = c.discarded_keys-n.ensures.1 in
     let r = ready-found c.requires.0 in (
       omega (arith, c.requires.0.batched),
       record {
-        kept = rw e (discarded-kept g.needs.now r.allocs);
-        few = discarded-few g.list.now g.needs.now g.alloc.now e r.few_allocs;
+        kept = rw e (discarded-kept read.need_discard.now r.allocs);
+        few = discarded-few read.list.now read.need_discard.now read.alloc.now e r.few_allocs;
         tabled = c.requires.1;
       },
     )

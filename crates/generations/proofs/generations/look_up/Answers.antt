@@ -1,32 +1,32 @@
-use Rattle.std.proofs.Common.{arith, sym, subst, ◌∙◌, List, true}
+use Rattle.std.proofs.Common.{arith, sym, subst, ◌∙◌, List}
 use Rattle.wire.specs.Keys.{Key}
 use Rattle.wire.specs.Kinds.{buckets_in}
 use Rattle.wire.proofs.BucketTables.{table-length}
 use Rattle.calls.proofs.answers.SingleLookups.{gens-ascend}
 use Rattle.reader.proofs.KeyHereLaws.{keys-here, keyed}
-use Rattle.reader.proofs.PartsLaws.{volume-passed, volume-kept, gens-part}
+use Rattle.reader.proofs.PartsLaws.{volume-passed, located}
 use Rattle.gens.specs.Joint.{Looked}
 use Rattle.generations.proofs.OutcomeLaws.{too-many-asked, no-room-left, all-looked-up}
 use Rattle.generations.proofs.generations.look_up.Goals as goal
 
 pub returns-then-not-within : goal.returns-then-not-within
 returns-then-not-within c =
-    too-many-asked c.args.volume.now _ c.args.out.now c.requires.2 c.requires.0 (sym c.within.ensures ∙ c.if-not-within.true)
+    too-many-asked c.args.read.now.list.now _ c.args.out.now c.requires.1 c.requires.0.passed (sym c.within.ensures ∙ c.if-not-within.true)
 
 pub returns-then-out-buckets : goal.returns-then-out-buckets
 returns-then-out-buckets c =
-    no-room-left c.args.volume.now _ c.args.out.now c.requires.2 c.requires.0 (sym c.within.ensures ∙ c.if-not-within.false)
+    no-room-left c.args.read.now.list.now _ c.args.out.now c.requires.1 c.requires.0.passed (sym c.within.ensures ∙ c.if-not-within.false)
     (omega (arith, table-length c.args.buckets.now))
 
 pub bucket_gens-requires-clause-keys_at : goal.bucket_gens-requires-clause-keys_at
 bucket_gens-requires-clause-keys_at c =
-    let k = (gens-part 0 true _ _ c.args.first c.args.ends (volume-kept _ c.requires.0) c.requires.1).1 in
-    (keyed k, rw (keys-here k) at (gens-ascend _ (volume-passed _ c.requires.0).once))
+    let k = (located c.requires.0).gens in
+    (keyed k, rw (keys-here k) at (gens-ascend _ (volume-passed _ c.requires.0.passed).once))
 
 pub returns : goal.returns
 returns c =
-    let k = (gens-part 0 true _ _ c.args.first c.args.ends (volume-kept _ c.requires.0) c.requires.1).1 in
+    let k = (located c.requires.0).gens in
     let ns = c.args.buckets.now in
-    all-looked-up c.args.volume.now (buckets_in ns) c.args.out.now c.requires.2 c.requires.0 (sym c.within.ensures ∙ c.if-not-within.false)
+    all-looked-up c.args.read.now.list.now (buckets_in ns) c.args.out.now c.requires.1 c.requires.0.passed (sym c.within.ensures ∙ c.if-not-within.false)
     (omega (arith, table-length ns))
     (subst (λ (ks : List Key). Looked ks (buckets_in ns) c.args.out.now c.bucket_gens.new.out c.bucket_gens.result) (sym (keys-here k)) c.bucket_gens.ensures)

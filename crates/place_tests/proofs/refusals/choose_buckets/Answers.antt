@@ -13,39 +13,39 @@ pub returns-in_err-refuse_requests : goal.returns-in_err-refuse_requests
 returns-in_err-refuse_requests c =
     let p = err_from_is_err_and c.from_residual.result c.from_residual.ensures.1 in
     let e = c.in_err-refuse_requests.field-0.0 in
-    rw (p.1, p.2) (chosen-stopped e (asked-stops (read_call c.args.s.now) e c.in_err-refuse_requests.ensures))
+    rw (p.1, p.2) (chosen-stopped e (asked-stops (read_call c.args.read.now.list.now) e c.in_err-refuse_requests.ensures))
 
 pub returns-then-overlaps : goal.returns-then-overlaps
 returns-then-overlaps c =
-    chosen-stopped RunsOverlap (overlap-stops (read_call c.args.s.now) (sym c.in_ok-refuse_requests.ensures) (sym c.if-overlaps.ensures))
+    chosen-stopped RunsOverlap (overlap-stops (read_call c.args.read.now.list.now) (sym c.in_ok-refuse_requests.ensures) (sym c.if-overlaps.ensures))
 
 pub enough_free-requires : goal.enough_free-requires
 enough_free-requires c =
     let q = c.requires.0 in
-    let needed : c.lay_out-n.result ≡ buckets_needed (slots_of (read_call c.args.s.now)) = c.lay_out-n.ensures.0 ∙ ap buckets_needed (slots-are q) in
-    let few = needed-short q (asked (read_call c.args.s.now) c.args.h q.head (sym c.in_ok-refuse_requests.ensures)) in
-    (q.checked, q.runs, q.reserved, sym c.if-overlaps.ensures, omega arith)
+    let needed : c.lay_out-n.result ≡ buckets_needed (slots_of (read_call c.args.read.now.list.now)) = c.lay_out-n.ensures.0 ∙ ap buckets_needed (slots-are q) in
+    let few = needed-short q (asked (read_call c.args.read.now.list.now) c.args.read.now.head q.head (sym c.in_ok-refuse_requests.ensures)) in
+    (q, sym c.if-overlaps.ensures, omega arith)
 
 pub returns-then-not-enough_free : goal.returns-then-not-enough_free
 returns-then-not-enough_free c =
     let q = c.requires.0 in
     let needed = c.lay_out-n.ensures.0 ∙ ap buckets_needed (slots-are q) in
     chosen-stopped TooFewFree
-    (shortage-stops (read_call c.args.s.now) (sym c.in_ok-refuse_requests.ensures) (sym c.if-overlaps.ensures)
-    (enough-is c.args.s.now needed c.args.h q.head c.if-not-enough_free.ensures))
+    (shortage-stops (read_call c.args.read.now.list.now) (sym c.in_ok-refuse_requests.ensures) (sym c.if-overlaps.ensures)
+    (enough-is c.args.read.now.list.now needed c.args.read.now.head q.head c.if-not-enough_free.ensures))
 
 pub walk_runs-requires : goal.walk_runs-requires
 walk_runs-requires c =
     let q = c.requires.0 in
-    let needed : c.lay_out-n.result ≡ buckets_needed (slots_of (read_call c.args.s.now)) = c.lay_out-n.ensures.0 ∙ ap buckets_needed (slots-are q) in
-    let few = needed-short q (asked (read_call c.args.s.now) c.args.h q.head (sym c.in_ok-refuse_requests.ensures)) in
+    let needed : c.lay_out-n.result ≡ buckets_needed (slots_of (read_call c.args.read.now.list.now)) = c.lay_out-n.ensures.0 ∙ ap buckets_needed (slots-are q) in
+    let few = needed-short q (asked (read_call c.args.read.now.list.now) c.args.read.now.head q.head (sym c.in_ok-refuse_requests.ensures)) in
     (q.checked, q.alloc, q.runs, q.reserved, omega arith)
 
 pub returns : goal.returns
 returns c =
     let q = c.requires.0 in
     let needed = c.lay_out-n.ensures.0 ∙ ap buckets_needed (slots-are q) in
-    chosen-walk c.args.s.now needed
-    (walk-decides (read_call c.args.s.now) (sym c.in_ok-refuse_requests.ensures) (sym c.if-overlaps.ensures)
-    (enough-is c.args.s.now needed c.args.h q.head c.if-not-enough_free.ensures))
+    chosen-walk c.args.read.now.list.now needed
+    (walk-decides (read_call c.args.read.now.list.now) (sym c.in_ok-refuse_requests.ensures) (sym c.if-overlaps.ensures)
+    (enough-is c.args.read.now.list.now needed c.args.read.now.head q.head c.if-not-enough_free.ensures))
     (c.lay_out-n.ensures.1 ∙ slots-are q) c.walk_runs.ensures

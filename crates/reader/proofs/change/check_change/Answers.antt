@@ -4,40 +4,40 @@ use Rattle.reader.proofs.ChangeLaws.{start, ends, bad, back, goes_on}
 use Rattle.reader.proofs.change.check_change.Goals.{then-not-field_ok-via-then-not-field_ok, then-not-field_ok-via-else-not-field_ok+then-not-tag_after}
 use Rattle.reader.proofs.change.check_change.Goals as goal
 
-pub loop-tag-init : goal.loop-tag-init
-loop-tag-init c = let o = c.of-fields.ensures in (o.0, rw o.1 (start _))
+pub loop-field-init : goal.loop-field-init
+loop-field-init c = let o = c.of-fields.ensures in (o.0, rw o.1 (start _))
 
 pub field_ok-requires : goal.field_ok-requires
-field_ok-requires c = (field-found c.loop-tag.invariant.0 c.in-Some.ensures.steps).within
+field_ok-requires c = (field-found c.loop-field.invariant.0 c.in-Some.ensures.steps).within
 
 pub returns-then-not-field_ok : goal.returns-then-not-field_ok
 returns-then-not-field_ok c =
-    let f = field-found c.loop-tag.invariant.0 c.in-Some.ensures.steps in
+    let f = field-found c.loop-field.invariant.0 c.in-Some.ensures.steps in
     elim c.then-not-field_ok.branch [
       | then-not-field_ok-via-then-not-field_ok w ↦
-          sym (bad _ _ _ c.loop-tag.invariant.1 _ _ _ f (sym c.field_ok.ensures ∙ w.if-not-field_ok.true))
+          sym (bad _ _ _ c.loop-field.invariant.1 _ _ _ f (sym c.field_ok.ensures ∙ w.if-not-field_ok.true))
       | then-not-field_ok-via-else-not-field_ok+then-not-tag_after w ↦
-          sym (back _ _ _ c.loop-tag.invariant.1 _ _ _ f (sym w.tag_after.ensures ∙ w.if-not-tag_after.true))
+          sym (back _ _ _ c.loop-field.invariant.1 _ _ _ f (sym w.tag_after.ensures ∙ w.if-not-tag_after.true))
     ]
 
-pub loop-tag-preserved : goal.loop-tag-preserved
-loop-tag-preserved c =
+pub loop-field-preserved : goal.loop-field-preserved
+loop-field-preserved c =
     let w = c.in-Some.ensures.steps in
-    let f = field-found c.loop-tag.invariant.0 w in (
-      list-stays c.loop-tag.invariant.0 w,
+    let f = field-found c.loop-field.invariant.0 w in (
+      list-stays c.loop-field.invariant.0 w,
       rw w.at
-          (goes_on _ _ _ c.loop-tag.invariant.1 _ _ _ f (sym c.field_ok.ensures ∙ c.if-not-field_ok.false)
+          (goes_on _ _ _ c.loop-field.invariant.1 _ _ _ f (sym c.field_ok.ensures ∙ c.if-not-field_ok.false)
           (sym c.tag_after.ensures ∙ c.if-not-tag_after.false)),
     )
 
 pub returns-then-at_end : goal.returns-then-at_end
 returns-then-at_end c =
-    let i = c.loop-tag.invariant in
+    let i = c.loop-field.invariant in
     let w = c.in_default.ensures.steps in
     ends _ _ _ i.1 (steps-to i.0 w) (ended i.0 w c.if-at_end.ensures)
 
 pub returns-else-at_end : goal.returns-else-at_end
 returns-else-at_end c =
-    let i = c.loop-tag.invariant in
+    let i = c.loop-field.invariant in
     let w = c.in_default.ensures.steps in
     c.if-at_end.false ∙ ends _ _ _ i.1 (steps-to i.0 w) (ended i.0 w c.if-at_end.ensures)

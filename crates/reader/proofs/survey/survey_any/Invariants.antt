@@ -1,11 +1,13 @@
 -- What is left of the list decides its layout, and no limit was passed yet or one was; no order is told.
 use Rattle.std.proofs.Common.{◌≡◌, length, unwrap_or, is_none, ◌-◌}
 use Rattle.reader.proofs.SurveyLaws.{Going}
+use Rattle.reader.proofs.SurveyStartLaws.{no_order}
 use Rattle.reader.proofs.survey.survey_any.Given as goal
 
-abbrev pub invariant-loop-tag : goal.invariant-loop-tag
-invariant-loop-tag l =
-    (l.fields.list.now ≡ l.s) × Going l.s (unwrap_or l.asked 0) (is_none l.asked) l.fields.at l.n l.head 255 0 l.over l.counts l.index
+abbrev pub invariant-loop-field : goal.invariant-loop-field
+invariant-loop-field l =
+    (l.fields.list.now ≡ l.s) × Going l.s (unwrap_or l.asked 0) (is_none l.asked) l.fields.at l.head no_order l.over l.table
+    × (l.table.index.ghost_name ≡ l.initial.table.index.ghost_name)
 
-abbrev pub decreases-loop-tag : goal.decreases-loop-tag
-decreases-loop-tag l = length l.fields.list.now - l.fields.at
+abbrev pub decreases-loop-field : goal.decreases-loop-field
+decreases-loop-field l = length l.fields.list.now - l.fields.at

@@ -11,45 +11,52 @@ overflow_add-head c = omega (arith, (c.head_first.ensures _ c.in_ok-head.was).wi
 pub from_place-fields-requires : goal.from_place-fields-requires
 from_place-fields-requires c = (c.head_first.ensures _ c.in_ok-head.was).within
 
-pub loop-tag-init : goal.loop-tag-init
-loop-tag-init c =
+pub loop-field-init : goal.loop-field-init
+loop-field-init c =
     let o = c.from_place-fields.ensures in
-    (o.0, rw o.1 (first-going _ _ _ _ _ _ (c.head_first.ensures _ c.in_ok-head.was) c.requires.0 c.requires.1), λ z. omega arith)
+    let t = c.new-table.ensures in (
+      o.0,
+      rw o.1 (first-going _ _ _ _ _ (c.head_first.ensures _ c.in_ok-head.was) (rw t.same_entries c.requires) t.unfilled),
+      λ z. omega arith,
+      refl,
+    )
 
 pub field_ok-requires : goal.field_ok-requires
-field_ok-requires c = (field-found c.loop-tag.invariant.0 c.in-Some.ensures.steps).within
+field_ok-requires c = (field-found c.loop-field.invariant.0 c.in-Some.ensures.steps).within
 
 pub follows-requires : goal.follows-requires
 follows-requires c =
-    let i = c.loop-tag.invariant in
+    let i = c.loop-field.invariant in
     let f = field-found i.0 c.in-Some.ensures.steps in
     let ok = sym c.field_ok.ensures ∙ c.if-not-field_ok.false in (
-      last_within _ _ _ _ _ _ _ _ _ _ _ i.1 _ _ _ f ok,
-      next-within _ _ _ _ _ _ _ _ _ _ _ i.1 _ _ _ f ok,
+      last_within _ _ _ _ _ _ _ _ i.1 _ _ _ f ok,
+      next-within _ _ _ _ _ _ _ _ i.1 _ _ _ f ok,
     )
 
 pub passes-over-requires : goal.passes-over-requires
 passes-over-requires c =
     let w = c.in-Some.ensures.steps in
-    let i = c.loop-tag.invariant in
+    let i = c.loop-field.invariant in
     let ok = sym c.field_ok.ensures ∙ c.if-not-field_ok.false in (
-      next-within _ _ _ _ _ _ _ _ _ _ _ i.1 _ _ _ (field-found i.0 w) ok,
-      next-free _ _ _ _ _ _ _ _ _ _ _ i.1 _ _ _ (steps-to i.0 w) ok,
+      next-within _ _ _ _ _ _ _ _ i.1 _ _ _ (field-found i.0 w) ok,
+      next-free _ _ _ _ _ _ _ _ i.1 _ _ _ (steps-to i.0 w) ok,
     )
 
-pub loop-tag-preserved : goal.loop-tag-preserved
-loop-tag-preserved c =
+pub loop-field-preserved : goal.loop-field-preserved
+loop-field-preserved c =
     let w = c.in-Some.ensures.steps in
-    let i = c.loop-tag.invariant in
+    let i = c.loop-field.invariant in
     let ok = sym c.field_ok.ensures ∙ c.if-not-field_ok.false in (
       list-stays i.0 w,
       rw w.at
-          (goes_after _ _ _ _ _ _ _ _ _ _ _ i.1 _ _ _ (steps-to i.0 w) ok _ _ _ (sym c.follows.ensures ∙ c.if-not-follows.false) c.passes-over.ensures),
-      next-below _ _ _ _ _ _ _ _ _ _ _ i.1 _ _ _ (field-found i.0 w) ok,
+          (goes_after _ _ _ _ _ _ _ _ i.1 _ _ _ (steps-to i.0 w) ok _ _ (sym c.follows.ensures ∙ c.if-not-follows.false) c.passes-over.ensures),
+      next-below _ _ _ _ _ _ _ _ i.1 _ _ _ (field-found i.0 w) ok,
+      c.passes-over.ensures.same ∙ i.3,
     )
 
 pub returns : goal.returns
 returns c =
-    let i = c.loop-tag.invariant in
+    let i = c.loop-field.invariant in
     let e = to-the-end i.0 c.in_default.ensures.steps c.if-not-at_end.ensures in
-    ordered-found i.1.fits (ends_found _ _ _ _ _ _ _ _ _ _ _ i.1 e _ refl true (λ z. i.2)) refl
+    rw (c.index-2-1.given.1.1 (sym c.new-table.ensures.same_reference ∙ sym i.3))
+    (ordered-found i.1.fits (ends_found _ _ _ _ _ _ _ _ i.1 e _ refl true (λ z. i.2)) refl)

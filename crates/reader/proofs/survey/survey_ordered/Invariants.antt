@@ -3,11 +3,11 @@ use Rattle.std.proofs.Common.{◌≡◌, length, unwrap_or, is_none, Some, ◌-�
 use Rattle.reader.proofs.SurveyLaws.{Going}
 use Rattle.reader.proofs.survey.survey_ordered.Given as goal
 
-abbrev pub invariant-loop-tag : goal.invariant-loop-tag
-invariant-loop-tag l =
+abbrev pub invariant-loop-field : goal.invariant-loop-field
+invariant-loop-field l =
     (l.fields.list.now ≡ l.s)
-    × Going l.s (unwrap_or l.fn.asked 0) (is_none l.fn.asked) l.fields.at l.n (Some l.head) l.last l.before l.over l.counts l.index
-    × (l.last ≡ 255 → ⊥)
+    × Going l.s (unwrap_or l.fn.asked 0) (is_none l.fn.asked) l.fields.at (Some l.head) l.last l.over l.table
+    × (l.last.tag ≡ 255 → ⊥) × (l.table.index.ghost_name ≡ l.initial.table.index.ghost_name)
 
-abbrev pub decreases-loop-tag : goal.decreases-loop-tag
-decreases-loop-tag l = length l.fields.list.now - l.fields.at
+abbrev pub decreases-loop-field : goal.decreases-loop-field
+decreases-loop-field l = length l.fields.list.now - l.fields.at

@@ -12,14 +12,14 @@ use Rattle.release.proofs.lists.release_tables.Goals as goal
 pub refuse-requires : goal.refuse-requires
 refuse-requires c =
     let d = c.requires in
-    record { volume = volume_in c.args.g.now; requests = requests_in c.args.g.now; tabled = d.tabled; recorded = d.recorded; size = refl }
+    record { volume = volume_in c.args.read.now; requests = requests_in c.args.read.now; tabled = d.tabled; recorded = d.recorded; size = refl }
 
 pub returns-in_err-refuse : goal.returns-in_err-refuse
 returns-in_err-refuse c =
     let p = err_from_is_err_and c.from_residual.result c.from_residual.ensures.1 in
     let d = c.requires in
     rw (p.1, p.2)
-    (tables-stop c.args.g.now _ _ _ (c.in_err-refuse.ensures _ _ d.tabled d.recorded refl) (refused-some c.in_err-refuse.field-0.0))
+    (tables-stop c.args.read.now _ _ _ (c.in_err-refuse.ensures _ _ d.tabled d.recorded refl) (refused-some c.in_err-refuse.field-0.0))
 
 pub find_emptied-n-requires : goal.find_emptied-n-requires
 find_emptied-n-requires c =
@@ -28,11 +28,11 @@ find_emptied-n-requires c =
 
 pub slice_bounds-emptied-end : goal.slice_bounds-emptied-end
 slice_bounds-emptied-end c =
-    omega (arith, listed-short (is_emptied (volume_in c.args.g.now) (requests_in c.args.g.now)) c.args.rows.now (c.find_emptied-n.ensures _ _ c.requires.tabled), tables-few c.requires)
+    omega (arith, listed-short (is_emptied (volume_in c.args.read.now) (requests_in c.args.read.now)) c.args.rows.now (c.find_emptied-n.ensures _ _ c.requires.tabled), tables-few c.requires)
 
 pub slice_bounds-new-end : goal.slice_bounds-new-end
 slice_bounds-new-end c =
-    let few : c.find_emptied-n.result ≤ length c.find_emptied-n.new.emptied = omega (arith, listed-short (is_emptied (volume_in c.args.g.now) (requests_in c.args.g.now)) c.args.rows.now (c.find_emptied-n.ensures _ _ c.requires.tabled), tables-few c.requires) in
+    let few : c.find_emptied-n.result ≤ length c.find_emptied-n.new.emptied = omega (arith, listed-short (is_emptied (volume_in c.args.read.now) (requests_in c.args.read.now)) c.args.rows.now (c.find_emptied-n.ensures _ _ c.requires.tabled), tables-few c.requires) in
     sym (length-take-le c.find_emptied-n.result c.find_emptied-n.new.emptied few)
 
 pub new-batch-requires : goal.new-batch-requires
@@ -43,4 +43,4 @@ new-batch-requires c =
 pub returns : goal.returns
 returns c =
     let d = c.requires in
-    tables-go c.args.g.now _ _ _ (c.in_ok-refuse.ensures _ _ d.tabled d.recorded refl) refl (rw c.new-batch.ensures at c.written.ensures)
+    tables-go c.args.read.now _ _ _ (c.in_ok-refuse.ensures _ _ d.tabled d.recorded refl) refl (rw c.new-batch.ensures at c.written.ensures)

@@ -18,8 +18,8 @@ pub take_freed-requires : goal.take_freed-requires
 take_freed-requires c =
     let u = c.add_up.ensures in
     let p = c.requires.0 in
-    let n = c.args.g.now.head.bucket_sectors in
-    let rs = requests_in c.args.g.now in
+    let n = c.args.read.now.head.bucket_sectors in
+    let rs = requests_in c.args.read.now in
     let e = ap length (found-freed n rs _ u.0 p.checked) in
     (u.0.long, omega (arith, e, named-few n rs, p.requested.count, c.requires.2), u.2)
 

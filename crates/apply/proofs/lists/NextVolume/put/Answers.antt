@@ -12,4 +12,4 @@ loop-i-preserved c = rw c.max-most.ensures (sections-on c.loop-i.invariant c.loo
 pub returns : goal.returns
 returns c =
     let n = c.self.view_is in
-    sections-end c.loop-i.invariant (rw (ap (λ x. x.volume) n, ap (λ x. x.change) n) at c.self.invariant.0) (omega arith)
+    sections-end c.loop-i.invariant c.self.invariant.0 (ap (λ x. x.volume) n) (ap (λ x. x.change) n) (omega arith)

@@ -31,7 +31,7 @@ put_rows-requires c =
 pub returns : goal.returns
 returns c =
     let d = c.self.invariant in
-    let g = c.self.inside.given in
+    let g = c.self.inside.read in
     let t = d.tables.tabled in
     let u = c.unused_in-unused in
     let allocs = c.put_allocs.ensures (volume_in g) (requests_in g) t refl in

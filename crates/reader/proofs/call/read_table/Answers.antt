@@ -1,7 +1,7 @@
 use Rattle.std.proofs.Common.{sym, ◌∙◌, rules}
 use Rattle.reader.proofs.ListRefusalLaws.{broken}
 use Rattle.reader.proofs.ReadLaws.{past-asked, read_past, table_fits, table-sortable, read-ordered, read_twice, read-sorted}
-use Rattle.reader.proofs.call.read_list.Goals as goal
+use Rattle.reader.proofs.call.read_table.Goals as goal
 
 pub returns-in_default : goal.returns-in_default
 returns-in_default c = broken _ _ _ (c.survey.ensures.broken c.in_default.is)
@@ -20,10 +20,10 @@ pub ends_of-ends-requires : goal.ends_of-ends-requires
 ends_of-ends-requires c =
     table_fits (c.survey.ensures.found _ c.in-Some.is) _ c.read_head-first.ensures (sym c.past_limit.ensures ∙ c.if-past_limit.false)
 
-pub returns-then-ordered : goal.returns-then-ordered
-returns-then-ordered c =
+pub returns-then-laid : goal.returns-then-laid
+returns-then-laid c =
     read-ordered (c.survey.ensures.found _ c.in-Some.is) _ c.read_head-first.ensures (sym c.past_limit.ensures ∙ c.if-past_limit.false) _
-    c.ends_of-ends.ensures c.if-ordered.true
+    c.ends_of-ends.ensures c.if-laid.true
 
 pub sort_table-requires : goal.sort_table-requires
 sort_table-requires c =

@@ -1,0 +1,26 @@
+-- What is answered to a list that was read.
+use Rattle.std.specs.Prelude.{ℕ, ◌≡◌, List, Option, Result}
+use Rattle.std.specs.Borrow.{Bor, MutBor}
+use Rattle.std.specs.Fn.{Once}
+use Rattle.reader.specs.Readings.{ReadAs}
+use Rattle.reader.specs.declared.read_list.ReadList.{ReadList}
+use Rattle.reader.specs.declared.refusal.Refusal.{Refusal}
+
+-- what answers a list that was read, with a scratch and an output that are lent
+abbrev pub Answering : Type 0 → Type 1
+Answering F = Once F (Bor ReadList × (MutBor (List ℕ) × (MutBor (List ℕ) × Unit {0}))) (Result ℕ Refusal × (MutBor (List ℕ) × (MutBor (List ℕ) × Unit {0})))
+
+-- it is called at the list, read as it was asked for, and may give the result and leave this scratch and this output
+pub record AnswersRead {F : Type 0} (g : Answering F) (f : F) (asked : Option ℕ) (s scratch out : List ℕ) (result : Result ℕ Refusal) (scratch' out' : List ℕ) : Type 0 where
+  pub list : Bor ReadList
+  pub is_of : list.now.list.now ≡ s
+  pub is_read : ReadAs asked list.now
+  pub scratch-shown : MutBor (List ℕ)
+  pub scratch-shows : scratch-shown.now ≡ scratch
+  pub out-shown : MutBor (List ℕ)
+  pub out-shows : out-shown.now ≡ out
+  pub scratch-left : MutBor (List ℕ)
+  pub scratch-leaves : scratch-left.now ≡ scratch'
+  pub out-left : MutBor (List ℕ)
+  pub out-leaves : out-left.now ≡ out'
+  pub met : g.post f (list, (scratch-shown, (out-shown, tt))) (result, (scratch-left, (out-left, tt)))

@@ -1,0 +1,16 @@
+-- `release::release_read` meets its contract.
+use Rattle.std.proofs.Common.{◌∙◌, sym}
+use Rattle.release.proofs.ReadLaws.{read-keyed, read-requested, read-outcome, scratch-long}
+use Rattle.release.proofs.release.release_read.Goals as goal
+
+pub release_lists-requires-clause-keyed : goal.release_lists-requires-clause-keyed
+release_lists-requires-clause-keyed c = read-keyed c.requires.0
+
+pub release_lists-requires-clause-requested : goal.release_lists-requires-clause-requested
+release_lists-requires-clause-requested c = let p = read-requested c.requires.0 in (p.0, p.1, c.requires.1)
+
+pub returns : goal.returns
+returns c =
+    let l = c.requires.1.long in
+    let e = c.release_lists.ensures in
+    (read-outcome c.requires.0 _ l c.args.out.now e.0, e.1 ∙ sym (scratch-long _ l))
