@@ -23,7 +23,7 @@ fn put_lru_at(out: &mut Output, key_type: KeyType, b: Bucket, dirty: u32, sector
 {
     if (dirty as u64) < sectors {
         let pos = positions::lru_at(lru::fragmentation(dirty, sectors), b);
-        new_keys::put_new_key(out, Tree::Lru, key_type, 0, pos);
+        new_keys::put_new_key(out, Tree::Lru.tag(), key_type.number(), 0, pos);
     }
 }
 

@@ -1,7 +1,5 @@
 // Keys that are queued without a value: new ones and deletions.
 ghost use Rattle.std.specs.Prelude.{◌≡◌, []};
-ghost use Rattle.wire.specs.TreeTags.{tree_tag};
-ghost use Rattle.wire.specs.KeyTypes.{key_type_number};
 ghost use Rattle.wire.specs.Encode.{encode_field, key_field};
 ghost use Rattle.wire.specs.Output.{with_bytes};
 ghost use Rattle.calls.specs.Trees.{new_key, deletion};
@@ -10,16 +8,15 @@ use wire::bpos::Bpos;
 use wire::key_types::KeyType;
 use wire::keys::KeyHead;
 use wire::output::Output;
-use wire::trees::Tree;
 
 // A new key of a tree, without a value.
-pub fn put_new_key(out: &mut Output, tree: Tree, key_type: KeyType, size: u32, pos: Bpos)
-    ensures { out.new ≡ with_bytes out.old (encode_field (key_field (tree_tag tree) (new_key (key_type_number key_type) size pos []))) }
+pub fn put_new_key(out: &mut Output, tree: u8, key_type: u8, size: u32, pos: Bpos)
+    ensures { out.new ≡ with_bytes out.old (encode_field (key_field tree (new_key key_type size pos []))) }
 {
     out.put_bare_key(
         tree,
         KeyHead {
-            key_type: key_type.number(),
+            key_type,
             size,
             version_hi: 0,
             version_lo: 0,
@@ -29,8 +26,8 @@ pub fn put_new_key(out: &mut Output, tree: Tree, key_type: KeyType, size: u32, p
 }
 
 // The deletion of what stands at a position of a tree.
-pub fn put_deletion(out: &mut Output, tree: Tree, pos: Bpos)
-    ensures { out.new ≡ with_bytes out.old (encode_field (key_field (tree_tag tree) (deletion pos))) }
+pub fn put_deletion(out: &mut Output, tree: u8, pos: Bpos)
+    ensures { out.new ≡ with_bytes out.old (encode_field (key_field tree (deletion pos))) }
 {
-    put_new_key(out, tree, KeyType::Deleted, 0, pos);
+    put_new_key(out, tree, KeyType::Deleted.number(), 0, pos);
 }

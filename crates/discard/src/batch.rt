@@ -37,7 +37,7 @@ fn put_alloc_key(out: &mut Output, s: &[u8], o: u32)
 {
     let mut k = key::key_at(s, o as usize);
     k.value = alloc::discarded(k.value);
-    out.put_key(Tree::Alloc, &k);
+    out.put_key(Tree::Alloc.tag(), &k);
 }
 
 // Tree 4.
@@ -57,7 +57,7 @@ fn put_waiting(out: &mut Output, d: &Discarded, o: u32)
 {
     let b = key::bucket_at(d.list, o as usize);
     if let Some(pos) = waiting_keys::waiting_at(d.list, d.needs, d.table, b) {
-        new_keys::put_deletion(out, Tree::NeedDiscard, pos);
+        new_keys::put_deletion(out, Tree::NeedDiscard.tag(), pos);
     }
 }
 

@@ -30,8 +30,8 @@ fn put_run(out: &mut Output, r: Run)
     if r.size != 0 {
         new_keys::put_new_key(
             out,
-            Tree::Freespace,
-            KeyType::Set,
+            Tree::Freespace.tag(),
+            KeyType::Set.number(),
             r.size,
             positions::run_at(r.end),
         );

@@ -92,7 +92,7 @@ impl<'a> Emit for ChangeList<'a> {
 pub fn put_lru_root(out: &mut Output, wanted: bool, roots: u8)
     ensures { out.new ≡ with_bytes out.old (roots_bytes (roots_if (wanted && root_missing roots 0) 10)) }
 {
-    root_fields::put_root(out, wanted && roots % 2 == 0, Tree::Lru);
+    root_fields::put_root(out, wanted && roots % 2 == 0, Tree::Lru.tag());
 }
 
 // Fields 71: the buckets taken.

@@ -31,7 +31,7 @@ pub fn put_alloc(out: &mut Output, b: Bucket, journal: u64, generation: u8, dirt
         pos: positions::alloc_at(b),
     };
     out.put_words_key(
-        Tree::Alloc,
+        Tree::Alloc.tag(),
         head,
         &alloc::new_alloc(journal, generation, dirty, clock),
     );

@@ -32,7 +32,7 @@ pub fn put_backpointer(out: &mut Output, h: Head, p: Placed)
         version_lo: 0,
         pos: positions::backpointer_at(p.first),
     };
-    out.put_words_key(Tree::Backpointers, head, &w[..4]);
+    out.put_words_key(Tree::Backpointers.tag(), head, &w[..4]);
 }
 
 // The backpointers of all pieces, in order.

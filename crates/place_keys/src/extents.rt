@@ -40,7 +40,7 @@ pub fn put_extent(out: &mut Output, h: Head, p: Placed)
         version_lo: 0,
         pos: positions::extent_at(h.inode, p.end),
     };
-    out.put_words_key(Tree::Extents, head, &v.w[..v.n]);
+    out.put_words_key(Tree::Extents.tag(), head, &v.w[..v.n]);
 }
 
 // The extents of all pieces, in order.

@@ -23,12 +23,12 @@ pub fn put_shortened(out: &mut Output, s: &[u8], from: usize, left: u32)
     ensures { out.new ≡ with_bytes out.old (encode_field (key_field 11 (shortened (key_here s.now from) left))) }
 {
     if left == 0 {
-        new_keys::put_deletion(out, Tree::Freespace, key::pos_at(s, from));
+        new_keys::put_deletion(out, Tree::Freespace.tag(), key::pos_at(s, from));
         return;
     }
     let mut k = key::key_at(s, from);
     k.size = left;
-    out.put_key(Tree::Freespace, &k);
+    out.put_key(Tree::Freespace.tag(), &k);
 }
 
 // A key that the walk passed, with so many buckets left; one that is no run is left out.

@@ -9,7 +9,6 @@ ghost use Rattle.place_tests.specs.Called.{Called};
 ghost use Rattle.place_tests.specs.Choice.{ChosenIs};
 
 use crate::requests;
-use format::checksums::ChecksumOption;
 use freespace::take::Walked;
 use freespace::{runs, take};
 use next_fit::needed;
@@ -29,13 +28,13 @@ fn refuse_requests(read: &ReadList) -> Result<(), Refusal>
     if h.bucket_sectors == 0 {
         return Err(Refusal::NoSectors);
     }
-    let Some(option) = ChecksumOption::named(h.option) else {
+    if 3 < h.option {
         return Err(Refusal::ChecksumOption);
-    };
+    }
     if !requests::kinds_listed(s, pieces) {
         return Err(Refusal::CompressionKind);
     }
-    if !requests::option_fits(s, pieces, option) {
+    if !requests::option_fits(s, pieces, h.option) {
         return Err(Refusal::NoChecksum);
     }
     let block = requests::block_of(h.block_sectors);

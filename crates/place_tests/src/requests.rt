@@ -1,6 +1,5 @@
 // What is asked of a placement: the tests of refusals 6 to 9.
 ghost use Rattle.std.specs.Prelude.{◌≡◌, Bool, not, ◌&&◌, ◌||◌, ◌+◌, ◌<◌, ◌≤◌, eqb, length};
-ghost use Rattle.format.specs.Checksums.{option_byte};
 ghost use Rattle.calls.specs.CallList as calls;
 ghost use Rattle.calls.specs.Answers.{read_call};
 ghost use Rattle.calls.specs.Lists.{all_of};
@@ -9,7 +8,6 @@ ghost use Rattle.reader.specs.Located.{PiecesAt};
 ghost use Rattle.reader.specs.Pieces.{piece_in};
 ghost use Rattle.place_tests.specs.Requests.{kind_fits};
 
-use format::checksums::ChecksumOption;
 use reader::piece;
 use reader::piece::Piece;
 
@@ -86,12 +84,12 @@ pub fn kinds_listed(s: &[u8], pieces: &[u32]) -> bool
     all_pieces(s, pieces, |p| kind_listed(p))
 }
 
-// Refusal 7: whether a checksum option takes the pieces' kinds: without a checksum it takes kind 0 alone.
-pub fn option_fits(s: &[u8], pieces: &[u32], option: ChecksumOption) -> bool
+// Refusal 7: whether a checksum option takes the pieces' kinds: option 0 takes kind 0 alone.
+pub fn option_fits(s: &[u8], pieces: &[u32], option: u8) -> bool
     requires { PiecesAt s.now pieces.now (read_call s.now).pieces }
-    ensures { result ≡ (not (eqb (option_byte option) 0) || all_of (λ p. eqb p.kind 0) (read_call s.now).pieces) }
+    ensures { result ≡ (not (eqb option 0) || all_of (λ p. eqb p.kind 0) (read_call s.now).pieces) }
 {
-    option != ChecksumOption::Off || all_pieces(s, pieces, |p| p.kind == 0)
+    option != 0 || all_pieces(s, pieces, |p| p.kind == 0)
 }
 
 // Refusal 9: whether each piece's sectors are as a bucket and a block allow.

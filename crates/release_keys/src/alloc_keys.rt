@@ -36,6 +36,6 @@ pub fn put_allocs(out: &mut Output, s: &[u8], journal: u64, rows: &[FreedBucket]
     ensures { (v : Volume) (rs : List Freed) → FreedTables s.now v rs rows.now → v.head.journal ≡ journal → out.new ≡ with_bytes out.old (keys_bytes 4 (map (released_key v rs) (freed_buckets v.head.bucket_sectors rs))) }
 {
     for &f in rows {
-        out.put_key(Tree::Alloc, &freed_key(s, f, journal));
+        out.put_key(Tree::Alloc.tag(), &freed_key(s, f, journal));
     }
 }

@@ -19,6 +19,10 @@ pub fn put_backpointers(out: &mut Output, s: &[u8], requests: &[u32])
 {
     for &place in requests {
         let r = requests::read_freed(s, place as usize);
-        new_keys::put_deletion(out, Tree::Backpointers, positions::backpointer_at(r.first));
+        new_keys::put_deletion(
+            out,
+            Tree::Backpointers.tag(),
+            positions::backpointer_at(r.first),
+        );
     }
 }

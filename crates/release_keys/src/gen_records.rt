@@ -83,7 +83,7 @@ pub fn put_gens(out: &mut Output, s: &[u8], records: &[u32], emptied: &[Emptied]
     let mut last = None;
     for e in emptied {
         let key = next_record(s, records, last, e.bucket, e.generation);
-        out.put_key(Tree::BucketGens, &key);
+        out.put_key(Tree::BucketGens.tag(), &key);
         last = Some(key);
     }
 }

@@ -19,8 +19,8 @@ pub fn put_need_discards(out: &mut Output, journal: u64, emptied: &[Emptied])
     for e in emptied {
         new_keys::put_new_key(
             out,
-            Tree::NeedDiscard,
-            KeyType::Set,
+            Tree::NeedDiscard.tag(),
+            KeyType::Set.number(),
             0,
             positions::need_discard_at(journal, e.bucket),
         );

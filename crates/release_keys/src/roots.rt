@@ -13,7 +13,7 @@ pub fn put_roots(out: &mut Output, emptied: usize, roots: u8)
     ensures { out.new ≡ with_bytes out.old (roots_bytes (roots_if (not (eqb emptied 0) && root_missing roots 1) 12 ++ roots_if (not (eqb emptied 0) && root_missing roots 2) 14)) }
 {
     if emptied != 0 {
-        root_fields::put_root(out, roots / 2 % 2 == 0, Tree::NeedDiscard);
-        root_fields::put_root(out, roots / 4 % 2 == 0, Tree::BucketGens);
+        root_fields::put_root(out, roots / 2 % 2 == 0, Tree::NeedDiscard.tag());
+        root_fields::put_root(out, roots / 4 % 2 == 0, Tree::BucketGens.tag());
     }
 }

@@ -4,14 +4,12 @@ ghost use Rattle.std.specs.Prelude.{◌≡◌, ◌+◌, ◌-◌, ◌≤◌, min,
 ghost use Rattle.wire.specs.Numbers.{le_bytes, words_bytes};
 ghost use Rattle.wire.specs.Held.{value_in, key_in, key_with};
 ghost use Rattle.wire.specs.Kinds.{bucket_bytes, sector_bytes, file_sector_bytes};
-ghost use Rattle.wire.specs.TreeTags.{tree_tag};
 ghost use Rattle.wire.specs.Encode.{head_bytes, encode_field, pos_bytes, key_start, key_field};
 ghost use Rattle.wire.specs.Output.{put, cap, with_bytes};
 
 use crate::bpos::Bpos;
 use crate::keys::{Bkey, KeyHead, Value};
 use crate::kinds::{Bucket, DeviceSector, FileSector};
-use crate::trees::Tree;
 
 // A slice that is lent, and the place in it that the next byte goes to.
 #[derive(Drop)]
@@ -162,30 +160,30 @@ impl<'a> Output<'a> {
     }
 
     // A key of a tree with no value.
-    pub fn put_bare_key(&mut self, tree: Tree, h: KeyHead)
-        ensures { self.new ≡ with_bytes self.old (encode_field (key_field (tree_tag tree) (key_with h []))) }
+    pub fn put_bare_key(&mut self, tree: u8, h: KeyHead)
+        ensures { self.new ≡ with_bytes self.old (encode_field (key_field tree (key_with h []))) }
     {
-        self.put_head(tree.tag(), 37);
+        self.put_head(tree, 37);
         self.put_key_start(h);
     }
 
     // A key of a tree. `read_key` shows the bound of its value.
-    pub fn put_key(&mut self, tree: Tree, k: &Bkey)
+    pub fn put_key(&mut self, tree: u8, k: &Bkey)
         requires { k.now.value.len ≤ 256 }
-        ensures { self.new ≡ with_bytes self.old (encode_field (key_field (tree_tag tree) (key_in k.now))) }
+        ensures { self.new ≡ with_bytes self.old (encode_field (key_field tree (key_in k.now))) }
     {
         let value = &k.value.bytes[..k.value.len];
-        self.put_head(tree.tag(), 37 + value.len());
+        self.put_head(tree, 37 + value.len());
         self.put_key_start(k.head());
         self.put_slice(value);
     }
 
     // A key of a tree whose value is words. Who makes the words shows the bound.
-    pub fn put_words_key(&mut self, tree: Tree, h: KeyHead, words: &[u64])
+    pub fn put_words_key(&mut self, tree: u8, h: KeyHead, words: &[u64])
         requires { length words.now ≤ 8 }
-        ensures { self.new ≡ with_bytes self.old (encode_field (key_field (tree_tag tree) (key_with h (words_bytes words.now)))) }
+        ensures { self.new ≡ with_bytes self.old (encode_field (key_field tree (key_with h (words_bytes words.now)))) }
     {
-        self.put_head(tree.tag(), 37 + 8 * words.len());
+        self.put_head(tree, 37 + 8 * words.len());
         self.put_key_start(h);
         self.put_words(words);
     }

@@ -7,8 +7,8 @@ use Rattle.place_tests.proofs.refusals.refuse_requests.Goals as goal
 pub returns-then-h-eq0 : goal.returns-then-h-eq0
 returns-then-h-eq0 c = rw (first_tests (read_call c.args.read.now.list.now) c.args.read.now.head c.requires.head) (grind (arith, nat_tests))
 
-pub returns-in_default : goal.returns-in_default
-returns-in_default c = rw (first_tests (read_call c.args.read.now.list.now) c.args.read.now.head c.requires.head) (grind (arith, nat_tests))
+pub returns-then-h-gt3 : goal.returns-then-h-gt3
+returns-then-h-gt3 c = rw (first_tests (read_call c.args.read.now.list.now) c.args.read.now.head c.requires.head) (grind (arith, nat_tests))
 
 pub returns-then-not-kinds_listed : goal.returns-then-not-kinds_listed
 returns-then-not-kinds_listed c = rw (first_tests (read_call c.args.read.now.list.now) c.args.read.now.head c.requires.head) (grind (arith, nat_tests))

@@ -5,4 +5,4 @@ use Rattle.wire.proofs.output.Output.put_bare_key.Goals as goal
 
 pub returns : goal.returns
 unfolding encode_field key_body
-returns c = simp (c.put_head.ensures, c.tag.ensures, c.put_key_start.ensures, with-with, append-nil, start-length)
+returns c = simp (c.put_head.ensures, c.put_key_start.ensures, with-with, append-nil, start-length)

@@ -1,6 +1,5 @@
 use Rattle.std.proofs.Common.{arith, ap, sym, ◌≡◌, ◌+◌, ◌*◌, length}
 use Rattle.wire.specs.Numbers.{words_bytes}
-use Rattle.wire.specs.TreeTags.{tree_tag}
 use Rattle.wire.specs.Output.{with_bytes}
 use Rattle.wire.proofs.EncodeLaws.{words_count}
 use Rattle.wire.proofs.AppendLaws.{with-with, key-parts}
@@ -10,5 +9,5 @@ pub returns : goal.returns
 returns c =
     let w = c.args.words.now in
     let n : 37 + 8 * length w ≡ 37 + length (words_bytes w) = omega (arith, words_count w) in
-    rw (c.put_words.ensures, c.put_key_start.ensures, c.put_head.ensures, c.tag.ensures, with-with, with-with, n)
-    (ap (with_bytes c.args.self.now) (sym (key-parts (tree_tag c.args.tree) c.args.h (words_bytes w))))
+    rw (c.put_words.ensures, c.put_key_start.ensures, c.put_head.ensures, with-with, with-with, n)
+    (ap (with_bytes c.args.self.now) (sym (key-parts c.args.tree c.args.h (words_bytes w))))
