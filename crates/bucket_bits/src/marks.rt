@@ -13,7 +13,7 @@ use reader::key;
 use wire::kinds;
 use wire::kinds::Bucket;
 
-// The bits.
+// Which buckets are marked.
 #[derive(Drop)]
 pub struct BucketBits {
     pub bytes: [u8; 8192],

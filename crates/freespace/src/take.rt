@@ -86,7 +86,7 @@ impl<'a> Walker<'a> {
         }
     }
 
-    // Takes the buckets that are wanted from the runs, in their order. Refusals 2 and 3, the reader and the lent table show the rest.
+    // Takes the buckets that are wanted from the runs, in their order. Refusals 2 and 3, the reader and the lent table show what is asked.
     pub fn take_buckets(&self, runs: &[u32], taken: &mut [Bucket]) -> Result<Walked, Refusal>
         requires { Checked self.now.list.now × KeysAt self.now.list.now runs.now (read_volume self.now.list.now).trees.freespace × (self.now.wanted ≤ length taken.old) }
         ensures { WalkIs self.now.wanted (λ w. take w.passed (read_volume self.now.list.now).trees.freespace) (walk (is_in (read_volume self.now.list.now).reserved) (is_used (read_volume self.now.list.now).trees.alloc) self.now.wanted (runs_of (read_volume self.now.list.now).trees.freespace)) unwalked taken.old taken.new result }
