@@ -9,6 +9,7 @@ ghost use Rattle.apply.specs.Roots.{roots_after};
 ghost use Rattle.apply.specs.NextVolume.{Lists, bytes_after, Ready, next_of, SectionReady, QueueReady, VolumeDone};
 
 use crate::front;
+use merge::below::Rest;
 use merge::{merge as merging, queue};
 use reader::answer;
 use reader::answer::Emit;
@@ -85,18 +86,10 @@ impl<'a> NextVolume<'a> {
         requires { i < 7 }
         ensures { Done (get_or sections i 0) out.old (next_of self.now.volume self.now.change (get_or sections i 0)) out.new result }
     {
-        let section = entries::section_at(i);
-        let keys = self.keys(i);
+        let rest = Rest::new(entries::section_at(i), self.read.list, self.keys(i), 0);
         match self.queued(i) {
-            Some(queue) => merging::put_section(
-                out,
-                self.read.list,
-                keys,
-                self.list,
-                section,
-                queue,
-            ),
-            None => merging::put_section_in_chunks(out, self.read.list, keys, self.list, section),
+            Some(queue) => merging::put_section(out, rest, self.list, queue),
+            None => merging::put_section_in_chunks(out, rest, self.list),
         }
     }
 
