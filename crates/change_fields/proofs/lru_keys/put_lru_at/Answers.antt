@@ -10,7 +10,7 @@ lru_at-pos-requires c = omega (arith, index-low c.args.dirty c.args.sectors c.if
 
 pub returns-then-dirty-sectors : goal.returns-then-dirty-sectors
 returns-then-dirty-sectors c =
-    simp (lt-ltb c.args.dirty c.args.sectors c.if-dirty-sectors.true, encode_one, c.put_new_key.ensures, c.lru_at-pos.ensures, c.fragmentation.ensures)
+    simp (lt-ltb c.args.dirty c.args.sectors c.if-dirty-sectors.true, encode_one, c.put_new_key.ensures, c.tag.ensures, c.number.ensures, c.lru_at-pos.ensures, c.fragmentation.ensures)
 
 pub returns-else-dirty-sectors : goal.returns-else-dirty-sectors
 returns-else-dirty-sectors c = rw (lru-none c.args.dirty c.args.sectors _ c.if-dirty-sectors.false) (sym (with-none c.args.out.now))

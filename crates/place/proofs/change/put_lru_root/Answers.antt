@@ -13,4 +13,4 @@ returns c =
       | then-wanted w ↦ w.put_root-is ∙ sym (root-wanted c.args.wanted c.args.roots w.if-wanted.true)
       | else-wanted w ↦ w.put_root-is ∙ w.if-wanted.false ∙ sym (root-unwanted c.args.wanted c.args.roots w.if-wanted.false)
     ] in
-    c.put_root.ensures ∙ ap (λ (b : Bool). with_bytes c.args.out.now (roots_bytes (roots_if b 10))) e
+    rw c.tag.ensures at c.put_root.ensures ∙ ap (λ (b : Bool). with_bytes c.args.out.now (roots_bytes (roots_if b 10))) e

@@ -6,4 +6,4 @@ pub returns : goal.returns
 unfolding extent_key
 returns c =
     let named = rw c.unwrap.ensures at c.named.ensures in
-    rw (c.put_words_key.ensures, c.number.ensures, c.extent_words-v.ensures.1, named, c.pointer.ensures, c.extent_at.ensures) refl
+    rw (c.put_words_key.ensures, c.tag.ensures, c.number.ensures, c.extent_words-v.ensures.1, named, c.pointer.ensures, c.extent_at.ensures) refl

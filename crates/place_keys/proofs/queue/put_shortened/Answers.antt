@@ -7,9 +7,9 @@ use Rattle.place_keys.proofs.queue.put_shortened.Goals as goal
 
 pub returns-then-left-eq0 : goal.returns-then-left-eq0
 returns-then-left-eq0 c =
-    rw (c.put_deletion.ensures, c.pos_at.ensures, deleted (key_here c.args.s.now c.args.from) c.if-left-eq0.true) refl
+    rw (c.put_deletion.ensures, c.tag.ensures, c.pos_at.ensures, deleted (key_here c.args.s.now c.args.from) c.if-left-eq0.true) refl
 
 pub returns : goal.returns
 returns c =
-    c.put_key.ensures
+    rw c.tag-2.ensures at c.put_key.ensures
     ∙ ap (λ x. with_bytes c.args.out.now (encode_field (key_field 11 x))) (kept (key_here c.args.s.now c.args.from) c.key_at-k.ensures c.if-left-eq0.false)

@@ -18,7 +18,7 @@ backpointer_at-requires c =
 
 pub loop-place-preserved : goal.loop-place-preserved
 loop-place-preserved c =
-    rw (c.put_deletion.ensures, c.backpointer_at.ensures, with-with)
+    rw (c.put_deletion.ensures, c.tag.ensures, c.backpointer_at.ensures, with-with)
     (ap (with_bytes c.loop-place.out) (sym (fields-next (key_field 13) (ap (map (λ (x : Freed). deletion (backpointer_at x.first))) (freeds_here c.args.s.now c.args.requests.now c.loop-place-test.true c.read_freed-r.ensures))))
     ∙ c.loop-place.invariant)
 

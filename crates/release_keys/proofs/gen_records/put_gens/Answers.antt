@@ -14,7 +14,7 @@ loop-e-preserved c =
     let n = c.next_record-key in (
       n.ensures.0,
       λ gens generation_of r e.
-          queue-turn (c.loop-e.invariant.1 gens generation_of r e) c.requires.2 c.loop-e-test.true _ n.result (generation-at generation_of c.args.emptied.now c.loop-e.e-index c.loop-e-test.true e) (n.ensures.1 gens r) c.put_key.ensures,
+          queue-turn (c.loop-e.invariant.1 gens generation_of r e) c.requires.2 c.loop-e-test.true _ n.result (generation-at generation_of c.args.emptied.now c.loop-e.e-index c.loop-e-test.true e) (n.ensures.1 gens r) (rw c.tag.ensures at c.put_key.ensures),
     )
 
 pub returns : goal.returns

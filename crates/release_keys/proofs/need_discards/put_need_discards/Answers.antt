@@ -15,7 +15,7 @@ bytes journal rows = keys_bytes 12 (map (need_discard_key journal) (emptied_buck
 
 pub loop-e-preserved : goal.loop-e-preserved
 loop-e-preserved c =
-    loop-turn (bytes c.args.journal) c.args.emptied.now c.loop-e.e-index no_emptied _ c.loop-e.out c.put_new_key.new.out (omega arith) (encode-next _ _) (rw (wait-is c.args.journal _ _ c.need_discard_at.ensures) at c.put_new_key.ensures)
+    loop-turn (bytes c.args.journal) c.args.emptied.now c.loop-e.e-index no_emptied _ c.loop-e.out c.put_new_key.new.out (omega arith) (encode-next _ _) (rw (c.tag.ensures, c.number.ensures, wait-is c.args.journal _ _ c.need_discard_at.ensures) at c.put_new_key.ensures)
     ∙ c.loop-e.invariant
 
 pub returns : goal.returns

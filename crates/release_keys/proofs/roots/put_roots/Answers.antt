@@ -8,7 +8,7 @@ use Rattle.release_keys.proofs.roots.put_roots.Goals as goal
 pub returns-then-emptied-ne0 : goal.returns-then-emptied-ne0
 unfolding root_missing
 returns-then-emptied-ne0 c =
-    rw (roots-both c.args.emptied c.args.roots c.if-emptied-ne0.true, c.put_root-then-emptied-ne0.ensures, c.put_root.ensures, with-with)
+    rw (roots-both c.args.emptied c.args.roots c.if-emptied-ne0.true, c.put_root-then-emptied-ne0.ensures, c.put_root.ensures, c.tag.ensures, c.tag-then-emptied-ne0.ensures, with-with)
 
 pub returns-else-emptied-ne0 : goal.returns-else-emptied-ne0
 returns-else-emptied-ne0 c = rw (roots-idle c.args.emptied c.args.roots c.if-emptied-ne0.false) (sym (with-none c.args.out.now))
