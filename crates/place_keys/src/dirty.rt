@@ -15,7 +15,8 @@ pub fn fill_dirty(dirty: &mut [u32], s: &[u8], pieces: &[u32], slots: &[u32])
 {
     for (i, at) in pieces.iter().enumerate() {
         let piece = piece::read_piece(s, *at as usize);
-        let slot = Slot::of_number(slots[i]);
+        let number = slots[i];
+        let slot = Slot::of_number(number);
         dirty[slot.index] += piece.stored as u32;
     }
 }

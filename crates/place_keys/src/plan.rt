@@ -45,7 +45,8 @@ impl<'a> Plan<'a> {
         ensures is { slot_in result ≡ slot_of (get_or self.now.slots.now i 0) }
         ensures in_bounds { (result.index < length self.now.taken.now) × (result.index < length self.now.gens.now) × (result.offset < 65536) }
     {
-        Slot::of_number(self.slots[i])
+        let number = self.slots[i];
+        Slot::of_number(number)
     }
 
     // Piece i at its place: its extent starts where the last one ends.
