@@ -1,4 +1,4 @@
-// Fields 73: rows of accounting, and those that the rows of more than one call are.
+// Fields 73, the rows of accounting: what those of more than one call are made of.
 ghost use Rattle.std.specs.Prelude.{◌≡◌, ◌<◌, ◌≤◌, ◌^◌, not, [], ◌∷◌, pos, neg_ℤ, ◌+ℤ◌, length};
 ghost use Rattle.wire.specs.Output.{with_bytes};
 ghost use Rattle.calls.specs.Lists.{any_of};

@@ -1,4 +1,4 @@
-// The accounting of every call: its rows, and what a placement counts of its pieces.
+// The accounting of placements, releases and discards: their rows, and what a placement counts of its pieces.
 #![tactic(auto)]
 
 pub mod counters;

@@ -108,7 +108,7 @@ fn discard_many(read: &ReadList, out: &mut [u8]) -> Result<usize, Refusal>
     discard_tabled(read, &table, out)
 }
 
-// The answer to a discard whose list passed refusals 2, 3 and 20, which the reader and its caller show. A table of one entry stands for none.
+// The answer to a discard whose list passed refusals 2, 22, 3 and 20, which the reader and its caller show. A table of one entry stands for none.
 pub fn discard_lists(read: &ReadList, out: &mut [u8]) -> Result<usize, Refusal>
     requires { DiscardGiven read.now }
     ensures { made_by result out.new ≡ outcome (answer [] (change_bytes (discard_batches (read_volume read.now.list.now))) (length out.old)) out.old }

@@ -72,7 +72,7 @@ fn with_le(v: Value, at: usize, n: usize, x: u64) -> Value
     Value { bytes, len: v.len }
 }
 
-// The value after a part is freed: another dirty count. Refusal 16 shows the length, here and below.
+// The value after a part is freed: another dirty count. In a release refusal 16 shows the length, and in a discard the choice of its keys, here and below.
 #[tactic(auto, unfolding(crate::specs::AllocV4::with_dirty, crate::specs::Packing::store))]
 pub fn with_dirty(v: Value, dirty: u32) -> Value
     requires { (56 ≤ v.len) × (v.len ≤ 256) }

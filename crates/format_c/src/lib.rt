@@ -1,5 +1,5 @@
 // `format` behind a C boundary, for what C compares with the Linux headers: numbers and byte slices come in, and a kind is made of a number here alone. No caller
-// owes anything: a remainder brings each argument into its range.
+// owes anything: a remainder brings each number into its range, and a value of another length is left alone.
 #![tactic(auto)]
 
 ghost use Rattle.std.specs.Prelude.{◌≡◌, ◌+◌, ◌*◌, ◌%◌, ◌^◌, ◌≤◌, ◌&&◌, cond, leb, length, None, Some};

@@ -1,4 +1,4 @@
-// The lines of a change list.
+// The lines of a change list, and what the program prints.
 #![tactic(auto)]
 
 pub mod blanks;

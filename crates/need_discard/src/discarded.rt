@@ -16,7 +16,7 @@ use wire::key_types::KeyType;
 use wire::kinds::Bucket;
 use wire::positions;
 
-// Which waiting bucket is taken: one whose generation is below 16. The value's length shows the bound.
+// Whether a waiting bucket is taken: its generation is below 16. The value's length shows the bound.
 #[tactic(auto, unfolding(calls::specs::Discard::gen_taken))]
 pub fn gen_taken(s: &[u8], at: usize) -> bool
     requires { at + 13 ≤ length s.now }

@@ -50,6 +50,7 @@ pub fn put_allocs(
     requires allocs_known { AllocsKnown taken.now gens.now journal clock × DirtyKnown taken.now dirty.now }
     ensures { (v : Volume) (ps : List calls.Placed) → AllocsOf v taken.now gens.now journal clock → Dirty ps taken.now dirty.now → out.new ≡ with_bytes out.old (keys_bytes 4 (map (new_alloc_key v ps) taken.now)) }
 {
+    // By index: std's lemmas on `zip` are of two slices, and here are three.
     for (i, b) in taken.iter().enumerate() {
         put_alloc(out, *b, journal, gens[i], dirty[i], clock);
     }

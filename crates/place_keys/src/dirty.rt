@@ -13,6 +13,7 @@ pub fn fill_dirty(dirty: &mut [u32], s: &[u8], pieces: &[u32], slots: &[u32])
     requires s_in_bounds { (length (walk_of (read_call s.now)).taken ≤ length dirty.old) × ((k : ℕ) → get_or dirty.old k 0 ≡ 0) }
     ensures { Dirty (placed_of (read_call s.now)) (walk_of (read_call s.now)).taken dirty.new }
 {
+    // By index: what is known of a piece and of its slot is known by their index.
     for (i, at) in pieces.iter().enumerate() {
         let piece = piece::read_piece(s, *at as usize);
         let number = slots[i];

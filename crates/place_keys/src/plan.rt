@@ -23,7 +23,7 @@ pub struct Plan<'a> {
     pub ghost planned: { specs.Plan list.now pieces.now slots.now taken.now gens.now head },
 }
 
-// The pieces of a plan that are left: the index of the next one, and where its extent starts in the file.
+// The pieces of a plan that are left: the index of the next one, and where the extent before it ends in the file.
 #[derive(Drop)]
 pub struct Pieces<'a> {
     pub plan: Plan<'a>,

@@ -43,7 +43,7 @@ fn release_tables(
     answer::written(&batch, out)
 }
 
-// The answer where the freed buckets are listed. The layout shows that alloc keys ascend, here and below.
+// The answer where the freed buckets are listed. Refusal 22 shows that alloc keys ascend, here and below.
 fn release_buckets(
     read: &ReadList,
     rows: &mut [FreedBucket],
@@ -70,7 +70,7 @@ fn sum_up(read: &ReadList, scratch: &mut [u32], rows: &mut [FreedBucket]) -> usi
     sums::take_freed(scratch, &marks, rows)
 }
 
-// The answer after refusals 1 to 3, and the scratch, which comes cleared. The reader shows what is required.
+// The answer after refusals 1, 2, 22 and 3, and the scratch, which comes cleared. The reader shows what is required.
 pub fn release_lists(read: &ReadList, scratch: &mut [u32], out: &mut [u8]) -> Result<usize, Refusal>
     requires keyed { Keyed read.now.list.now read.now.alloc.now × (keys_ok (keys_here read.now.list.now read.now.alloc.now) ≡ true) × Keyed read.now.list.now read.now.gens.now }
     requires requested { Requested read.now.list.now read.now.requests.now × (length read.now.requests.now ≤ 1024) × Cleared scratch.old }

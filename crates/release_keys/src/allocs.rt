@@ -25,7 +25,7 @@ fn skip_below(s: &[u8], offsets: &[u32], from: usize, p: Bpos) -> usize
     skip::skip_while(offsets, from, is_below)
 }
 
-// The place of the key at a position, which no key from an index on stands before. The layout shows that keys ascend, here and below.
+// The place of the key at a position, which no key from an index on stands before. Refusal 22 shows that keys ascend, here and below.
 fn place_here(s: &[u8], offsets: &[u32], i: usize, p: Bpos) -> Option<u32>
     requires keyed { Keyed s.now offsets.now × (keys_ok (keys_here s.now offsets.now) ≡ true) }
     requires p_value { i < length offsets.now → pos_less (get_or (keys_here s.now offsets.now) i no_key).pos p ≡ false }

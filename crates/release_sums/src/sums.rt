@@ -10,7 +10,7 @@ use crate::requests;
 use wire::kinds;
 use wire::kinds::Bucket;
 
-// A bucket that is freed, the sectors that are freed of it, and the place of its alloc key: none before it is looked for.
+// A bucket that is freed, the sectors that are freed of it, and the place of its alloc key: none before it is looked for, and where the bucket has none.
 #[derive(Clone, Copy, Drop)]
 pub struct FreedBucket {
     pub bucket: Bucket,

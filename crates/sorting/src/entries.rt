@@ -53,7 +53,7 @@ pub fn pos_at(s: &[u8], o: usize, section: u8) -> Bpos
     }
 }
 
-// Its type; a bucket that is unreserved has type 0.
+// Its type; a reserved bucket has type 1, and one that is unreserved type 0.
 pub fn type_at(s: &[u8], o: usize, section: u8) -> u8
     requires { EntryAt section s.now o }
     ensures { result ≡ (entry_from section s.now o).type }

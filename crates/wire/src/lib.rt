@@ -1,4 +1,4 @@
-// Bytes and numbers, fields, kinds, positions, trees, keys and rows: how each is read and how each is emitted.
+// Bytes and numbers, fields, kinds, positions, trees, types of keys, keys and rows: how each is read and how each is emitted.
 #![tactic(auto)]
 
 pub mod bpos;

@@ -85,7 +85,7 @@ impl<'a> Output<'a> {
         self.put_slice(&x.to_le_bytes());
     }
 
-    // A field's tag and length. A body that is put after it shows the bound.
+    // A field's tag, and the two low bytes of its length: no body is longer than they tell.
     pub fn put_head(&mut self, tag: u8, n: usize)
         ensures { self.new ≡ with_bytes self.old (head_bytes tag n) }
     {
@@ -93,7 +93,7 @@ impl<'a> Output<'a> {
         self.put_u16((n % 65536) as u16);
     }
 
-    // A bucket in four bytes. The limits show the bound: what is past it is left out.
+    // A bucket in four bytes: what is past them is left out, and the limits show that nothing is.
     pub fn put_bucket_bytes(&mut self, b: Bucket)
         ensures { self.new ≡ with_bytes self.old (bucket_bytes b) }
     {
@@ -167,7 +167,7 @@ impl<'a> Output<'a> {
         self.put_key_start(h);
     }
 
-    // A key of a tree. `read_key` shows the bound of its value.
+    // A key of a tree. Who reads or makes the key shows the bound of its value.
     pub fn put_key(&mut self, tree: u8, k: &Bkey)
         requires { k.now.value.len ≤ 256 }
         ensures { self.new ≡ with_bytes self.old (encode_field (key_field tree (key_in k.now))) }

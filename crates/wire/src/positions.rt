@@ -27,7 +27,7 @@ pub fn alloc_at(b: Bucket) -> Bpos
     }
 }
 
-// Tree 10: a bucket at an index of fragmentation, which is below 2^31 where the dirty count is below the bucket.
+// Tree 10: a bucket at an index of fragmentation, which is below 2^31 where the dirty count is below the bucket's sectors.
 pub fn lru_at(index: u64, b: Bucket) -> Bpos
     requires { index < 2 ^ 61 }
     ensures { result ≡ lru_at index b }
