@@ -1,7 +1,7 @@
 -- The changes of a discard, as their bytes.
 use Rattle.std.specs.Prelude.{ℕ, ◌<◌, List}
 use Rattle.discard.specs.Emitted.{changes_from}
-use Rattle.discard.specs.Given.{Shown}
+use Rattle.discard.specs.Given.{DiscardShown}
 use Rattle.discard.specs.declared.changes.Changes.TheInside.{Inside}
 
 abbrev pub changes_view : Inside → List ℕ
@@ -9,4 +9,4 @@ changes_view c = changes_from c.discarded.list.now c.discarded.needs.now c.size 
 
 -- a batch has a key, and the alloc keys are as a discard chooses them
 abbrev pub IsChanges : Inside → Type 0
-IsChanges c = (0 < c.size) × Shown c.discarded
+IsChanges c = (0 < c.size) × DiscardShown c.discarded

@@ -19,7 +19,7 @@ pub record DiscardGiven (r : ReadList) : Type 0 where
   pub batched : r.head.batch ≡ 0 → ⊥
 
 -- What is shown of alloc keys that are discarded: each offset finds one, they are within the limit, and the table is one of the need-discard keys.
-pub record Shown (d : Discarded) : Type 0 where
+pub record DiscardShown (d : Discarded) : Type 0 where
   pub kept : All (DiscardedKept d.list.now) d.offsets.now
   pub few : length d.offsets.now ≤ 4096
   pub tabled : WaitingTable d.list.now d.needs.now d.table.now

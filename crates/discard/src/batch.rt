@@ -10,7 +10,7 @@ ghost use Rattle.reader.specs.KeyHere.{key_here, keys_here};
 ghost use Rattle.change_fields.specs.FieldBytes.{keys_bytes};
 ghost use Rattle.need_discard.specs.Kept.{bucket_here, DiscardedKept};
 ghost use Rattle.discard.specs.Emitted.{discarded_key, buckets_at, batch_bytes};
-ghost use Rattle.discard.specs.Given.{Shown};
+ghost use Rattle.discard.specs.Given.{DiscardShown};
 
 use crate::runs;
 use accounting::discarded as rows;
@@ -52,7 +52,7 @@ fn put_alloc_keys(out: &mut Output, s: &[u8], offsets: &[u32])
 
 // The deletion of the need-discard key that stands for the bucket at an offset. `discard_lists` chooses the table, here and below.
 fn put_waiting(out: &mut Output, d: &Discarded, o: u32)
-    requires { DiscardedKept d.now.list.now o × Shown d.now }
+    requires { DiscardedKept d.now.list.now o × DiscardShown d.now }
     ensures { out.new ≡ with_bytes out.old (keys_bytes 12 (waiting_deletions (keys_here d.now.list.now d.now.needs.now) (bucket_here d.now.list.now o))) }
 {
     let b = key::bucket_at(d.list, o as usize);
@@ -63,7 +63,7 @@ fn put_waiting(out: &mut Output, d: &Discarded, o: u32)
 
 // Tree 12.
 fn put_deletions(out: &mut Output, d: &Discarded)
-    requires { Shown d.now }
+    requires { DiscardShown d.now }
     ensures { out.new ≡ with_bytes out.old (keys_bytes 12 (flat_map (waiting_deletions (keys_here d.now.list.now d.now.needs.now)) (buckets_at d.now.list.now d.now.offsets.now))) }
 {
     for o in d.offsets {
@@ -83,7 +83,7 @@ fn put_unreserved(out: &mut Output, s: &[u8], offsets: &[u32])
 
 // The batch, in the order of its tags.
 pub fn discard_buckets(out: &mut Output, d: &Discarded)
-    requires { Shown d.now × (0 < length d.now.offsets.now) }
+    requires { DiscardShown d.now × (0 < length d.now.offsets.now) }
     ensures { out.new ≡ with_bytes out.old (batch_bytes d.now.list.now d.now.needs.now d.now.offsets.now) }
 {
     put_alloc_keys(out, d.list, d.offsets);

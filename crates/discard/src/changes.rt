@@ -7,7 +7,7 @@ ghost use Rattle.calls.specs.Answers.{read_volume, answer, outcome};
 ghost use Rattle.reader.specs.Refusals.{made_by};
 ghost use Rattle.need_discard.specs.Table.{WaitingTable};
 ghost use Rattle.discard.specs.Emitted.{changes_from};
-ghost use Rattle.discard.specs.Given.{DiscardGiven, Shown};
+ghost use Rattle.discard.specs.Given.{DiscardGiven, DiscardShown};
 
 use crate::batch;
 use crate::batch::Discarded;
@@ -21,7 +21,7 @@ use wire::output::Output;
 
 // The batches, in alloc order. Refusal 20 shows that a batch has a key, `discarded_keys`, `discard_lists` and the limits the rest.
 pub fn discard_freed(out: &mut Output, size: u32, d: &Discarded)
-    requires { (0 < size) × Shown d.now }
+    requires { (0 < size) × DiscardShown d.now }
     ensures { out.new ≡ with_bytes out.old (changes_from d.now.list.now d.now.needs.now size d.now.offsets.now) }
 {
     for offsets in d.offsets.chunks(size as usize) {
@@ -51,7 +51,7 @@ impl<'a> Model for Changes<'a> {
 impl<'a> Changes<'a> {
     // The changes in batches of a size. Refusal 20 shows that a batch has a key, `discarded_keys`, `discard_lists` and the limits the rest.
     pub fn new(size: u32, d: Discarded<'a>) -> Changes<'a>
-        requires { (0 < size) × Shown d }
+        requires { (0 < size) × DiscardShown d }
         ensures { result ≡ changes_from d.entry.list.now d.entry.needs.now size d.entry.offsets.now }
     {
         Changes { size, discarded: d }

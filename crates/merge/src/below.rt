@@ -4,7 +4,7 @@ ghost use Rattle.wire.specs.Bytes.{All};
 ghost use Rattle.sorting.specs.EntryPlaces.{entries_at};
 ghost use Rattle.merge.specs.Queues.{below, beyond, skip_at};
 ghost use Rattle.merge.specs.Counts.{StandsWithin};
-ghost use Rattle.merge.specs.Merging.{Left, left_in, Stretched, Put, Counted};
+ghost use Rattle.merge.specs.Merging.{Left, left_in, Stretched, Put, KeyCounted};
 
 use crate::limits;
 use sorting::bound::Bound;
@@ -130,7 +130,7 @@ impl<'a> Rest<'a> {
 
     // Counts a queued key, unless it is a deletion.
     pub fn add_shown(&mut self, ty: u8, pos: Bpos)
-        ensures { Counted self.old ty pos self.new }
+        ensures { KeyCounted self.old ty pos self.new }
     {
         if ty != 0 {
             self.count = limits::add(self.count, self.section, ty, pos);

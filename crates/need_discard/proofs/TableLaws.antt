@@ -19,7 +19,7 @@ use Rattle.calls.specs.Lists.{is_none}
 use Rattle.calls.specs.Discard.{waiting_key}
 use Rattle.reader.specs.KeyHere.{key_here, keys_here}
 use Rattle.need_discard.specs.Kept.{bucket_here, NeedKept}
-use Rattle.need_discard.specs.Table.{is_of_bucket, Entry, need_place, Entries, WaitingTable, wait_noted}
+use Rattle.need_discard.specs.Table.{is_of_bucket, Entry, need_place, TableEntries, WaitingTable, wait_noted}
 
 -- one key more: the last that names a bucket stands
 pub waiting-more : (ks : List Key) (k : Key) (b : Bucket) → waiting_key (ks ++ k ∷ []) b ≡ cond (is_of_bucket k b) (some k) (waiting_key ks b)
@@ -46,7 +46,7 @@ entry_new s needs ls b {f} i h p q =
     let e : f - 1 ≡ i = omega arith in
     rw (ne_eqb f 0 (λ z. omega arith), e) (h, q)
 
-pub empty-entries : (s needs : List ℕ) → Entries s needs [] (replicate 65536 0)
+pub empty-entries : (s needs : List ℕ) → TableEntries s needs [] (replicate 65536 0)
 unfolding waiting_key
 empty-entries s needs b h =
     let e : ◌≡◌ {A = ℕ} (get_or (replicate 65536 0) b.0 0) 0 = get_or-replicate 65536 b.0 0 0 (ltb-true b.0 65536 h) in
@@ -62,7 +62,7 @@ noted-length s table o i = go (is_set (key_here s o))
 
 -- the key at place i is noted
 module _ (s needs table : List ℕ) (ks : List Key) (i : ℕ) (h : i < length needs) (l : length table ≡ 65536)
-    (t : Entries s needs ks table) (b : Bucket) (m : bucket_in_range b ≡ true) where
+    (t : TableEntries s needs ks table) (b : Bucket) (m : bucket_in_range b ≡ true) where
   abbrev o : ℕ
   o = get_or needs i 0
 
@@ -98,12 +98,12 @@ pub keys-more : (s os : List ℕ) (i : ℕ) → i < length os → keys_here s (t
 keys-more s os i h = rw (add-one, take-suc os i 0 h) (map-append (key_here s) (take i os) (get_or os i 0 ∷ []))
 
 pub noted-entries : (s needs table : List ℕ) (i : ℕ) → i < length needs → length table ≡ 65536
-    → Entries s needs (keys_here s (take i needs)) table
-    → Entries s needs (keys_here s (take (i + 1) needs)) (wait_noted s table (get_or needs i 0) i)
+    → TableEntries s needs (keys_here s (take i needs)) table
+    → TableEntries s needs (keys_here s (take (i + 1) needs)) (wait_noted s table (get_or needs i 0) i)
 noted-entries s needs table i h l t b m = rw (keys-more s needs i h) (noted-entry s needs table (keys_here s (take i needs)) i h l t b m)
 
-pub all-entries : (s needs table : List ℕ) (i : ℕ) → i ≡ length needs → Entries s needs (keys_here s (take i needs)) table
-    → Entries s needs (keys_here s needs) table
+pub all-entries : (s needs table : List ℕ) (i : ℕ) → i ≡ length needs → TableEntries s needs (keys_here s (take i needs)) table
+    → TableEntries s needs (keys_here s needs) table
 all-entries s needs table i e t = rw (e, take-length needs) at t
 
 -- the key at place i is searched: the last so far that names a bucket has its entry

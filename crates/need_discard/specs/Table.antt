@@ -31,13 +31,13 @@ abbrev pub need_place : ℕ → Maybe ℕ
 need_place e = cond (eqb e 0) None (Some (e - 1))
 
 -- each bucket within the limit has the entry that these of the need-discard keys give it
-abbrev pub Entries : List ℕ → List ℕ → List Key → List ℕ → Type 0
-Entries s needs ks table = (b : Bucket) → bucket_in_range b ≡ true → Entry s needs ks b (need_place (get_or table b.0 0))
+abbrev pub TableEntries : List ℕ → List ℕ → List Key → List ℕ → Type 0
+TableEntries s needs ks table = (b : Bucket) → bucket_in_range b ≡ true → Entry s needs ks b (need_place (get_or table b.0 0))
 
 -- A table with an entry for each bucket is filled, and the need-discard keys stand where they are looked for.
 pub record WaitingTable (s needs table : List ℕ) : Type 0 where
   pub kept : All (NeedKept s) needs
-  pub entries : 65536 ≤ length table → Entries s needs (keys_here s needs) table
+  pub entries : 65536 ≤ length table → TableEntries s needs (keys_here s needs) table
 
 -- the table after the need-discard key at an offset, the one at place i: a key of another type than 25 names no bucket
 unfoldable pub wait_noted : List ℕ → List ℕ → ℕ → ℕ → List ℕ

@@ -1,4 +1,4 @@
--- The answers of the readers: refusals 2, 22 and 3, or the head and the table.
+-- The answers of the readers: refusals 2, 22 and 3, or the list that was read, with the places of its fields.
 use Rattle.std.specs.Prelude.{ℕ, ◌<◌, ◌≡◌, List, [], ◌∷◌, ◌++◌, Bool, ◌&&◌, ◌||◌, eqb, Option, Some, None, unwrap_or, Result, Ok, Err}
 use Rattle.wire.specs.Bytes.{Bytes}
 use Rattle.wire.specs.Fields.{fields}

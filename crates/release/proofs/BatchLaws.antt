@@ -43,7 +43,7 @@ use Rattle.release_keys.specs.declared.freed_buckets.Emptied.{Emptied}
 use Rattle.release_keys.specs.Tables.{no_row, row_buckets, RowsHeld, RowsWithin}
 use Rattle.release_keys.proofs.RowLaws.{rows-held, rows-within}
 use Rattle.release.specs.Given.{volume_in, requests_in, change_of}
-use Rattle.release.specs.Outcomes.{Checked, VolumeTables, BatchTables}
+use Rattle.release.specs.Outcomes.{RequestsChecked, VolumeTables, BatchTables}
 use Rattle.reader.specs.declared.read_list.ReadList.{ReadList}
 
 -- ---- the change list
@@ -108,7 +108,7 @@ emptied-named generation [] = refl
 emptied-named generation (b ∷ bs) = λ x. b ∷ emptied-named generation bs x
 
 -- the requests that refusal 14 passed
-pub pieces-bounded : {g : ReadList} → Checked g → g.head.bucket_sectors < 65536 → PiecesBounded g.list.now g.requests.now
+pub pieces-bounded : {g : ReadList} → RequestsChecked g → g.head.bucket_sectors < 65536 → PiecesBounded g.list.now g.requests.now
 pieces-bounded {g} p l = record { size = g.head.bucket_sectors; some-sectors = p.some-sectors; small = l; ok = p.checked }
 
 -- no more rows than requests

@@ -24,12 +24,12 @@ use Rattle.release_sums.proofs.FoundLaws.{freed-up}
 use Rattle.release_sums.specs.declared.sums.FreedBucket.{FreedBucket}
 use Rattle.release_keys.specs.Tables.{no_row, row_buckets, PlacesOf, FreedTables}
 use Rattle.release.specs.Given.{volume_in, requests_in, change_of}
-use Rattle.release.specs.Outcomes.{Checked, Summed, bucket_tests}
+use Rattle.release.specs.Outcomes.{RequestsChecked, Summed, bucket_tests}
 use Rattle.reader.specs.declared.read_list.ReadList.{ReadList}
 use Rattle.release.proofs.BatchLaws.{in-at}
 
 -- ---- the freed buckets, listed
-pub checked-made : {g : ReadList} → Requested g.list.now g.requests.now → length g.requests.now ≤ 1024 → 0 < g.head.bucket_sectors → all_of (freed_ok g.head.bucket_sectors) (requests_in g) ≡ true → Checked g
+pub checked-made : {g : ReadList} → Requested g.list.now g.requests.now → length g.requests.now ≤ 1024 → 0 < g.head.bucket_sectors → all_of (freed_ok g.head.bucket_sectors) (requests_in g) ≡ true → RequestsChecked g
 checked-made q f h ok = record { requested = q; few = f; some-sectors = h; checked = ok }
 
 -- each row's bucket, and its sum

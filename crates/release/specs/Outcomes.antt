@@ -19,7 +19,7 @@ abbrev pub bucket_tests : Volume → List Freed → List ℕ
 bucket_tests v rs = verdict (map (bucket_refusal v rs) (freed_buckets v.head.bucket_sectors rs)) ∷ []
 
 -- the requests that refusal 14 passed
-pub record Checked (r : ReadList) : Type 0 where
+pub record RequestsChecked (r : ReadList) : Type 0 where
   pub requested : Requested r.list.now r.requests.now
   pub few : length r.requests.now ≤ 1024
   pub some-sectors : 0 < r.head.bucket_sectors
@@ -27,12 +27,12 @@ pub record Checked (r : ReadList) : Type 0 where
 
 -- they are listed by bucket
 pub record Summed (r : ReadList) (rows : List FreedBucket) : Type 0 where
-  pub passed : Checked r
+  pub passed : RequestsChecked r
   pub listed : rows ≡ map (summed_row (freed_in r.head.bucket_sectors (requests_in r))) (freed_buckets r.head.bucket_sectors (requests_in r))
 
 -- the tables hold the volume's freed buckets and its generation records
 pub record VolumeTables (r : ReadList) (rows : List FreedBucket) (records : List ℕ) : Type 0 where
-  pub passed : Checked r
+  pub passed : RequestsChecked r
   pub tabled : FreedTables r.list.now (volume_in r) (requests_in r) rows
   pub recorded : RecordsFound r.list.now (volume_in r).trees.gens records
 

@@ -9,7 +9,7 @@ ghost use Rattle.release_sums.specs.Freeds.{Requested};
 ghost use Rattle.release_sums.specs.Summing.{Cleared, Listed, summed_row};
 ghost use Rattle.release_keys.specs.Places.{Keyed};
 ghost use Rattle.release.specs.Given.{volume_in, requests_in, change_of};
-ghost use Rattle.release.specs.Outcomes.{Checked, Summed, VolumeTables, bucket_tests};
+ghost use Rattle.release.specs.Outcomes.{RequestsChecked, Summed, VolumeTables, bucket_tests};
 
 use crate::batch::ReleaseBatch;
 use gens::records;
@@ -61,7 +61,7 @@ fn release_buckets(
 
 // The sums of the requests, listed by bucket; the scratch is left cleared.
 fn sum_up(read: &ReadList, scratch: &mut [u32], rows: &mut [FreedBucket]) -> usize
-    requires { Checked read.now × Cleared scratch.old × (length read.now.requests.now ≤ length rows.old) }
+    requires { RequestsChecked read.now × Cleared scratch.old × (length read.now.requests.now ≤ length rows.old) }
     ensures { Listed (freed_buckets read.now.head.bucket_sectors (requests_in read.now)) (summed_row (freed_in read.now.head.bucket_sectors (requests_in read.now))) rows.new result × (scratch.new ≡ replicate 65536 0 ++ drop 65536 scratch.old) }
 {
     let sectors = read.head.bucket_sectors as u64;
