@@ -1,7 +1,7 @@
 -- What a list that was read shows: that it meets none of 2, 22 and 3, and where its keys, its reserved buckets and its requests stand.
 use Prim.Native.Nat.{ℕ, ◌≤◌, ◌<◌}
 use native.Mathlib.Omega.{arith}
-use mathlib.Core.Path.{◌≡◌, refl, sym, ap, ◌∙◌}
+use mathlib.Core.Path.{◌≡◌, refl, sym, ap, ◌∙◌, subst}
 use mathlib.Core.Bool.{Bool, true, false}
 use Rattle.std.proofs.Common.{Option, Some, None}
 use mathlib.Core.List.{List, [], ◌∷◌}
@@ -14,9 +14,10 @@ use Rattle.calls.specs.Answers.{Answer, answer, read_call, read_volume}
 use Rattle.calls.proofs.encoding.KeyFitsLaws.{list-within}
 use Rattle.calls.proofs.answers.RefusalLaws.{verdict-ok, test-ok}
 use Rattle.calls.proofs.answers.OutcomeLaws.{answer-next, answer-stops}
-use Rattle.reader.specs.Readings.{call_refusal, volume_refusal, list_refusal, KeysRead, ReadAs}
+use Rattle.reader.specs.Readings.{call_refusal, volume_refusal, list_refusal, KeysRead, BucketsRead, ReadAs}
 use Rattle.reader.specs.Located.{KeysAt, BucketsAt, PiecesAt, FreedsAt}
 use Rattle.reader.specs.declared.listed_keys.Keys.{Keys}
+use Rattle.reader.specs.declared.reserved_buckets.ReservedBuckets.{ReservedBuckets}
 use Rattle.reader.specs.declared.read_list.ReadList.{ReadList}
 use Rattle.reader.proofs.VolumeLaws.{volume-refusal}
 use Rattle.reader.proofs.OfferedLaws.{call_kept, limits-kept}
@@ -111,16 +112,22 @@ pub record Located (r : ReadList) : Type 0 where
   pub reserved : BucketsAt r.list.now r.reserved.places.now (read_volume r.list.now).reserved
 
 tree-located : {s : List ℕ} {t : ℕ} {ks : List Key} {r : Keys} → KeysRead s t ks r → KeysAt s r.places.now ks
-tree-located {r} q = rw (q.list, q.are) at (keys-at r.whole)
+tree-located {ks = ks} {r} q =
+    subst (λ l. KeysAt l r.places.now ks) q.list (subst (λ l. KeysAt r.list.now r.places.now l) q.are (keys-at r.whole))
+
+reserved-located : {s : List ℕ} {r : ReservedBuckets} → BucketsRead s r → BucketsAt s r.places.now (read_volume s).reserved
+reserved-located {s} {r} q =
+    subst (λ l. BucketsAt l r.places.now (read_volume s).reserved) q.list
+    (subst (λ l. BucketsAt r.list.now r.places.now l) q.are (buckets-at r.whole))
 
 pub located : {asked : Option ℕ} {r : ReadList} → ReadAs asked r → Located r
-located {r} c =
+located c =
     record {
       alloc = tree-located c.read.alloc;
       freespace = tree-located c.read.freespace;
       need_discard = tree-located c.read.need_discard;
       gens = tree-located c.read.gens;
-      reserved = let q = c.read.reserved in rw (q.list, q.are) at (buckets-at r.reserved.whole);
+      reserved = reserved-located c.read.reserved;
     }
 
 -- the requests of a placement, at most 1,024
