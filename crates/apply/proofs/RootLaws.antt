@@ -23,7 +23,7 @@ use Rattle.calls.specs.Apply.{set_roots}
 use Rattle.calls.proofs.lists.AllLaws.{first, all_join, all_tail, test-all}
 use Rattle.calls.proofs.lists.BoolLaws.{parts}
 use Rattle.calls.proofs.encoding.Blocks.{shaped_out}
-use Rattle.sorting.proofs.EntryLaws.{StepAt}
+use Rattle.wire.proofs.FieldLaws.{FieldAt}
 use Rattle.apply.specs.Roots.{with_root_bit, with_root, is_root, roots_in, NamesRoot, after_field, Rooted}
 
 -- one bit
@@ -70,26 +70,23 @@ module _ (roots id : ℕ) (l : roots < 8) where
 
 -- one field
 
-pub other-field : (s : List ℕ) (roots tag start : ℕ) → roots < 8 → (tag ≡ 70 → ⊥) → Rooted roots (after_field s roots tag start)
-unfolding after_field
-other-field s roots tag start l h = record { same = rw (ne_eqb tag 70 h); low = l }
+module _ (roots : ℕ) (f : Field) where
+  pub other-field : roots < 8 → (f.tag ≡ 70 → ⊥) → Rooted roots (after_field roots f)
+  unfolding after_field
+  other-field l h = record { same = rw (ne_eqb f.tag 70 h); low = l }
 
-pub root-field : {r : ℕ} (s : List ℕ) (roots tag start : ℕ) → tag ≡ 70 → Rooted r (with_root roots (get_or s start 0)) → Rooted r (after_field s roots tag start)
-unfolding after_field
-root-field s roots tag start e h = rw (eq-eqb tag 70 e) h
+  pub root-field : {r : ℕ} → f.tag ≡ 70 → Rooted r (with_root roots (le 1 f.body)) → Rooted r (after_field roots f)
+  unfolding after_field
+  root-field e h = rw (eq-eqb f.tag 70 e) h
 
 -- the loop on its way
-
--- a field 70 has one byte, which names a root
-abbrev Named : Field → Type 0
-Named f = f.tag ≡ 70 → (length f.body ≡ 1) × (is_root (le 1 f.body) ≡ true)
 
 pub record Rooting (list : List ℕ) (roots at r : ℕ) : Type 0 where
   pub low : r < 8
   pub rest : set_roots (roots_in (fields (drop at list))) r ≡ set_roots (roots_in (fields list)) roots
-  pub named : All Named (fields (drop at list))
+  pub named : All NamesRoot (fields (drop at list))
 
-named-field : (f : Field) → shaped change_shapes f ≡ true → field_ok f ≡ true → Named f
+named-field : (f : Field) → shaped change_shapes f ≡ true → field_ok f ≡ true → NamesRoot f
 unfolding field_ok root_listed is_root change_shapes
 named-field f s o e =
     let k : shaped change_shapes (record { tag = 70; body = f.body }) ≡ true =
@@ -97,7 +94,7 @@ named-field f s o e =
     let l = shaped_out 70 1 1 change_shapes f.body refl k in
     (omega (arith, l.0, l.1), rw (eq-eqb f.tag 70 e) at o)
 
-all-named-in : (list : List ℕ) → change_laid_out list ≡ true → All Named (fields list)
+all-named-in : (list : List ℕ) → change_laid_out list ≡ true → All NamesRoot (fields list)
 unfolding change_laid_out
 all-named-in list h =
     let fs : List Field = fields list in
@@ -113,22 +110,17 @@ pub rooting-end : {list : List ℕ} {roots at r : ℕ} → Rooting list roots at
 unfolding roots_in bodies those set_roots
 rooting-end p e = record { same = rw e at p.rest; low = p.low }
 
-module _ {list : List ℕ} {roots at r : ℕ} (p : Rooting list roots at r) {tag b n : ℕ} (h : StepAt list at tag b n) where
-  all_named : All Named (field_at list tag b n ∷ fields (drop (b + n) list))
-  all_named = rw h.field.here at p.named
+module _ {list : List ℕ} {roots at r : ℕ} (p : Rooting list roots at r) {tag b n : ℕ} (h : FieldAt list at tag b n) where
+  abbrev f : Field
+  f = field_at list tag b n
 
-  byte : 1 ≤ n → le 1 (take n (drop b list)) ≡ get_or list b 0
-  byte l = rw add-zero at (body-le list b n 1 0 (omega arith)) ∙ le-byte list b
+  all_named : All NamesRoot (f ∷ fields (drop (b + n) list))
+  all_named = rw h.here at p.named
 
-  one : tag ≡ 70 → n ≡ 1
-  one e = sym (body-length list b n h.field.within) ∙ (first all_named e).0
+  pub rooting-names : NamesRoot f
+  rooting-names = first all_named
 
-  pub rooting-names : NamesRoot list tag b
-  rooting-names e =
-      let m = one e in
-      (omega (arith, h.field.within), rw (byte (omega arith)) at (first all_named e).1)
-
-  pub rooting-on : {q : ℕ} → Rooted q (after_field list r tag b) → Rooting list roots (b + n) q
+  pub rooting-on : {q : ℕ} → Rooted q (after_field r f) → Rooting list roots (b + n) q
   unfolding roots_in bodies those set_roots after_field with_root with_root_bit root_missing
   rooting-on {q} k =
       record {
@@ -137,13 +129,11 @@ module _ {list : List ℕ} {roots at r : ℕ} (p : Rooting list roots at r) {tag
         named = all_tail all_named;
       }
     where
-      passed : set_roots (roots_in (fields (drop at list))) r ≡ set_roots (roots_in (fields (drop (b + n) list))) (after_field list r tag b)
-      passed = ap (λ (fs : List Field). set_roots (roots_in fs) r) h.field.here ∙ go (eqb tag 70) refl
+      passed : set_roots (roots_in (fields (drop at list))) r ≡ set_roots (roots_in (fields (drop (b + n) list))) (after_field r f)
+      passed = ap (λ (fs : List Field). set_roots (roots_in fs) r) h.here ∙ go (eqb tag 70) refl
         where
           go : (t : Bool) → eqb tag 70 ≡ t
-              → set_roots (roots_in (field_at list tag b n ∷ fields (drop (b + n) list))) r
-              ≡ set_roots (roots_in (fields (drop (b + n) list))) (cond t (with_root r (get_or list b 0)) r)
-          go true e =
-              let m = one (eqb-true tag 70 e) in
-              rw (e, byte (omega arith))
+              → set_roots (roots_in (f ∷ fields (drop (b + n) list))) r
+              ≡ set_roots (roots_in (fields (drop (b + n) list))) (cond t (with_root r (le 1 f.body)) r)
+          go true e = rw e
           go false e = rw e

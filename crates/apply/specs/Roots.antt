@@ -1,5 +1,5 @@
 -- FORMAT.md, "Apply": 70 sets the bit of a root, and the rest of field 1 is kept.
-use Rattle.std.specs.Prelude.{◌≡◌, Bool, true, ◌||◌, cond, ℕ, ◌+◌, ◌/◌, ◌%◌, ◌^◌, ◌<◌, List, map, length, get_or, eqb}
+use Rattle.std.specs.Prelude.{◌≡◌, Bool, true, ◌||◌, cond, ℕ, ◌+◌, ◌/◌, ◌%◌, ◌^◌, ◌<◌, List, map, length, eqb}
 use Rattle.wire.specs.Numbers.{le}
 use Rattle.wire.specs.Fields.{Field, fields}
 use Rattle.wire.specs.Encode.{encode_field}
@@ -25,12 +25,12 @@ roots_in fs = map (le 1) (bodies 70 fs)
 abbrev pub roots_after : List ℕ → ℕ → ℕ
 roots_after list roots = set_roots (roots_in (fields list)) roots
 
--- a field 70 whose body starts at a place names a root
-abbrev pub NamesRoot : List ℕ → ℕ → ℕ → Type 0
-NamesRoot s tag start = tag ≡ 70 → (start < length s) × (is_root (get_or s start 0) ≡ true)
+-- a field 70 has one byte, which names a root
+abbrev pub NamesRoot : Field → Type 0
+NamesRoot f = f.tag ≡ 70 → (length f.body ≡ 1) × (is_root (le 1 f.body) ≡ true)
 
-unfoldable pub after_field : List ℕ → ℕ → ℕ → ℕ → ℕ
-after_field s roots tag start = cond (eqb tag 70) (with_root roots (get_or s start 0)) roots
+unfoldable pub after_field : ℕ → Field → ℕ
+after_field roots f = cond (eqb f.tag 70) (with_root roots (le 1 f.body)) roots
 
 -- root bits, the rest 0
 pub record Rooted (r is : ℕ) : Type 0 where

@@ -3,11 +3,13 @@ ghost use Rattle.std.specs.Prelude.{◌≡◌, true, ◌<◌};
 ghost use Rattle.wire.specs.Output.{with_bytes};
 ghost use Rattle.calls.specs.ChangeList.{change_laid_out};
 ghost use Rattle.reader.specs.Heads.{head_in};
+ghost use Rattle.wire.specs.FieldsFound.{field_in};
 ghost use Rattle.apply.specs.Roots.{with_root, is_root, roots_after, NamesRoot, Rooted, after_field, front_bytes};
 
 use reader::head;
 use reader::head::Head;
-use wire::fields::Fields;
+use wire::fields::{Field, Fields};
+use wire::le;
 use wire::output::Output;
 
 // The bit of a root set. The layout of the change list shows the id, that of the volume the bits.
@@ -23,12 +25,12 @@ fn set_root(roots: u8, id: u8) -> u8
 }
 
 // What one field of a change list makes of the root bits. The layout of the change list shows what a field 70 holds.
-fn after_field(list: &[u8], roots: u8, tag: u8, start: usize) -> u8
-    requires { (roots < 8) × NamesRoot list.now tag start }
-    ensures { Rooted result (after_field list.now roots tag start) }
+fn after_field(roots: u8, field: Field) -> u8
+    requires { (roots < 8) × NamesRoot (field_in field) }
+    ensures { Rooted result (after_field roots (field_in field.entry)) }
 {
-    if tag == 70 {
-        set_root(roots, list[start])
+    if field.tag == 70 {
+        set_root(roots, le::le8(field.body, 0))
     } else {
         roots
     }
@@ -41,7 +43,7 @@ pub fn roots_after(list: &[u8], roots: u8) -> u8
 {
     let mut r = roots;
     for field in Fields::of(list) {
-        r = after_field(list, r, field.tag, field.start);
+        r = after_field(r, field);
     }
     r
 }

@@ -118,26 +118,20 @@ fields-ok s h =
     all_join (λ f p q. both p q) (test-all (shaped change_shapes) fs b.0) (test-all field_ok fs c.0)
 
 module _ (t : ℕ) (b : List ℕ) (h : change_field_ok (record { tag = t; body = b }) ≡ true) where
-  fits : 0 + length b ≤ length b
-  fits = omega arith
-
-  here : change_field_ok (field_at b t 0 (length b)) ≡ true
-  here = rw take-length h
-
   pub root-size : t ≡ 70 → length b ≡ 1
   unfolding root_ok
   root-size e =
-      let k = rw take-length at (sym (change-root b t 0 (length b) fits e) ∙ here) in
+      let k = sym (change-root t b e) ∙ h in
       eqb-true (length b) 1 (parts (eqb (length b) 1) _ k).0
 
   pub bucket-size : (t ≡ 71) ⊎ (t ≡ 75) → length b ≡ 4
-  bucket-size e = eqb-true (length b) 4 (sym (change-bucket b t 0 (length b) fits e) ∙ here)
+  bucket-size e = eqb-true (length b) 4 (sym (change-bucket t b e) ∙ h)
 
   pub placed-size : t ≡ 72 → length b ≡ 15
-  placed-size e = eqb-true (length b) 15 (sym (change-72 b t 0 (length b) fits e) ∙ here)
+  placed-size e = eqb-true (length b) 15 (sym (change-72 t b e) ∙ h)
 
   pub row-size : t ≡ 73 → (length b ≡ 24) ⊎ (length b ≡ 40)
-  row-size e = go (eqb (length b) 24) (eqb (length b) 40) refl refl (sym (change-row b t 0 (length b) fits e) ∙ here)
+  row-size e = go (eqb (length b) 24) (eqb (length b) 40) refl refl (sym (change-row t b e) ∙ h)
     where
       go : (p q : Bool) → eqb (length b) 24 ≡ p → eqb (length b) 40 ≡ q → (p || q) ≡ true → (length b ≡ 24) ⊎ (length b ≡ 40)
       go true q x y z = inl (eqb-true (length b) 24 x)
@@ -145,13 +139,13 @@ module _ (t : ℕ) (b : List ℕ) (h : change_field_ok (record { tag = t; body =
       go false false x y z = absurd (clash z refl)
 
   pub sectors-size : t ≡ 74 → length b ≡ 8
-  sectors-size e = eqb-true (length b) 8 (sym (change-74 b t 0 (length b) fits e) ∙ here)
+  sectors-size e = eqb-true (length b) 8 (sym (change-74 t b e) ∙ h)
 
   -- a tag that is none of these, nor 76, is a tree's
   pub key-size : (t ≡ 70 → ⊥) → (t ≡ 71 → ⊥) → (t ≡ 72 → ⊥) → (t ≡ 73 → ⊥) → (t ≡ 74 → ⊥) → (t ≡ 75 → ⊥) → (t ≡ 76 → ⊥) → (t ≤ 14) × (37 ≤ length b)
   unfolding key_ok key_sized
   key-size n70 n71 n72 n73 n74 n75 n76 =
-      ⊎_elim (λ (e : t ≡ 0). (omega arith, leb-true 37 (length b) (parts (leb 37 (length b)) _ (sym (change-extent b t 0 (length b) fits e) ∙ here)).0))
+      ⊎_elim (λ (e : t ≡ 0). (omega arith, leb-true 37 (length b) (parts (leb 37 (length b)) _ (sym (change-extent t b e) ∙ h)).0))
       (λ n0.
       ⊎_elim (λ (e : t ≡ 4). sized (inl e) (omega arith))
       (λ n4.
@@ -165,11 +159,11 @@ module _ (t : ℕ) (b : List ℕ) (h : change_field_ok (record { tag = t; body =
     where
       sized : KeyTag t → t ≤ 14 → (t ≤ 14) × (37 ≤ length b)
       sized k m =
-          let e = rw take-length at (sym (change-key b t 0 (length b) fits k) ∙ here) in
+          let e = sym (change-key t b k) ∙ h in
           (m, leb-true 37 (length b) (parts (leb 37 (length b)) _ (parts _ _ e).0).0)
 
       other : (t ≡ 0 → ⊥) → (t ≡ 4 → ⊥) → (10 ≤ t → t < 15 → ⊥) → ⊥
-      other n0 n4 keys = clash here (change-none b t 0 (length b) fits n0 n4 keys n70 n71 n75 n72 n73 n74 n76)
+      other n0 n4 keys = clash h (change-none t b n0 n4 keys n70 n71 n75 n72 n73 n74 n76)
 
 -- the loop over a change list: what is put, and what is left are the lines of the fields from place `at` on
 pub record LinesLeft (s : List ℕ) (o : Output) (at : ℕ) (p : Output) : Type 0 where
@@ -180,18 +174,15 @@ pub left-all : (s : List ℕ) (o : Output) → change_laid_out s ≡ true → Li
 left-all s o h = record { shapes = fields-ok s h; left = refl }
 
 module _ {s : List ℕ} {o p : Output} {at t b n : ℕ} (l : LinesLeft s o at p) (f : FieldAt s at t b n) where
-  same-body : record { tag = t; body = take (b + n - b) (drop b s) } ≡ field_at s t b n
-  same-body = let e : b + n - b ≡ n = omega arith in rw e
-
   here-ok : All (λ f. change_field_ok f ≡ true) (field_at s t b n ∷ fields (drop (b + n) s))
   here-ok = rw f.here at l.shapes
 
   -- the field may stand in a change list
-  pub field-here : change_field_ok (record { tag = t; body = take (b + n - b) (drop b s) }) ≡ true
-  field-here = ap change_field_ok same-body ∙ first here-ok
+  pub field-here : change_field_ok (field_at s t b n) ≡ true
+  field-here = first here-ok
 
   pub left-more :
-      (r : Output) → r ≡ with_bytes p (line (field_words (record { tag = t; body = take (b + n - b) (drop b s) })))
+      (r : Output) → r ≡ with_bytes p (line (field_words (field_at s t b n)))
       → LinesLeft s o (b + n) r
   unfolding change_lines each
   left-more r w =
@@ -199,7 +190,7 @@ module _ {s : List ℕ} {o p : Output} {at t b n : ℕ} (l : LinesLeft s o at p)
       ap (each (λ (f : Field). line (field_words f))) f.here in
       record {
         shapes = all_tail here-ok;
-        left = rw (w, same-body, with-with) (ap (with_bytes p) (sym a) ∙ l.left);
+        left = rw (w, with-with) (ap (with_bytes p) (sym a) ∙ l.left);
       }
 
 pub left-none : {s : List ℕ} {o p : Output} {at : ℕ} → LinesLeft s o at p → fields (drop at s) ≡ [] → p ≡ with_bytes o (change_lines s)

@@ -33,7 +33,6 @@ pub fn put_lines(out: &mut Output, change: &[u8])
     ensures { out.new ≡ with_bytes out.old (change_lines change.now) }
 {
     for field in Fields::of(change) {
-        let end = field.start + field.len;
-        put_line(out, field.tag, &change[field.start..end]);
+        put_line(out, field.tag, field.body);
     }
 }

@@ -3,6 +3,7 @@ use Prim.Native.Nat.{ℕ, ◌+◌, ◌≤◌}
 use mathlib.Core.Path.{◌≡◌, refl, sym, ◌∙◌, ap}
 use mathlib.Core.List.{List, []}
 use lib.ListN.{length, take, drop}
+use lib.Seq.{take_all}
 use lib.Dec.{eqb}
 use borrow.Author.Tests.{eq-eqb, ne_eqb}
 use mathlib.Core.Bool.{Bool, false, ◌&&◌, ◌||◌}
@@ -81,23 +82,20 @@ module _ (s : List ℕ) where
       unfolding le
       call-empty e z = sym (call-here e ∙ ap (λ (m : ℕ). le 1 (take m (drop b s))) z)
 
-      pub call-first : t ≡ 1 → (n ≡ 0 → ⊥) → le 1 (drop b s) ≡ call_byte s
-      call-first e z = sym (call-here e ∙ le-take 1 n (drop b s) (some z))
-        where
-          some : (n ≡ 0 → ⊥) → 1 ≤ n
-          some z = omega arith
+      pub call-first : t ≡ 1 → le 1 (take n (drop b s)) ≡ call_byte s
+      call-first e = sym (call-here e)
 
 -- field 1, by its length and its head
-module _ (s : List ℕ) (call : ℕ) (any : Bool) (start len : ℕ) (fits : start + len ≤ length s) where
-  pub head-missized : (len ≡ 39 → ⊥) → head_field_ok call any (take len (drop start s)) ≡ false
+module _ (call : ℕ) (any : Bool) (body : List ℕ) where
+  pub head-missized : (length body ≡ 39 → ⊥) → head_field_ok call any body ≡ false
   unfolding head_field_ok
-  head-missized n = simp (body-length s start len fits, ne_eqb len 39 n)
+  head-missized n = simp (ne_eqb (length body) 39 n)
 
-  pub head-told : (h : Head) → len ≡ 39 → h ≡ head_of (take 39 (drop start s))
-      → head_field_ok call any (take len (drop start s)) ≡ (head_ok h && (any || eqb h.call call))
+  pub head-told :
+      (h : Head) → length body ≡ 39 → h ≡ head_of (take 39 body) → head_field_ok call any body ≡ (head_ok h && (any || eqb h.call call))
   unfolding head_field_ok
   head-told h e k =
-      let g : head_of (take len (drop start s)) ≡ h = ap (λ (m : ℕ). head_of (take m (drop start s))) e ∙ sym k in
-      simp (body-length s start len fits, eq-eqb len 39 e, g)
+      let g : head_of body ≡ h = ap head_of (sym (take_all 39 body (omega arith))) ∙ sym k in
+      simp (eq-eqb (length body) 39 e, g)
 
 pub ruleset head_cases = (head-missized, head-told)

@@ -2,9 +2,8 @@
 use Prim.Native.Nat.{ℕ, ◌+◌, ◌≤◌, ◌<◌}
 use mathlib.Core.Path.{◌≡◌, refl, sym}
 use mathlib.Core.List.{List}
-use mathlib.Core.Bool.{true, false, not, ◌&&◌, ◌||◌}
+use mathlib.Core.Bool.{Bool, true, false, not, ◌&&◌, ◌||◌}
 use lib.ListN.{drop}
-use lib.Seq.{drop-drop}
 use lib.Dec.{eqb}
 use borrow.Author.Tests.{le-leb, lt-leb, lt-ltb, le-ltb, eq-eqb, ne_eqb}
 use native.Mathlib.Omega.{arith}
@@ -15,7 +14,7 @@ use Rattle.wire.specs.Kinds.{bucket_read, bucket_below, bucket_in_range, run_end
 use Rattle.wire.specs.Positions.{bucket_in}
 use Rattle.wire.specs.declared.bpos.Bpos.{Bpos}
 use Rattle.wire.specs.declared.kinds.Bucket.{Bucket}
-use Rattle.reader.specs.CallFields.{field_from, least_of, ascends, follows, alloc_within, run_within, waiting_within, field_within}
+use Rattle.reader.specs.CallFields.{least_of, ascends, follows, alloc_within, run_within, waiting_within, field_within}
 
 -- what a tag asks of a body's length
 pub least-key : (t : ℕ) → t ≤ 14 → least_of t ≡ 37
@@ -25,46 +24,49 @@ pub least-reserved : (t : ℕ) → t ≡ 64 → least_of t ≡ 4
 least-reserved t e = rw e
 
 -- the tests of `ascends`
-module _ (s : List ℕ) (t before start : ℕ) where
+module _ (t : ℕ) (before body : List ℕ) where
   pub ascends-keys :
-      (p q : Bpos) → t ≤ 14 → p ≡ pos_of (drop (before + 17) s) → q ≡ pos_of (drop (start + 17) s)
-      → pos_less p q ≡ ascends t (drop before s) (drop start s)
+      (p q : Bpos) → t ≤ 14 → p ≡ pos_of (drop 17 before) → q ≡ pos_of (drop 17 body)
+      → pos_less p q ≡ ascends t before body
   unfolding ascends
-  ascends-keys p q h e f = rw (e, f, le-leb t 14 h, ← drop-drop 17 before s, ← drop-drop 17 start s)
+  ascends-keys p q h e f = rw (e, f, le-leb t 14 h)
 
   pub ascends-buckets :
-      (a b : Bucket) → t ≡ 64 → a ≡ bucket_read (drop before s) → b ≡ bucket_read (drop start s)
-      → bucket_below a b ≡ ascends t (drop before s) (drop start s)
+      (a b : Bucket) → t ≡ 64 → a ≡ bucket_read before → b ≡ bucket_read body
+      → bucket_below a b ≡ ascends t before body
   unfolding ascends
   ascends-buckets a b h e f = rw (e, f, h)
 
-  pub ascends-others : 14 < t → (t ≡ 64 → ⊥) → true ≡ ascends t (drop before s) (drop start s)
+  pub ascends-others : 14 < t → (t ≡ 64 → ⊥) → true ≡ ascends t before body
   unfolding ascends
   ascends-others h n = simp (lt-leb t 14 h, ne_eqb t 64 n)
 
 -- the tests of `follows`
-module _ (s : List ℕ) (last before t start : ℕ) where
-  pub follows-more : last < t → follows (field_from s last before) (field_from s t start) ≡ true
+module _ (last : ℕ) (before : List ℕ) (t : ℕ) (body : List ℕ) where
+  abbrev fields_follow : Bool
+  fields_follow = follows (record { tag = last; body = before }) (record { tag = t; body = body })
+
+  pub follows-more : last < t → fields_follow ≡ true
   unfolding follows
   follows-more h = simp (lt-ltb last t h)
 
-  pub follows-less : t < last → follows (field_from s last before) (field_from s t start) ≡ false
+  pub follows-less : t < last → fields_follow ≡ false
   unfolding follows
   follows-less h = simp (le-ltb last t (omega arith), ne_eqb last t (λ e. omega arith))
 
   pub follows_same :
-      last ≡ t → follows (field_from s last before) (field_from s t start) ≡ ascends t (drop before s) (drop start s)
+      last ≡ t → fields_follow ≡ ascends t before body
   unfolding follows
   follows_same e = rw e (simp (le-ltb t t (omega arith), eq-eqb t t refl))
 
 -- the limits of a key, by its position and its type
-module _ (s : List ℕ) (start : ℕ) where
+module _ (body : List ℕ) where
   abbrev key : Key
-  key = key_of (drop start s)
+  key = key_of body
 
-  module _ (p : Bpos) (e : p ≡ pos_of (drop (start + 17) s)) where
+  module _ (p : Bpos) (e : p ≡ pos_of (drop 17 body)) where
     pos-here : key.pos ≡ p
-    pos-here = rw (e, ← drop-drop 17 start s)
+    pos-here = sym e
 
     pub alloc-other : (p.inode ≡ 0 → ⊥) → true ≡ alloc_within key
     alloc-other h = by-pos key.pos pos-here
@@ -78,7 +80,7 @@ module _ (s : List ℕ) (start : ℕ) where
         by-pos : (q : Bpos) → q ≡ p → bucket_in_range (bucket_in p) ≡ (not (eqb q.inode 0) || bucket_in_range (bucket_in q))
         by-pos q z = rw z (simp (eq-eqb p.inode 0 h))
 
-    pub run-away : (k : ℕ) → k ≡ le 1 (drop start s) → k ≡ 25 → (p.inode ≡ 0 → ⊥) → true ≡ run_within key
+    pub run-away : (k : ℕ) → k ≡ le 1 body → k ≡ 25 → (p.inode ≡ 0 → ⊥) → true ≡ run_within key
     run-away k f g h = by-pos key.pos key.type pos-here (sym f)
       where
         by-pos :
@@ -87,7 +89,7 @@ module _ (s : List ℕ) (start : ℕ) where
         by-pos q x z y = rw (z, y) (simp (eq-eqb k 25 g, ne_eqb p.inode 0 h))
 
     pub run-here :
-        (k : ℕ) → k ≡ le 1 (drop start s) → k ≡ 25 → p.inode ≡ 0 → run_end_in_range (bucket_in p) ≡ run_within key
+        (k : ℕ) → k ≡ le 1 body → k ≡ 25 → p.inode ≡ 0 → run_end_in_range (bucket_in p) ≡ run_within key
     run-here k f g h = by-pos key.pos key.type pos-here (sym f)
       where
         by-pos :
@@ -95,14 +97,14 @@ module _ (s : List ℕ) (start : ℕ) where
             → run_end_in_range (bucket_in p) ≡ (not (eqb x 25 && eqb q.inode 0) || run_end_in_range (bucket_in q))
         by-pos q x z y = rw (z, y) (simp (eq-eqb k 25 g, eq-eqb p.inode 0 h))
 
-    pub waiting-here : (k : ℕ) → k ≡ le 1 (drop start s) → k ≡ 25 → bucket_in_range (bucket_in p) ≡ waiting_within key
+    pub waiting-here : (k : ℕ) → k ≡ le 1 body → k ≡ 25 → bucket_in_range (bucket_in p) ≡ waiting_within key
     waiting-here k f g = by-pos key.pos key.type pos-here (sym f)
       where
         by-pos :
             (q : Bpos) (x : ℕ) → q ≡ p → x ≡ k → bucket_in_range (bucket_in p) ≡ (not (eqb x 25) || bucket_in_range (bucket_in q))
         by-pos q x z y = rw (z, y) (simp (eq-eqb k 25 g))
 
-  module _ (k : ℕ) (e : k ≡ le 1 (drop start s)) (n : k ≡ 25 → ⊥) where
+  module _ (k : ℕ) (e : k ≡ le 1 body) (n : k ≡ 25 → ⊥) where
     pub run-other : true ≡ run_within key
     run-other = by-type key.type key.pos (sym e)
       where
@@ -116,24 +118,24 @@ module _ (s : List ℕ) (start : ℕ) where
         by-type x q z = rw z (simp (ne_eqb k 25 n))
 
   module _ (t : ℕ) where
-    pub within-alloc : t ≡ 4 → field_within (field_from s t start) ≡ alloc_within (key_of (drop start s))
+    pub within-alloc : t ≡ 4 → field_within (record { tag = t; body = body }) ≡ alloc_within (key_of body)
     unfolding field_within
     within-alloc e = rw e
 
-    pub within-run : t ≡ 11 → field_within (field_from s t start) ≡ run_within (key_of (drop start s))
+    pub within-run : t ≡ 11 → field_within (record { tag = t; body = body }) ≡ run_within (key_of body)
     unfolding field_within
     within-run e = rw e
 
-    pub within-waiting : t ≡ 12 → field_within (field_from s t start) ≡ waiting_within (key_of (drop start s))
+    pub within-waiting : t ≡ 12 → field_within (record { tag = t; body = body }) ≡ waiting_within (key_of body)
     unfolding field_within
     within-waiting e = rw e
 
-    pub within-reserved : t ≡ 64 → field_within (field_from s t start) ≡ bucket_in_range (bucket_read (drop start s))
+    pub within-reserved : t ≡ 64 → field_within (record { tag = t; body = body }) ≡ bucket_in_range (bucket_read body)
     unfolding field_within
     within-reserved e = rw e
 
     pub within-others :
-        (t ≡ 4 → ⊥) → (t ≡ 11 → ⊥) → (t ≡ 12 → ⊥) → (t ≡ 64 → ⊥) → field_within (field_from s t start) ≡ true
+        (t ≡ 4 → ⊥) → (t ≡ 11 → ⊥) → (t ≡ 12 → ⊥) → (t ≡ 64 → ⊥) → field_within (record { tag = t; body = body }) ≡ true
     unfolding field_within
     within-others a b d e = simp (ne_eqb t 4 a, ne_eqb t 11 b, ne_eqb t 12 d, ne_eqb t 64 e)
 

@@ -70,44 +70,14 @@ key-tag t l m =
     last : (t ≡ 10 → ⊥) → (t ≡ 11 → ⊥) → (t ≡ 12 → ⊥) → (t ≡ 13 → ⊥) → t ≡ 14
     last a b d e = omega arith
 
-pub sized-least : (len : ℕ) → (leb 37 len && leb len 293) ≡ true → 37 ≤ len
-sized-least len h = leb-true 37 len (and_left _ _ h)
+pub sized_least : (len : ℕ) → (leb 37 len && leb len 293) ≡ true → 37 ≤ len
+sized_least len h = leb-true 37 len (and_left _ _ h)
 
-module _ (s : List ℕ) (start len : ℕ) (fits : start + len ≤ length s) where
-  pub key-missized : (leb 37 len && leb len 293) ≡ false → key_ok (take len (drop start s)) ≡ false
-  unfolding key_ok key_sized
-  key-missized h = simp (body-length s start len fits, h)
-
-  pub key-sized :
-      (leb 37 len && leb len 293) ≡ true → 37 ≤ len → key_ok (take len (drop start s)) ≡ eqb (pos_of (drop (start + 17) s)).snapshot 0
-  unfolding key_ok key_sized
-  key-sized h l =
-      let e : eqb (key_of (take len (drop start s))).pos.snapshot 0 ≡ eqb (pos_of (drop (start + 17) s)).snapshot 0 =
-      ap (λ (p : Bpos). eqb p.snapshot 0) (pos-at s start len l) in
-      simp (body-length s start len fits, h) e
-
-  pub root-missized : (len ≡ 1 → ⊥) → root_ok (take len (drop start s)) ≡ false
-  unfolding root_ok
-  root-missized h = simp (body-length s start len fits, ne_eqb len 1 h)
-
-  pub root-sized :
-      len ≡ 1
-      → root_ok (take len (drop start s))
-      ≡ (eqb (le 1 (drop start s)) 10 || (eqb (le 1 (drop start s)) 12 || eqb (le 1 (drop start s)) 14))
-  unfolding root_ok root_listed
-  root-sized h = simp (body-length s start len fits, eq-eqb len 1 h, le-take 1 len (drop start s) (omega arith))
-
--- a key's body, by its length and its snapshot
-pub ruleset key_cases = (key-missized, key-sized, sized-least)
-
--- a root's body, by its length and its byte
-pub ruleset root_cases = (root-missized, root-sized)
-
-module _ (s : List ℕ) (t start len : ℕ) (fits : start + len ≤ length s) where
+module _ (t : ℕ) (body : List ℕ) where
   abbrev here : Field
-  here = field_at s t start len
+  here = record { tag = t; body = body }
 
-  pub change-key : KeyTag t → change_field_ok here ≡ key_ok (take len (drop start s))
+  pub change-key : KeyTag t → change_field_ok here ≡ key_ok body
   unfolding change_field_ok shaped change_shapes field_ok key_ok key_sized
   change-key (inl e) = simp (e, or-false)
   change-key (inr (inl e)) = simp (e, or-false)
@@ -116,34 +86,34 @@ module _ (s : List ℕ) (t start len : ℕ) (fits : start + len ≤ length s) wh
   change-key (inr (inr (inr (inr (inl e))))) = simp (e, or-false)
   change-key (inr (inr (inr (inr (inr e))))) = simp (e, or-false)
 
-  pub change-extent : t ≡ 0 → change_field_ok here ≡ (leb 37 len && leb len 293)
+  pub change-extent : t ≡ 0 → change_field_ok here ≡ (leb 37 (length body) && leb (length body) 293)
   unfolding change_field_ok shaped change_shapes field_ok
-  change-extent e = simp (e, body-length s start len fits, or-false, and-true)
+  change-extent e = simp (e, or-false, and-true)
 
-  pub change-root : t ≡ 70 → change_field_ok here ≡ root_ok (take len (drop start s))
+  pub change-root : t ≡ 70 → change_field_ok here ≡ root_ok body
   unfolding change_field_ok shaped change_shapes field_ok root_ok
-  change-root e = simp (e, body-length s start len fits, or-false, exact-is 1 len)
+  change-root e = simp (e, or-false, exact-is 1 (length body))
 
-  pub change-row : t ≡ 73 → change_field_ok here ≡ (eqb len 24 || eqb len 40)
+  pub change-row : t ≡ 73 → change_field_ok here ≡ (eqb (length body) 24 || eqb (length body) 40)
   unfolding change_field_ok shaped change_shapes field_ok
-  change-row e = simp (e, body-length s start len fits, or-false, and-true, exact-is 24 len, exact-is 40 len)
+  change-row e = simp (e, or-false, and-true, exact-is 24 (length body), exact-is 40 (length body))
 
-  pub change-72 : t ≡ 72 → change_field_ok here ≡ eqb len 15
+  pub change-72 : t ≡ 72 → change_field_ok here ≡ eqb (length body) 15
   unfolding change_field_ok shaped change_shapes field_ok
-  change-72 e = simp (e, body-length s start len fits, or-false, and-true, exact-is 15 len)
+  change-72 e = simp (e, or-false, and-true, exact-is 15 (length body))
 
-  pub change-74 : t ≡ 74 → change_field_ok here ≡ eqb len 8
+  pub change-74 : t ≡ 74 → change_field_ok here ≡ eqb (length body) 8
   unfolding change_field_ok shaped change_shapes field_ok
-  change-74 e = simp (e, body-length s start len fits, or-false, and-true, exact-is 8 len)
+  change-74 e = simp (e, or-false, and-true, exact-is 8 (length body))
 
-  pub change-76 : t ≡ 76 → change_field_ok here ≡ eqb len 0
+  pub change-76 : t ≡ 76 → change_field_ok here ≡ eqb (length body) 0
   unfolding change_field_ok shaped change_shapes field_ok
-  change-76 e = simp (e, body-length s start len fits, or-false, and-true, exact-is 0 len)
+  change-76 e = simp (e, or-false, and-true, exact-is 0 (length body))
 
-  pub change-bucket : (t ≡ 71) ⊎ (t ≡ 75) → change_field_ok here ≡ eqb len 4
+  pub change-bucket : (t ≡ 71) ⊎ (t ≡ 75) → change_field_ok here ≡ eqb (length body) 4
   unfolding change_field_ok shaped change_shapes field_ok
-  change-bucket (inl e) = simp (e, body-length s start len fits, or-false, and-true, exact-is 4 len)
-  change-bucket (inr e) = simp (e, body-length s start len fits, or-false, and-true, exact-is 4 len)
+  change-bucket (inl e) = simp (e, or-false, and-true, exact-is 4 (length body))
+  change-bucket (inr e) = simp (e, or-false, and-true, exact-is 4 (length body))
 
   pub change-none :
       (t ≡ 0 → ⊥) → (t ≡ 4 → ⊥) → (10 ≤ t → t < 15 → ⊥) → (t ≡ 70 → ⊥) → (t ≡ 71 → ⊥) → (t ≡ 75 → ⊥) → (t ≡ 72 → ⊥) → (t ≡ 73 → ⊥)
@@ -210,38 +180,37 @@ requests-freed call f e = go (eqb call 1) (eqb call 2) (λ h. ne_eqb call 2 (λ 
     go false true k = simp (e, or-false, exact-is 10 (length f.body))
     go false false k = refl
 
-module _ (s : List ℕ) (call t start len : ℕ) (fits : start + len ≤ length s) where
+module _ (call t : ℕ) (body : List ℕ) where
   abbrev field : Field
-  field = field_at s t start len
+  field = record { tag = t; body = body }
 
-  pub call-key : KeyTag t → call_field_ok call field ≡ key_ok (take len (drop start s))
+  pub call-key : KeyTag t → call_field_ok call field ≡ key_ok body
   unfolding call_field_ok shaped rest_shapes field_ok key_ok key_sized volume_shapes
-  call-key (inl e) = rw e (simp (requests-other call (field_at s 4 start len) (λ z. omega arith) (λ z. omega arith), or-false))
-  call-key (inr (inl e)) = rw e (simp (requests-other call (field_at s 10 start len) (λ z. omega arith) (λ z. omega arith), or-false))
-  call-key (inr (inr (inl e))) = rw e (simp (requests-other call (field_at s 11 start len) (λ z. omega arith) (λ z. omega arith), or-false))
-  call-key (inr (inr (inr (inl e)))) = rw e (simp (requests-other call (field_at s 12 start len) (λ z. omega arith) (λ z. omega arith), or-false))
-  call-key (inr (inr (inr (inr (inl e))))) = rw e (simp (requests-other call (field_at s 13 start len) (λ z. omega arith) (λ z. omega arith), or-false))
-  call-key (inr (inr (inr (inr (inr e))))) = rw e (simp (requests-other call (field_at s 14 start len) (λ z. omega arith) (λ z. omega arith), or-false))
+  call-key (inl e) = rw e (simp (requests-other call (record { tag = 4; body = body }) (λ z. omega arith) (λ z. omega arith), or-false))
+  call-key (inr (inl e)) = rw e (simp (requests-other call (record { tag = 10; body = body }) (λ z. omega arith) (λ z. omega arith), or-false))
+  call-key (inr (inr (inl e))) = rw e (simp (requests-other call (record { tag = 11; body = body }) (λ z. omega arith) (λ z. omega arith), or-false))
+  call-key (inr (inr (inr (inl e)))) = rw e (simp (requests-other call (record { tag = 12; body = body }) (λ z. omega arith) (λ z. omega arith), or-false))
+  call-key (inr (inr (inr (inr (inl e))))) = rw e (simp (requests-other call (record { tag = 13; body = body }) (λ z. omega arith) (λ z. omega arith), or-false))
+  call-key (inr (inr (inr (inr (inr e))))) = rw e (simp (requests-other call (record { tag = 14; body = body }) (λ z. omega arith) (λ z. omega arith), or-false))
 
-  pub call-reserved : t ≡ 64 → call_field_ok call field ≡ eqb len 4
+  pub call-reserved : t ≡ 64 → call_field_ok call field ≡ eqb (length body) 4
   unfolding call_field_ok shaped rest_shapes field_ok volume_shapes
   call-reserved e =
       rw e
       (simp (
-        requests-other call (field_at s 64 start len) (λ z. omega arith) (λ z. omega arith),
-        body-length s start len fits,
+        requests-other call (record { tag = 64; body = body }) (λ z. omega arith) (λ z. omega arith),
         or-false,
         and-true,
-        exact-is 4 len,
+        exact-is 4 (length body),
       ))
 
-  pub call-piece : t ≡ 65 → call_field_ok call field ≡ (eqb call 1 && eqb len 13)
+  pub call-piece : t ≡ 65 → call_field_ok call field ≡ (eqb call 1 && eqb (length body) 13)
   unfolding call_field_ok shaped rest_shapes field_ok volume_shapes
-  call-piece e = rw e (simp (requests-piece call (field_at s 65 start len) refl, body-length s start len fits, and-true))
+  call-piece e = rw e (simp (requests-piece call (record { tag = 65; body = body }) refl, and-true))
 
-  pub call-freed : t ≡ 66 → call_field_ok call field ≡ (eqb call 2 && eqb len 10)
+  pub call-freed : t ≡ 66 → call_field_ok call field ≡ (eqb call 2 && eqb (length body) 10)
   unfolding call_field_ok shaped rest_shapes field_ok volume_shapes
-  call-freed e = rw e (simp (requests-freed call (field_at s 66 start len) refl, body-length s start len fits, and-true))
+  call-freed e = rw e (simp (requests-freed call (record { tag = 66; body = body }) refl, and-true))
 
   pub call_none :
       (t ≡ 4 → ⊥) → (10 ≤ t → t < 15 → ⊥) → (t ≡ 64 → ⊥) → (t ≡ 65 → ⊥) → (t ≡ 66 → ⊥) → call_field_ok call field ≡ false

@@ -19,7 +19,6 @@ use Rattle.reader.specs.CallFields.{any_field_ok, others, follows, ascends, head
 use Rattle.reader.specs.Table.{most_of, rank_end, Fits, sorted_bodies, Indexed, Ended, ends_in, request_bodies, request_tag, Tabled}
 use Rattle.reader.specs.Readings.{laid_as}
 use Rattle.reader.specs.Surveyed.{Counted, LaidFound, Surveyed, OrderSurveyed}
-use Rattle.wire.specs.declared.fields.FieldPlace.{FieldPlace}
 use Rattle.reader.specs.declared.table.PlaceTable.{PlaceTable}
 use Rattle.reader.specs.declared.survey.Laid.{Laid}
 use Rattle.std.proofs.Common.{Option, Some, None}
@@ -43,7 +42,7 @@ field_of t (b ∷ bs) zero h = refl
 field_of t (b ∷ bs) (suc i) h = field_of t bs i (omega arith)
 
 module _
-    (s : List ℕ) (call : ℕ) (any : Bool) (at : ℕ) (head : Option ℕ) (last : FieldPlace) (over : Bool) (table : PlaceTable)
+    (s : List ℕ) (call : ℕ) (any : Bool) (at : ℕ) (head : Option ℕ) (last : Field) (over : Bool) (table : PlaceTable)
     (g : Going s call any at head last over table) (e : length s ≤ at) where
   abbrev fs : List Field
   fs = others (fields s)
@@ -91,9 +90,9 @@ module _
     module _ (h : last.tag ≡ 255 → ⊥) where
       all-ordered : in_order follows fs ≡ true
       unfolding in_order fields_after
-      all-ordered = sym (rw (nothing_left, others-none, append-nil (last_field s last)) at (g.order h)) ∙ alone (eqb last.tag 1)
+      all-ordered = sym (rw (nothing_left, others-none, append-nil (last_field last)) at (g.order h)) ∙ alone (eqb last.tag 1)
         where
-          alone : (q : Bool) → in_order follows (cond q [] (field_at s last.tag last.start last.len ∷ [])) ≡ true
+          alone : (q : Bool) → in_order follows (cond q [] (last ∷ [])) ≡ true
           alone true = refl
           alone false = refl
 

@@ -11,7 +11,6 @@ use lib.Dec.{eqb}
 use borrow.Author.Tests.{ne_eqb, eqb-true, lt-ltb, le-ltb}
 use native.Mathlib.Omega.{arith}
 use Rattle.wire.specs.Fields.{Field, fields, field_at, step_of, whole, found}
-use Rattle.wire.specs.declared.fields.FieldPlace.{FieldPlace}
 use Rattle.wire.proofs.NumberLaws.{body-length}
 use Rattle.wire.proofs.FieldLaws.{FieldAt, field-at, FieldsWalked, walked_none, walked_more, whole-stop}
 use Rattle.calls.specs.Lists.{all_of, in_order}
@@ -19,7 +18,7 @@ use Rattle.calls.specs.CallList.{bodies, shaped}
 use Rattle.calls.specs.Limits.{list_within}
 use Rattle.calls.specs.Answers.{read_call}
 use Rattle.calls.proofs.encoding.Blocks.{field}
-use Rattle.reader.specs.CallFields.{rest_shapes, call_field_ok, head_field_ok, any_field_ok, others, field_from, least_of, follows, field_within}
+use Rattle.reader.specs.CallFields.{rest_shapes, call_field_ok, head_field_ok, any_field_ok, others, least_of, follows, field_within}
 use Rattle.reader.specs.Table.{rank_of, most_of, Fits, Free, Unfilled, room, FieldNoted}
 use Rattle.reader.specs.Readings.{laid_as}
 use Rattle.reader.specs.declared.table.PlaceTable.{PlaceTable}
@@ -31,7 +30,7 @@ use Rattle.reader.proofs.LayoutLaws.{any_head, any-beside, list-laid}
 use Rattle.reader.proofs.BesideLaws.{others-head, others-more, beside-bodies, others-within}
 use Rattle.reader.proofs.FieldRankLaws.{in_rank, AllListed, rank-listed, rank_below}
 use Rattle.reader.proofs.LimitLaws.{within-parts, fields_within, few-at}
-use Rattle.reader.proofs.PlaceLaws.{within-cut, follows-cut, listed-least, listed-most, here-at}
+use Rattle.reader.proofs.PlaceLaws.{listed-least, listed-most, here-at}
 use Rattle.reader.proofs.TableLaws.{room-true, room-false}
 use Rattle.reader.proofs.NotingLaws.{Noting, noting-none, noting-head, noting-more, place-fits, table-free, rank-full, field-over}
 
@@ -60,24 +59,24 @@ none-passed None h = refl
 none-passed (Some b) h = apart h
 
 -- the last field that was passed beside field 1
-abbrev pub last_field : List ℕ → FieldPlace → List Field
-last_field s last = cond (eqb last.tag 1) [] (field_at s last.tag last.start last.len ∷ [])
+abbrev pub last_field : Field → List Field
+last_field last = cond (eqb last.tag 1) [] (last ∷ [])
 
 -- the pass at a place of the list: the last field that was passed has the tag 1 where none beside field 1 was, and 255 where they are not in order
-pub record Going (s : List ℕ) (call : ℕ) (any : Bool) (at : ℕ) (head : Option ℕ) (last : FieldPlace) (over : Bool) (table : PlaceTable) : Type 0 where
+pub record Going (s : List ℕ) (call : ℕ) (any : Bool) (at : ℕ) (head : Option ℕ) (last : Field) (over : Bool) (table : PlaceTable) : Type 0 where
   pub walked : FieldsWalked s at
   pub heads : head_bodies s head ++ bodies 1 (fields (drop at s)) ≡ bodies 1 (fields s)
   pub inside : (b : ℕ) → head ≡ Some b → b + 39 ≤ length s
   pub fine : all_of (any_field_ok call any) (fields (drop at s)) ≡ all_of (any_field_ok call any) (fields s)
-  pub kept : (last.tag ≡ 1) ⊎ ((last.start + last.len ≤ length s) × (least_of last.tag ≤ last.len))
-  pub order : (last.tag ≡ 255 → ⊥) → in_order follows (last_field s last ++ others (fields (drop at s))) ≡ in_order follows (others (fields s))
+  pub kept : (last.tag ≡ 1) ⊎ (least_of last.tag ≤ length last.body)
+  pub order : (last.tag ≡ 255 → ⊥) → in_order follows (last_field last ++ others (fields (drop at s))) ≡ in_order follows (others (fields s))
   pub width : length table.counts ≡ 8
   pub fits : Fits s table.index.now
   pub many : 3 * table.n ≤ at
   pub limits : Limits s call at (head_size head) table.n table.counts table.index.now over
 
 pub going_start :
-    (s : List ℕ) (call : ℕ) (any : Bool) (last : FieldPlace) (table : PlaceTable) → last.tag ≡ 1 → Fits s table.index.now → Unfilled table
+    (s : List ℕ) (call : ℕ) (any : Bool) (last : Field) (table : PlaceTable) → last.tag ≡ 1 → Fits s table.index.now → Unfilled table
     → Going s call any 0 None last false table
 going_start s call any last table t z e =
     record {
@@ -112,7 +111,7 @@ module _ (s : List ℕ) (call : ℕ) (any : Bool) where
   miscounted n = list-laid s call any ∙ simp (ne_eqb (length (bodies 1 (fields s))) 1 n, and-false)
 
 module _
-    (s : List ℕ) (call : ℕ) (any : Bool) (at : ℕ) (head : Option ℕ) (last : FieldPlace) (over : Bool) (table : PlaceTable)
+    (s : List ℕ) (call : ℕ) (any : Bool) (at : ℕ) (head : Option ℕ) (last : Field) (over : Bool) (table : PlaceTable)
     (g : Going s call any at head last over table) where
   pub breaks : step_of at (drop at s) ≡ None → eqb at (length s) ≡ false → laid_as call any s ≡ false
   breaks e h = cut s call any (whole-stop s at g.walked e ∙ h)
@@ -176,7 +175,7 @@ module _
                   omega (arith, f.within, head-long);
               fine = passed-fine (any_head call any (field_at s t b n) e ∙ ok);
               kept = g.kept;
-              order = λ o. ap (λ (fs : List Field). in_order follows (last_field s last ++ fs)) (sym others_same) ∙ g.order o;
+              order = λ o. ap (λ (fs : List Field). in_order follows (last_field last ++ fs)) (sym others_same) ∙ g.order o;
               width = g.width;
               fits = g.fits;
               many = omega (arith, g.many, f.on);
@@ -192,16 +191,14 @@ module _
       next-listed : FieldListed call t n
       next-listed = ok-listed s call t b n f.within ok
 
-      pub next-within : b + least_of t ≤ length s
-      next-within = omega (arith, f.within, listed-least next-listed)
+      pub next-within : least_of t ≤ n
+      next-within = listed-least next-listed
 
       pub next-below : t ≡ 255 → ⊥
       next-below e = omega (arith, listed_below next-listed)
 
-      pub last_within : last.tag ≡ t → last.start + least_of t ≤ length s
-      last_within e =
-          ⊎_elim (λ z. absurd (omega (arith, listed_above next-listed)))
-          (λ k. rw (← e) (omega (arith, k.0, k.1))) g.kept
+      pub last_within : last.tag ≡ t → least_of t ≤ length last.body
+      last_within e = ⊎_elim (λ z. absurd (omega (arith, listed_above next-listed))) (λ k. rw (← e) k) g.kept
 
       -- the order of the fields, with the one that comes
       comes-beside : others (fields (drop at s)) ≡ field_at s t b n ∷ others (fields (drop (b + n) s))
@@ -209,27 +206,24 @@ module _
           ap others f.here ∙ others-more (field_at s t b n) (fields (drop (b + n) s)) (λ e. omega (arith, listed_above next-listed))
 
       abbrev ordered_on : List Field → Bool
-      ordered_on rest = follows (field_from s last.tag last.start) (field_from s t b) && in_order follows (field_at s t b n ∷ rest)
+      ordered_on rest = follows last (field_at s t b n) && in_order follows (field_at s t b n ∷ rest)
 
       -- it is the first of them, or stands after another
-      order-first : last.tag ≡ 1 → (rest : List Field) → ordered_on rest ≡ in_order follows (last_field s last ++ (field_at s t b n ∷ rest))
+      order-first : last.tag ≡ 1 → (rest : List Field) → ordered_on rest ≡ in_order follows (last_field last ++ (field_at s t b n ∷ rest))
       unfolding follows
       order-first z rest = rw (z, lt-ltb 1 t (omega (arith, listed_above next-listed)))
 
-      order-later : (last.tag ≡ 1 → ⊥) → least_of last.tag ≤ last.len → (rest : List Field)
-          → ordered_on rest ≡ in_order follows (last_field s last ++ (field_at s t b n ∷ rest))
+      order-later : (last.tag ≡ 1 → ⊥) → (rest : List Field)
+          → ordered_on rest ≡ in_order follows (last_field last ++ (field_at s t b n ∷ rest))
       unfolding in_order
-      order-later z l rest =
-          rw (ne_eqb last.tag 1 z)
-          (ap (λ (x : Bool). x && in_order follows (field_at s t b n ∷ rest))
-          (sym (follows-cut s last.tag last.start last.len t b n l (listed-least next-listed))))
+      order-later z rest = rw (ne_eqb last.tag 1 z) refl
 
       order-here : (last.tag ≡ 255 → ⊥) → ordered_on (others (fields (drop (b + n) s))) ≡ in_order follows (others (fields s))
       order-here o =
           ⊎_elim (λ z. order-first z (others (fields (drop (b + n) s))))
-          (λ z. order-later z (⊎_elim (λ k. absurd (z k)) (λ k. k.1) g.kept) (others (fields (drop (b + n) s))))
+          (λ z. order-later z (others (fields (drop (b + n) s))))
           (same_or last.tag 1)
-          ∙ ap (λ (fs : List Field). in_order follows (last_field s last ++ fs)) (sym comes-beside)
+          ∙ ap (λ (fs : List Field). in_order follows (last_field last ++ fs)) (sym comes-beside)
           ∙ g.order o
 
 -- a limit that is passed
@@ -258,16 +252,16 @@ set-length true xs i v = refl
 set-length false xs i v = length-set xs i v
 
 pub passed_length :
-    {s : List ℕ} {over : Bool} {f : FieldPlace} {before after : PlaceTable} {r : Bool} → FieldNoted s over f before after r
+    {over : Bool} {f : Field} {b : ℕ} {before after : PlaceTable} {r : Bool} → FieldNoted over f b before after r
     → length after.index.now ≡ length before.index.now
-passed_length {f = f} {before = before} {r = r} p = ap length p.placed ∙ set-length r before.index.now before.n f.start
+passed_length {b = b} {before = before} {r = r} p = ap length p.placed ∙ set-length r before.index.now before.n b
 
 at-most-one : (r : Bool) (n : ℕ) → cond r n (n + 1) ≤ n + 1
 at-most-one true n = omega arith
 at-most-one false n = omega arith
 
 module _
-    (s : List ℕ) (call : ℕ) (any : Bool) (at : ℕ) (head : Option ℕ) (last : FieldPlace) (over : Bool) (table : PlaceTable)
+    (s : List ℕ) (call : ℕ) (any : Bool) (at : ℕ) (head : Option ℕ) (last : Field) (over : Bool) (table : PlaceTable)
     (g : Going s call any at head last over table) (t b n : ℕ) (e : step_of at (drop at s) ≡ found t b n)
     (ok : call_field_ok call (field_at s t b n) ≡ true) where
   f : FieldAt s at t b n
@@ -281,9 +275,6 @@ module _
 
   abbrev h : ℕ
   h = head_size head
-
-  here-within : (q : Bool) → q ≡ field_within (field_from s t b) → field_within (field_at s t b n) ≡ q
-  here-within q h = within-cut s b n t (listed-least l) ∙ sym h
 
   -- an entry for it, where it is noted
   entry_free : (o : Bool) → o ≡ false → Limits s call at h table.n table.counts table.index.now o → Free table (rank_of t)
@@ -299,7 +290,7 @@ module _
   next-free z = entry_free over z g.limits
 
   limits-next :
-      (o p q : Bool) → p ≡ field_within (field_from s t b) → q ≡ room table.counts (rank_of t) b
+      (o p q : Bool) → p ≡ field_within (field_at s t b n) → q ≡ room table.counts (rank_of t) b
       → Limits s call at h table.n table.counts table.index.now o
       → Limits s call (b + n) h (cond (o || (not p || not q)) table.n (table.n + 1))
       (cond (o || (not p || not q)) table.counts (set table.counts (rank_of t) (get_or table.counts (rank_of t) 0 + 1)))
@@ -309,7 +300,7 @@ module _
   limits-next false false q hp hq w =
       λ r.
       over-field s call
-      (field-over s (others (fields s)) at h table.n table.counts table.index.now g.width w t b n f beside (here-within false hp))
+      (field-over s (others (fields s)) at h table.n table.counts table.index.now g.width w t b n f beside (sym hp))
   limits-next false true false hp hq w =
       λ r.
       over-rank s call t n l r
@@ -319,10 +310,10 @@ module _
   limits-next false true true hp hq w =
       noting-more s (others (fields s)) at h table.n table.counts table.index.now g.width w t b n f beside
       (entry_free false refl w (room-true table.counts (rank_of t) b hq)) (here-at s at t b n e f)
-      (listed-most l) (here-within true hp) (room-true table.counts (rank_of t) b hq)
+      (listed-most l) (sym hp) (room-true table.counts (rank_of t) b hq)
 
   -- none stands in order after 255
-  last_some : follows (field_from s last.tag last.start) (field_from s t b) ≡ true → last.tag ≡ 255 → ⊥
+  last_some : follows last (field_at s t b n) ≡ true → last.tag ≡ 255 → ⊥
   unfolding follows
   last_some z e =
       apart (sym z ∙ rw (e, le-ltb 255 t (omega (arith, listed_below l)), ne_eqb 255 t (λ y. omega (arith, listed_below l))))
@@ -331,8 +322,8 @@ module _
   abbrev next_tag : Bool → ℕ
   next_tag q = cond q t 255
 
-  passed-order : (q : Bool) → follows (field_from s last.tag last.start) (field_from s t b) ≡ q → (next_tag q ≡ 255 → ⊥)
-      → in_order follows (last_field s (record { tag = next_tag q; start = b; len = n }) ++ others (fields (drop (b + n) s))) ≡ in_order follows (others (fields s))
+  passed-order : (q : Bool) → follows last (field_at s t b n) ≡ q → (next_tag q ≡ 255 → ⊥)
+      → in_order follows (last_field (record { tag = next_tag q; body = take n (drop b s) }) ++ others (fields (drop (b + n) s))) ≡ in_order follows (others (fields s))
   passed-order false z k = absurd (k refl)
   passed-order true z k =
       rw (ne_eqb t 1 (λ y. omega (arith, listed_above l)))
@@ -343,10 +334,10 @@ module _
   least-next false = omega arith
 
   pub goes_on :
-      (after : PlaceTable) (r : Bool) (tag : ℕ) → tag ≡ cond (follows (field_from s last.tag last.start) (field_from s t b)) t 255
-      → FieldNoted s over (record { tag = t; start = b; len = n }) table after r → Going s call any (b + n) head (record { tag = tag; start = b; len = n }) r after
+      (after : PlaceTable) (r : Bool) (tag : ℕ) → tag ≡ cond (follows last (field_at s t b n)) t 255
+      → FieldNoted over (field_at s t b n) b table after r → Going s call any (b + n) head (record { tag = tag; body = take n (drop b s) }) r after
   goes_on after r tag z p =
-      let q = follows (field_from s last.tag last.start) (field_from s t b) in
+      let q = follows last (field_at s t b n) in
       record {
         walked = walked_more s at g.walked t b n f;
         heads =
@@ -357,7 +348,7 @@ module _
         fine =
             passed-fine s call any at head last over table g t b n f
             (any-beside call any (field_at s t b n) beside ∙ ok);
-        kept = inr (f.within, rw z (least-next q));
+        kept = inr (rw (z, body-length s b n f.within) (least-next q));
         order = rw z (passed-order q refl);
         width = ap length p.counted ∙ set-length r table.counts (rank_of t) _ ∙ g.width;
         fits =
@@ -366,11 +357,11 @@ module _
         many = omega (arith, g.many, f.on, p.number, at-most-one r table.n);
         limits =
             rw (p.counted, p.placed, p.number, p.answer)
-            (limits-next over (field_within (field_from s t b)) (room table.counts (rank_of t) b) refl refl g.limits);
+            (limits-next over (field_within (field_at s t b n)) (room table.counts (rank_of t) b) refl refl g.limits);
       }
 
   -- where it follows the last
   pub goes_after :
-      (after : PlaceTable) (r : Bool) → follows (field_from s last.tag last.start) (field_from s t b) ≡ true
-      → FieldNoted s over (record { tag = t; start = b; len = n }) table after r → Going s call any (b + n) head (record { tag = t; start = b; len = n }) r after
+      (after : PlaceTable) (r : Bool) → follows last (field_at s t b n) ≡ true
+      → FieldNoted over (field_at s t b n) b table after r → Going s call any (b + n) head (field_at s t b n) r after
   goes_after after r z p = goes_on after r t (sym (rw z)) p

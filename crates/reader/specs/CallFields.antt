@@ -29,10 +29,6 @@ any_field_ok call any f = cond (eqb f.tag 1) (head_field_ok call any f.body) (ca
 unfoldable pub others : List Field → List Field
 others fs = those (λ f. not (eqb f.tag 1)) fs
 
--- the field with tag t whose body starts at place b of s, with all that stands after it
-abbrev pub field_from : List ℕ → ℕ → ℕ → Field
-field_from s t b = record { tag = t; body = drop b s }
-
 -- the bytes that the tests below read of a body
 abbrev pub least_of : ℕ → ℕ
 least_of t = cond (leb t 14) 37 (cond (eqb t 64) 4 0)

@@ -1,9 +1,10 @@
 -- What one pass over a list finds: that it breaks the layout; or where field 1 stands, whether a limit is passed, and whether its fields are in order.
-use Rattle.std.specs.Prelude.{Option, Some, None, ℕ, ◌+◌, ◌≤◌, ◌≡◌, Bool, true, false, List, ◌∷◌, length, take, drop}
+use Rattle.std.specs.Prelude.{Option, Some, None, ℕ, ◌+◌, ◌≤◌, ◌≡◌, Bool, true, false, List, length, take, drop}
 use Rattle.calls.specs.CallList.{head_of, none_twice}
 use Rattle.calls.specs.Limits.{list_within}
 use Rattle.calls.specs.Answers.{read_call, read_volume}
-use Rattle.wire.specs.Fields.{fields, field_at}
+use Rattle.wire.specs.FieldsFound.{FieldFound}
+use Rattle.wire.specs.declared.fields.Field as code
 use Rattle.reader.specs.CallFields.{head_within, head_field_ok}
 use Rattle.reader.specs.Table.{rank_end, ends_in, Fits, Indexed, Ended}
 use Rattle.reader.specs.Readings.{laid_as}
@@ -27,16 +28,15 @@ pub record LaidFound (call : ℕ) (any : Bool) (s index : List ℕ) (p : Laid) :
   pub once : p.ordered ≡ true → none_twice (read_volume s) ≡ true
   pub table : p.ordered ≡ true → p.over ≡ false → Indexed call s index (ends_in p.counts)
 
--- a field 1 of this call, or of any, stands first, with its body at b
-pub record HeadAt (call : ℕ) (any : Bool) (s : List ℕ) (b : ℕ) : Type 0 where
-  pub here : fields s ≡ field_at s 1 b 39 ∷ fields (drop (b + 39) s)
-  pub within : b + 39 ≤ length s
-  pub on : b ≡ 3
-  pub ok : head_field_ok call any (take 39 (drop b s)) ≡ true
+-- a field 1 of this call, or of any, stands first
+pub record HeadAt (call : ℕ) (any : Bool) (s : List ℕ) (f : code.Field) : Type 0 where
+  pub tag : f.tag ≡ 1
+  pub found : FieldFound s 0 f
+  pub ok : head_field_ok call any f.body.now ≡ true
 
--- so it does where that place is answered; none tells nothing of the list
-abbrev pub HeadFirst : ℕ → Bool → List ℕ → Option ℕ → Type 0
-HeadFirst call any s r = (b : ℕ) → r ≡ Some b → HeadAt call any s b
+-- so does the field that is answered; none tells nothing of the list
+abbrev pub HeadFirst : ℕ → Bool → List ℕ → Option code.Field → Type 0
+HeadFirst call any s r = (f : code.Field) → r ≡ Some f → HeadAt call any s f
 
 -- none where the list breaks the layout, else what is found
 pub record Surveyed (call : ℕ) (any : Bool) (s index : List ℕ) (r : Option Laid) : Type 0 where

@@ -1,20 +1,19 @@
 // The layout of a change list.
-ghost use Rattle.std.specs.Prelude.{◌≡◌, ◌||◌, ◌+◌, ◌≤◌, eqb, length, take, drop};
-ghost use Rattle.wire.specs.Fields.{field_at};
+ghost use Rattle.std.specs.Prelude.{◌≡◌, ◌||◌, eqb};
+ghost use Rattle.wire.specs.FieldsFound.{field_in};
 ghost use Rattle.calls.specs.ChangeList.{change_laid_out};
 ghost use Rattle.reader.specs.Bodies.{root_ok, change_field_ok, tag_after};
 
 use crate::keys;
-use wire::fields::{FieldPlace, Fields};
+use wire::fields::{Field, Fields};
 use wire::{keys as wire_keys, le};
 
-// Whether a field's body names a root: 10, 12 or 14. Its length shows the bound, here and below.
-#[tactic(auto, using(crate::proofs::ShapeLaws::root_cases))]
-fn root_ok(s: &[u8], field: FieldPlace) -> bool
-    requires { field.start + field.len ≤ length s.now }
-    ensures { result ≡ root_ok (take field.len (drop field.start s.now)) }
+// Whether a field's body names a root: 10, 12 or 14.
+#[tactic(auto, unfolding(crate::specs::Bodies::root_ok, calls::specs::ChangeList::root_listed))]
+fn root_ok(body: &[u8]) -> bool
+    ensures { result ≡ root_ok body.now }
 {
-    field.len == 1 && matches!(le::le8(s, field.start), 10 | 12 | 14)
+    body.len() == 1 && matches!(le::le8(body, 0), 10 | 12 | 14)
 }
 
 // Whether a row has one number or three.
@@ -26,19 +25,19 @@ fn row_sized(len: usize) -> bool
 
 // Whether a field may stand in a change list.
 #[tactic(auto, using(crate::proofs::ShapeLaws::change_cases))]
-fn field_ok(s: &[u8], field: FieldPlace) -> bool
-    requires { field.start + field.len ≤ length s.now }
-    ensures { result ≡ change_field_ok (field_at s.now field.tag field.start field.len) }
+fn change_field_ok(field: Field) -> bool
+    ensures { result ≡ change_field_ok (field_in field.entry) }
 {
+    let len = field.body.len();
     match field.tag {
-        0 => wire_keys::key_sized(field.len),
-        4 | 10..=14 => keys::key_ok(s, field),
-        70 => root_ok(s, field),
-        71 | 75 => field.len == 4,
-        72 => field.len == 15,
-        73 => row_sized(field.len),
-        74 => field.len == 8,
-        76 => field.len == 0,
+        0 => wire_keys::key_sized(len),
+        4 | 10..=14 => keys::key_ok(field.body),
+        70 => root_ok(field.body),
+        71 | 75 => len == 4,
+        72 => len == 15,
+        73 => row_sized(len),
+        74 => len == 8,
+        76 => len == 0,
         _ => false,
     }
 }
@@ -58,7 +57,7 @@ pub fn check_change(s: &[u8]) -> bool
     let mut fields = Fields::of(s);
     let mut last: u8 = 76;
     while let Some(field) = fields.next() {
-        if !field_ok(s, field) || !tag_after(last, field.tag) {
+        if !change_field_ok(field) || !tag_after(last, field.tag) {
             return false;
         }
         last = field.tag;

@@ -31,10 +31,10 @@ pub fn call_byte(s: &[u8]) -> u8
 {
     for field in Fields::of(s) {
         if field.tag == 1 {
-            return if field.len == 0 {
+            return if field.body.is_empty() {
                 0
             } else {
-                le::le8(s, field.start)
+                le::le8(field.body, 0)
             };
         }
     }

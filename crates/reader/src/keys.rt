@@ -1,15 +1,13 @@
-// A key's body in a list: its length and its snapshot.
-ghost use Rattle.std.specs.Prelude.{◌≡◌, ◌+◌, ◌≤◌, length, take, drop};
+// A key's body: its length and its snapshot.
+ghost use Rattle.std.specs.Prelude.{◌≡◌};
 ghost use Rattle.reader.specs.Bodies.{key_ok};
 
-use wire::fields::FieldPlace;
 use wire::keys;
 
-// Whether a field's body is a key's with the snapshot 0. Its length shows the bound.
-#[tactic(auto, using(crate::proofs::ShapeLaws::key_cases))]
-pub fn key_ok(s: &[u8], field: FieldPlace) -> bool
-    requires { field.start + field.len ≤ length s.now }
-    ensures { result ≡ key_ok (take field.len (drop field.start s.now)) }
+// Whether a field's body is a key's with the snapshot 0.
+#[tactic(auto, using(crate::proofs::ShapeLaws::sized_least), unfolding(crate::specs::Bodies::key_ok, wire::specs::Keys::key_sized))]
+pub fn key_ok(body: &[u8]) -> bool
+    ensures { result ≡ key_ok body.now }
 {
-    keys::key_sized(field.len) && keys::pos_at(s, field.start).snapshot == 0
+    keys::key_sized(body.len()) && keys::pos_at(body, 0).snapshot == 0
 }

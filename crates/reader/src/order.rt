@@ -1,47 +1,46 @@
 // The fields beside field 1: each by itself, and in order after the one before it.
-ghost use Rattle.std.specs.Prelude.{◌≡◌, ◌+◌, ◌≤◌, unwrap_or, length, drop};
-ghost use Rattle.wire.specs.Fields.{field_at};
-ghost use Rattle.reader.specs.CallFields.{call_field_ok, field_from, least_of};
+ghost use Rattle.std.specs.Prelude.{◌≡◌, ◌≤◌, unwrap_or, length};
+ghost use Rattle.wire.specs.FieldsFound.{field_in};
+ghost use Rattle.reader.specs.CallFields.{call_field_ok, least_of};
 ghost use Rattle.reader.specs.CallFields as specs;
 
 use crate::keys;
-use wire::fields::FieldPlace;
+use wire::fields::Field;
 use wire::{bpos, keys as wire_keys, kinds};
 
-// Whether a field beside field 1 may stand in a list of the call that is asked for; without one no request may. Its length shows the bound.
+// Whether a field beside field 1 may stand in a list of the call that is asked for; without one no request may.
 #[tactic(auto, using(crate::proofs::ShapeLaws::call_cases))]
-pub fn field_ok(s: &[u8], asked: Option<u8>, field: FieldPlace) -> bool
-    requires { field.start + field.len ≤ length s.now }
-    ensures { result ≡ call_field_ok (unwrap_or asked 0) (field_at s.now field.tag field.start field.len) }
+pub fn call_field_ok(asked: Option<u8>, field: Field) -> bool
+    ensures { result ≡ call_field_ok (unwrap_or asked 0) (field_in field.entry) }
 {
+    let len = field.body.len();
     match field.tag {
-        4 | 10..=14 => keys::key_ok(s, field),
-        64 => field.len == 4,
-        65 => matches!(asked, Some(1)) && field.len == 13,
-        66 => matches!(asked, Some(2)) && field.len == 10,
+        4 | 10..=14 => keys::key_ok(field.body),
+        64 => len == 4,
+        65 => matches!(asked, Some(1)) && len == 13,
+        66 => matches!(asked, Some(2)) && len == 10,
         _ => false,
     }
 }
 
 // Whether two bodies of a tag, side by side, ascend. The length that the tag asks shows the bounds.
 #[tactic(auto, using(crate::proofs::OrderingLaws::ascends_cases))]
-fn ascends(s: &[u8], tag: u8, before: usize, start: usize) -> bool
-    requires { (before + least_of tag ≤ length s.now) × (start + least_of tag ≤ length s.now) }
-    ensures { result ≡ specs.ascends tag (drop before s.now) (drop start s.now) }
+fn ascends(tag: u8, before: &[u8], body: &[u8]) -> bool
+    requires { (least_of tag ≤ length before.now) × (least_of tag ≤ length body.now) }
+    ensures { result ≡ specs.ascends tag before.now body.now }
 {
     match tag {
-        0..=14 => bpos::pos_less(wire_keys::pos_at(s, before), wire_keys::pos_at(s, start)),
-        64 => kinds::bucket_below(kinds::read_bucket(s, before), kinds::read_bucket(s, start)),
+        0..=14 => bpos::pos_less(wire_keys::pos_at(before, 0), wire_keys::pos_at(body, 0)),
+        64 => kinds::bucket_below(kinds::read_bucket(before, 0), kinds::read_bucket(body, 0)),
         _ => true,
     }
 }
 
-// Whether a field stands in order after another. Its length, and that of a field before with its tag, show the bounds.
+// Whether a field stands in order after another. The length that its tag asks, of both where they have one tag, shows the bounds.
 #[tactic(auto, using(crate::proofs::OrderingLaws::follows_cases))]
-pub fn follows(s: &[u8], last: FieldPlace, field: FieldPlace) -> bool
-    requires { (last.tag ≡ field.tag → last.start + least_of field.tag ≤ length s.now) × (field.start + least_of field.tag ≤ length s.now) }
-    ensures { result ≡ specs.follows (field_from s.now last.tag last.start) (field_from s.now field.tag field.start) }
+pub fn follows(last: Field, field: Field) -> bool
+    requires { (last.tag ≡ field.tag → least_of field.tag ≤ length last.body.now) × (least_of field.tag ≤ length field.body.now) }
+    ensures { result ≡ specs.follows (field_in last.entry) (field_in field.entry) }
 {
-    last.tag < field.tag
-        || (last.tag == field.tag && ascends(s, field.tag, last.start, field.start))
+    last.tag < field.tag || (last.tag == field.tag && ascends(field.tag, last.body, field.body))
 }

@@ -1,12 +1,13 @@
 // One pass over a call list or a volume: its layout, its limits, whether its fields are in order, and where they stand.
-ghost use Rattle.std.specs.Prelude.{◌≡◌, false, ◌+◌, ◌≤◌, unwrap_or, is_none, length, take, drop};
+ghost use Rattle.std.specs.Prelude.{◌≡◌, false, ◌≤◌, unwrap_or, is_none, length};
+ghost use Rattle.wire.specs.FieldsFound.{field_in};
 ghost use Rattle.reader.specs.CallFields.{head_field_ok, least_of};
 ghost use Rattle.reader.specs.Table.{rank_of, Free, FieldNoted, Fits};
 ghost use Rattle.reader.specs.Surveyed.{HeadFirst, Surveyed, OrderSurveyed};
 
 use crate::table::PlaceTable;
 use crate::{head, limits, order, table};
-use wire::fields::{FieldPlace, Fields};
+use wire::fields::{Field, Fields};
 
 // What the pass finds of a list that keeps the layout.
 #[derive(Clone, Copy, Drop)]
@@ -21,37 +22,36 @@ pub struct Laid {
     pub counts: [usize; 8],
 }
 
-// Whether a field 1 is one of the call that is asked for, or of any where none is. Its length shows the bound.
+// Whether the body of a field 1 is one of the call that is asked for, or of any where none is.
 #[tactic(auto, using(crate::proofs::HeadLaws::head_cases))]
-fn head_field_ok(s: &[u8], asked: Option<u8>, field: FieldPlace) -> bool
-    requires { field.start + field.len ≤ length s.now }
-    ensures { result ≡ head_field_ok (unwrap_or asked 0) (is_none asked) (take field.len (drop field.start s.now)) }
+fn head_field_ok(asked: Option<u8>, body: &[u8]) -> bool
+    ensures { result ≡ head_field_ok (unwrap_or asked 0) (is_none asked) body.now }
 {
-    if field.len != 39 {
+    if body.len() != 39 {
         return false;
     }
-    let first = head::read_head(s, field.start);
+    let first = head::read_head(body, 0);
     head::head_ok(first) && asked.unwrap_or(first.call) == first.call
 }
 
-// Where the body of such a field 1 starts, if one stands first.
-fn head_first(s: &[u8], asked: Option<u8>) -> Option<usize>
+// Such a field 1, if one stands first.
+fn head_first(s: &[u8], asked: Option<u8>) -> Option<Field>
     ensures { HeadFirst (unwrap_or asked 0) (is_none asked) s.now result }
 {
     let field = Fields::of(s).next()?;
-    if field.tag == 1 && head_field_ok(s, asked, field) {
-        Some(field.start)
+    if field.tag == 1 && head_field_ok(asked, field.body) {
+        Some(field)
     } else {
         None
     }
 }
 
 // Whether a limit is passed, now or before: else the field's place is noted. The length that its tag asks shows the bound.
-fn passes(s: &[u8], over: bool, field: FieldPlace, table: &mut PlaceTable) -> bool
-    requires { (field.start + least_of field.tag ≤ length s.now) × (over ≡ false → Free table.old (rank_of field.tag)) }
-    ensures { FieldNoted s.now over field table.old table.new result }
+fn passes(over: bool, field: Field, table: &mut PlaceTable) -> bool
+    requires { (least_of field.tag ≤ length field.body.now) × (over ≡ false → Free table.old (rank_of field.tag)) }
+    ensures { FieldNoted over (field_in field.entry) field.entry.start table.old table.new result }
 {
-    over || !limits::field_within(s, field) || !table.note(table::rank_of(field.tag), field.start)
+    over || !limits::field_within(field) || !table.note(table::rank_of(field.tag), field.start)
 }
 
 // The pass over a list in any order, of the call that is asked for, or of whatever call its head names: field 1 may stand anywhere, and no order is told; none where the list breaks the layout. The table that is lent shows the bound, and a field that passes the end breaks the layout, here and below.
@@ -64,10 +64,10 @@ fn survey_any(s: &[u8], asked: Option<u8>, index: &mut [u32]) -> Option<Laid>
     let mut over = false;
     let mut fields = Fields::of(s);
     while let Some(field) = fields.next() {
-        if order::field_ok(s, asked, field) {
-            over = passes(s, over, field, &mut table);
+        if order::call_field_ok(asked, field) {
+            over = passes(over, field, &mut table);
         } else {
-            if field.tag != 1 || head.is_some() || !head_field_ok(s, asked, field) {
+            if field.tag != 1 || head.is_some() || !head_field_ok(asked, field.body) {
                 return None;
             }
             head = Some(field.start);
@@ -92,24 +92,20 @@ fn survey_ordered(s: &[u8], asked: Option<u8>, index: &mut [u32]) -> Option<Laid
     let head = head_first(s, asked)?;
     let mut table = PlaceTable::new(index);
     let mut over = false;
-    let mut last = FieldPlace {
-        tag: 1,
-        start: head,
-        len: 39,
-    };
-    let mut fields = Fields::from_place(s, head + 39);
+    let mut last = head;
+    let mut fields = Fields::from_place(s, head.start + head.body.len());
     while let Some(field) = fields.next() {
-        if !order::field_ok(s, asked, field) || !order::follows(s, last, field) {
+        if !order::call_field_ok(asked, field) || !order::follows(last, field) {
             return None;
         }
-        over = passes(s, over, field, &mut table);
+        over = passes(over, field, &mut table);
         last = field;
     }
     if !fields.at_end() {
         return None;
     }
     Some(Laid {
-        head,
+        head: head.start,
         over,
         ordered: true,
         counts: table.counts,

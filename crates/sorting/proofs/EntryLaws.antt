@@ -12,8 +12,7 @@ use lib.Seq.{take-add, take_all, drop-drop}
 use borrow.Author.Tests.{eqb-true, leb-true, eq-eqb, ne_eqb}
 use Rattle.wire.specs.Bytes.{Bytes}
 use Rattle.wire.specs.Numbers.{le, le_bytes}
-use Rattle.wire.specs.declared.fields.FieldPlace.{FieldPlace}
-use Rattle.wire.specs.Fields.{Field, fields, field_at, step_of, found}
+use Rattle.wire.specs.Fields.{Field, FieldPlace, fields, field_at, step_of, found}
 use Rattle.wire.specs.Keys.{Key, pos_of}
 use Rattle.wire.specs.Encode.{head_bytes, encode_field}
 use Rattle.wire.specs.Kinds.{bucket_read}

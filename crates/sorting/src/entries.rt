@@ -4,7 +4,7 @@ ghost use Rattle.sorting.specs.Entries.{sections, is_bucket, is_entry};
 ghost use Rattle.sorting.specs.EntryPlaces.{EntryAt, entry_from};
 
 use wire::bpos::Bpos;
-use wire::fields::{FieldPlace, Fields};
+use wire::fields::{Field, Fields};
 use wire::{fields, keys, kinds, positions};
 
 // The section of the reserved buckets.
@@ -91,16 +91,16 @@ impl<'a> Iterator for Entries<'a> {
     ghost use Rattle.std.specs.Iterator.{at_most};
     ghost use Rattle.sorting.specs.EntrySteps.{EntryStepped};
 
-    type Item = FieldPlace;
+    type Item = Field<'a>;
 
     ghost next_gives = { λ before key after. EntryStepped before key after };
 
     ghost remaining = { λ left. at_most (length left.fields.list.now - left.fields.at) };
 
     // The next key, if one is left.
-    fn next(&mut self) -> Option<FieldPlace> {
+    fn next(&mut self) -> Option<Field<'a>> {
         while let Some(field) = self.fields.next() {
-            if is_entry(self.section, field.tag, field.len) {
+            if is_entry(self.section, field.tag, field.body.len()) {
                 return Some(field);
             }
         }

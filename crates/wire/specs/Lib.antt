@@ -4,8 +4,10 @@ pub mod Kinds
 pub mod Positions
 pub mod Order
 pub mod Fields
+pub mod FieldsFound
 pub mod FieldSteps
 pub mod TreeTags
+pub mod Tags
 pub mod KeyTypes
 pub mod Keys
 pub mod Held

@@ -1,4 +1,4 @@
-// Bytes and numbers, fields, kinds, positions, trees, types of keys, keys and rows: how each is read and how each is emitted.
+// Bytes and numbers, fields and their tags, kinds, positions, trees, types of keys, keys and rows: how each is read and how each is emitted.
 #![tactic(auto)]
 
 pub mod bpos;
@@ -10,4 +10,5 @@ pub mod le;
 pub mod output;
 pub mod positions;
 pub mod rows;
+pub mod tags;
 pub mod trees;

@@ -1,6 +1,8 @@
 -- One field more.
-use Rattle.wire.proofs.FieldStepLaws.{list-stays, none-here}
-use Rattle.sorting.proofs.EntryStepLaws.{step-here}
+use Rattle.std.proofs.Common.{sym, subst}
+use Rattle.wire.specs.Fields.{Field}
+use Rattle.wire.proofs.FieldStepLaws.{field-found, field-is, list-stays, none-here}
+use Rattle.apply.specs.Roots.{NamesRoot}
 use Rattle.apply.proofs.RootLaws.{rooting-start, rooting-end, rooting-names, rooting-on}
 use Rattle.apply.proofs.front.roots_after.Goals as goal
 
@@ -10,13 +12,16 @@ loop-field-init c =
     rw c.into_iter-field-iterator.ensures.into_iter_gives (o.0, rw o.1 (rooting-start _ _ c.requires.0 c.requires.1))
 
 pub after_field-r-requires : goal.after_field-r-requires
-after_field-r-requires c = let i = c.loop-field.invariant in (i.1.low, rooting-names i.1 (step-here i.0 c.in-Some.ensures.steps))
+after_field-r-requires c =
+    let w = c.in-Some.ensures.steps in
+    let i = c.loop-field.invariant in
+    (i.1.low, subst (λ (f : Field). NamesRoot f) (sym (field-is i.0 w)) (rooting-names i.1 (field-found i.0 w)))
 
 pub loop-field-preserved : goal.loop-field-preserved
 loop-field-preserved c =
     let w = c.in-Some.ensures.steps in
     let i = c.loop-field.invariant in
-    (list-stays i.0 w, rw w.at (rooting-on i.1 (step-here i.0 w) c.after_field-r.ensures))
+    (list-stays i.0 w, rw w.at (rooting-on i.1 (field-found i.0 w) (rw (field-is i.0 w) at c.after_field-r.ensures)))
 
 pub returns : goal.returns
 returns c = let i = c.loop-field.invariant in rooting-end i.1 (none-here i.0 c.in-None.ensures.steps)

@@ -1,5 +1,8 @@
-use Rattle.std.proofs.Common.{◌∙◌, refl, arith}
-use Rattle.wire.proofs.FieldStepLaws.{field-found, list-stays, none-here}
+use Rattle.std.proofs.Common.{sym, ◌∙◌, refl, ap}
+use borrow.Author.Tests.{eqb-true}
+use Rattle.wire.proofs.FieldStepLaws.{field-found, field-is, list-stays, none-here}
+use Rattle.wire.specs.Numbers.{le}
+use Rattle.wire.specs.Fields.{Field}
 use Rattle.reader.proofs.HeadLaws.{call_none, call-past, call-empty, call-first}
 use Rattle.reader.proofs.head.call_byte.Goals as goal
 
@@ -8,18 +11,17 @@ loop-field-init c =
     let o = c.of-field-items.ensures in
     rw c.into_iter-field-iterator.ensures.into_iter_gives (o.0, rw o.1 refl)
 
-pub le8-requires : goal.le8-requires
-le8-requires c = omega (arith, (field-found c.loop-field.invariant.0 c.in-Some.ensures.steps).within)
+pub returns-then-is_empty : goal.returns-then-is_empty
+returns-then-is_empty c =
+    let i = c.loop-field.invariant in
+    let f = field-found i.0 c.in-Some.ensures.steps in
+    call-empty _ _ i.1 _ _ _ f c.if-field-eq1.true (eqb-true _ 0 (sym c.is_empty.ensures ∙ c.if-is_empty.true))
 
-pub returns-then-field-eq0 : goal.returns-then-field-eq0
-returns-then-field-eq0 c =
-    let f = field-found c.loop-field.invariant.0 c.in-Some.ensures.steps in
-    call-empty _ _ c.loop-field.invariant.1 _ _ _ f c.if-field-eq1.true c.if-field-eq0.true
-
-pub returns-else-field-eq0 : goal.returns-else-field-eq0
-returns-else-field-eq0 c =
-    let f = field-found c.loop-field.invariant.0 c.in-Some.ensures.steps in
-    c.le8.ensures ∙ call-first _ _ c.loop-field.invariant.1 _ _ _ f c.if-field-eq1.true c.if-field-eq0.false
+pub returns-else-is_empty : goal.returns-else-is_empty
+returns-else-is_empty c =
+    let w = c.in-Some.ensures.steps in
+    let i = c.loop-field.invariant in
+    c.le8.ensures ∙ ap (λ (f : Field). le 1 f.body) (field-is i.0 w) ∙ call-first _ _ i.1 _ _ _ (field-found i.0 w) c.if-field-eq1.true
 
 pub loop-field-preserved : goal.loop-field-preserved
 loop-field-preserved c =

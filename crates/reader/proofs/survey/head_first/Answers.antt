@@ -1,16 +1,15 @@
-use Rattle.std.proofs.Common.{◌≡◌, ℕ, sym, ◌∙◌, subst}
+use Rattle.std.proofs.Common.{◌≡◌, sym, ◌∙◌, subst}
 use Rattle.std.specs.Prelude.{unwrap_or, is_none}
-use Rattle.wire.proofs.FieldStepLaws.{field-found}
+use Rattle.wire.specs.declared.fields.Field.{Field}
 use Rattle.reader.specs.Surveyed.{HeadAt}
-use Rattle.reader.proofs.SurveyStartLaws.{head-found}
 use Rattle.reader.proofs.survey.head_first.Goals as goal
 
-pub head_field_ok-requires : goal.head_field_ok-requires
-head_field_ok-requires c = (field-found c.of.ensures.0 c.in_ok-field.ensures.steps).within
-
 pub returns-then-head_field_ok : goal.returns-then-head_field_ok
-returns-then-head_field_ok c b e =
-    let f = rw c.of.ensures.1 at (field-found c.of.ensures.0 c.in_ok-field.ensures.steps) in
-    let z : c.in_ok-field.field.start ≡ b = cc in
-    subst (λ (k : ℕ). HeadAt (unwrap_or c.args.asked 0) (is_none c.args.asked) c.args.s.now k) z
-    (head-found _ _ _ _ _ _ f c.if-field-eq1.true (sym c.head_field_ok.ensures ∙ c.if-head_field_ok.true))
+returns-then-head_field_ok c f e =
+    let z : c.in_ok-field.field ≡ f = cc in
+    subst (λ (x : Field). HeadAt (unwrap_or c.args.asked 0) (is_none c.args.asked) c.args.s.now x) z
+    (record {
+      tag = c.if-field-eq1.true;
+      found = rw (c.of.ensures.0, c.of.ensures.1) at c.in_ok-field.ensures.steps.here;
+      ok = sym c.head_field_ok.ensures ∙ c.if-head_field_ok.true;
+    })

@@ -1,6 +1,8 @@
-use Rattle.std.proofs.Common.{sym, ◌∙◌, refl, false, rules}
+use Rattle.std.proofs.Common.{sym, ◌∙◌, refl, ap, false, rules}
 use Rattle.calls.proofs.lists.BoolLaws.{clash}
-use Rattle.wire.proofs.FieldStepLaws.{field-found, list-stays, steps-to, ended, to-the-end}
+use Rattle.wire.proofs.FieldStepLaws.{field-found, field-is, list-stays, steps-to, steps-nowhere, ended, to-the-end}
+use Rattle.wire.specs.Fields.{Field}
+use Rattle.reader.specs.CallFields.{call_field_ok, head_field_ok}
 use Rattle.reader.proofs.SurveyLaws.{breaks, second, bad-head, goes-head, bad-beside, next-within, next-free, goes_on}
 use Rattle.reader.proofs.SurveyStartLaws.{loosen, any-going}
 use Rattle.reader.proofs.SurveyEndLaws.{no-head, ends_found, broken-found, laid-found}
@@ -13,44 +15,39 @@ loop-field-init c =
     let t = c.new-table.ensures in
     (o.0, rw o.1 (any-going _ _ _ _ (rw t.same_entries c.requires) t.unfilled), refl)
 
-pub field_ok-requires : goal.field_ok-requires
-field_ok-requires c = (field-found c.loop-field.invariant.0 c.in-Some.ensures.steps).within
-
 pub passes-over-requires : goal.passes-over-requires
 passes-over-requires c =
     let w = c.in-Some.ensures.steps in
     let i = c.loop-field.invariant in
-    let ok = sym c.field_ok.ensures ∙ c.if-field_ok.true in (
+    let ok = ap (call_field_ok _) (sym (field-is i.0 w)) ∙ sym c.call_field_ok.ensures ∙ c.if-call_field_ok.true in (
       next-within _ _ _ _ _ _ _ _ i.1 _ _ _ (field-found i.0 w) ok,
       next-free _ _ _ _ _ _ _ _ i.1 _ _ _ (steps-to i.0 w) ok,
     )
 
-pub loop-field-preserved-then-field_ok : goal.loop-field-preserved-then-field_ok
-loop-field-preserved-then-field_ok c =
+pub loop-field-preserved-then-call_field_ok : goal.loop-field-preserved-then-call_field_ok
+loop-field-preserved-then-call_field_ok c =
     let w = c.in-Some.ensures.steps in
-    let i = c.loop-field.invariant in (
+    let i = c.loop-field.invariant in
+    let is = field-is i.0 w in
+    let ok = ap (call_field_ok _) (sym is) ∙ sym c.call_field_ok.ensures ∙ c.if-call_field_ok.true in (
       list-stays i.0 w,
-      rw w.at
-          (loosen
-          (goes_on _ _ _ _ _ _ _ _ i.1 _ _ _ (steps-to i.0 w) (sym c.field_ok.ensures ∙ c.if-field_ok.true) _ _ _ refl
-          c.passes-over.ensures)),
+      rw w.at (loosen (goes_on _ _ _ _ _ _ _ _ i.1 _ _ _ (steps-to i.0 w) ok _ _ _ refl (rw is at c.passes-over.ensures))),
       c.passes-over.ensures.same ∙ i.2,
     )
-
-pub head_field_ok-requires : goal.head_field_ok-requires
-head_field_ok-requires c = (field-found c.loop-field.invariant.0 c.in-Some.ensures.steps).within
 
 pub returns-then-field-ne1 : goal.returns-then-field-ne1
 returns-then-field-ne1 c =
     let i = c.loop-field.invariant in
-    let f = field-found i.0 c.in-Some.ensures.steps in
+    let w = c.in-Some.ensures.steps in
+    let f = field-found i.0 w in
+    let is = field-is i.0 w in
     broken-found
     (elim c.then-field-ne1.branch [
       | then-field-ne1-via-then-field-ne1 w ↦
-          bad-beside _ _ _ _ _ _ _ _ i.1 _ _ _ f w.if-field-ne1.true (sym c.field_ok.ensures ∙ c.if-field_ok.false)
+          bad-beside _ _ _ _ _ _ _ _ i.1 _ _ _ f w.if-field-ne1.true (ap (call_field_ok _) (sym is) ∙ sym c.call_field_ok.ensures ∙ c.if-call_field_ok.false)
       | then-field-ne1-via-else-field-ne1+then-is_some w ↦ second _ _ _ _ _ _ _ _ i.1 _ _ _ f w.if-field-ne1.false (sym w.is_some.ensures ∙ w.if-is_some.true)
       | then-field-ne1-via-else-field-ne1+else-is_some+then-not-head_field_ok w ↦
-          bad-head _ _ _ _ _ _ _ _ i.1 _ _ _ f w.if-field-ne1.false (sym w.head_field_ok.ensures ∙ w.if-not-head_field_ok.true)
+          bad-head _ _ _ _ _ _ _ _ i.1 _ _ _ f w.if-field-ne1.false (ap (head_field_ok _ _) (sym (ap (λ (f : Field). f.body) is)) ∙ sym w.head_field_ok.ensures ∙ w.if-not-head_field_ok.true)
     ])
 
 pub loop-field-preserved : goal.loop-field-preserved
@@ -60,7 +57,7 @@ loop-field-preserved c =
       list-stays i.0 w,
       rw w.at
           (goes-head _ _ _ _ _ _ _ _ i.1 _ _ _ (field-found i.0 w) c.if-field-ne1.false (sym c.is_some.ensures ∙ c.if-is_some.false)
-          (sym c.head_field_ok.ensures ∙ c.if-not-head_field_ok.false)),
+          (ap (head_field_ok _ _) (sym (ap (λ (f : Field). f.body) (field-is i.0 w))) ∙ sym c.head_field_ok.ensures ∙ c.if-not-head_field_ok.false)),
       i.2,
     )
 
@@ -68,7 +65,7 @@ pub returns-then-not-at_end : goal.returns-then-not-at_end
 returns-then-not-at_end c =
     let i = c.loop-field.invariant in
     let w = c.in_default.ensures.steps in
-    broken-found (breaks _ _ _ _ _ _ _ _ i.1 (steps-to i.0 w) (ended i.0 w c.if-not-at_end.ensures))
+    broken-found (breaks _ _ _ _ _ _ _ _ i.1 (steps-nowhere i.0 w) (ended i.0 w c.if-not-at_end.ensures))
 
 pub returns-in_err-head : goal.returns-in_err-head
 returns-in_err-head c =

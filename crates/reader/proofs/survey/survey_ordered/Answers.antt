@@ -1,55 +1,48 @@
-use Rattle.std.proofs.Common.{sym, ◌∙◌, refl, arith, true, rules}
-use Rattle.wire.proofs.FieldStepLaws.{field-found, list-stays, steps-to, to-the-end}
+use Rattle.std.proofs.Common.{sym, ◌∙◌, refl, ap, arith, true, rules}
+use Rattle.wire.proofs.FieldStepLaws.{field-found, field-is, list-stays, steps-to, to-the-end}
+use Rattle.reader.specs.CallFields.{call_field_ok, follows}
 use Rattle.reader.proofs.SurveyLaws.{next-within, last_within, next-free, next-below, goes_after}
-use Rattle.reader.proofs.SurveyStartLaws.{first-going}
+use Rattle.reader.proofs.SurveyStartLaws.{first-found, first-going}
 use Rattle.reader.proofs.SurveyEndLaws.{ends_found, ordered-found}
 use Rattle.reader.proofs.survey.survey_ordered.Goals as goal
 
 pub overflow_add-head : goal.overflow_add-head
-overflow_add-head c = omega (arith, (c.head_first.ensures _ c.in_ok-head.was).within)
+overflow_add-head c = omega (arith, (first-found (c.head_first.ensures _ c.in_ok-head.was)).within)
 
 pub from_place-fields-requires : goal.from_place-fields-requires
-from_place-fields-requires c = (c.head_first.ensures _ c.in_ok-head.was).within
+from_place-fields-requires c = (first-found (c.head_first.ensures _ c.in_ok-head.was)).within
 
 pub loop-field-init : goal.loop-field-init
 loop-field-init c =
     let o = c.from_place-fields.ensures in
-    let t = c.new-table.ensures in (
-      o.0,
-      rw o.1 (first-going _ _ _ _ _ (c.head_first.ensures _ c.in_ok-head.was) (rw t.same_entries c.requires) t.unfilled),
-      λ z. omega arith,
-      refl,
-    )
-
-pub field_ok-requires : goal.field_ok-requires
-field_ok-requires c = (field-found c.loop-field.invariant.0 c.in-Some.ensures.steps).within
+    let t = c.new-table.ensures in
+    let h = c.head_first.ensures _ c.in_ok-head.was in
+    (o.0, rw o.1 (first-going h _ (rw t.same_entries c.requires) t.unfilled), λ z. omega (arith, h.tag), refl)
 
 pub follows-requires : goal.follows-requires
 follows-requires c =
     let i = c.loop-field.invariant in
-    let f = field-found i.0 c.in-Some.ensures.steps in
-    let ok = sym c.field_ok.ensures ∙ c.if-not-field_ok.false in (
-      last_within _ _ _ _ _ _ _ _ i.1 _ _ _ f ok,
-      next-within _ _ _ _ _ _ _ _ i.1 _ _ _ f ok,
-    )
+    let w = c.in-Some.ensures.steps in
+    let f = field-found i.0 w in
+    let ok = ap (call_field_ok _) (sym (field-is i.0 w)) ∙ sym c.call_field_ok.ensures ∙ c.if-not-call_field_ok.false in
+    (last_within _ _ _ _ _ _ _ _ i.1 _ _ _ f ok, next-within _ _ _ _ _ _ _ _ i.1 _ _ _ f ok)
 
 pub passes-over-requires : goal.passes-over-requires
 passes-over-requires c =
     let w = c.in-Some.ensures.steps in
     let i = c.loop-field.invariant in
-    let ok = sym c.field_ok.ensures ∙ c.if-not-field_ok.false in (
-      next-within _ _ _ _ _ _ _ _ i.1 _ _ _ (field-found i.0 w) ok,
-      next-free _ _ _ _ _ _ _ _ i.1 _ _ _ (steps-to i.0 w) ok,
-    )
+    let ok = ap (call_field_ok _) (sym (field-is i.0 w)) ∙ sym c.call_field_ok.ensures ∙ c.if-not-call_field_ok.false in
+    (next-within _ _ _ _ _ _ _ _ i.1 _ _ _ (field-found i.0 w) ok, next-free _ _ _ _ _ _ _ _ i.1 _ _ _ (steps-to i.0 w) ok)
 
 pub loop-field-preserved : goal.loop-field-preserved
 loop-field-preserved c =
     let w = c.in-Some.ensures.steps in
     let i = c.loop-field.invariant in
-    let ok = sym c.field_ok.ensures ∙ c.if-not-field_ok.false in (
+    let is = field-is i.0 w in
+    let ok = ap (call_field_ok _) (sym is) ∙ sym c.call_field_ok.ensures ∙ c.if-not-call_field_ok.false in
+    let order = ap (follows _) (sym is) ∙ sym c.follows.ensures ∙ c.if-not-follows.false in (
       list-stays i.0 w,
-      rw w.at
-          (goes_after _ _ _ _ _ _ _ _ i.1 _ _ _ (steps-to i.0 w) ok _ _ (sym c.follows.ensures ∙ c.if-not-follows.false) c.passes-over.ensures),
+      rw (w.at, is) (goes_after _ _ _ _ _ _ _ _ i.1 _ _ _ (steps-to i.0 w) ok _ _ order (rw is at c.passes-over.ensures)),
       next-below _ _ _ _ _ _ _ _ i.1 _ _ _ (field-found i.0 w) ok,
       c.passes-over.ensures.same ∙ i.3,
     )
