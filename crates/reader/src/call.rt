@@ -31,7 +31,7 @@ fn past_refusal(s: &[u8], ordered: bool) -> Refusal
     if ordered {
         return Refusal::Limit;
     }
-    if arrange::doubled(s) {
+    if arrange::doubled(s).is_err() {
         return Refusal::Twice;
     }
     Refusal::Limit
@@ -53,9 +53,7 @@ fn read_table(s: &[u8], asked: Option<u8>, index: &mut [u32]) -> Result<(Head, E
     if laid.ordered {
         return Ok((first, ends));
     }
-    if arrange::sort_table(s, asked.unwrap_or(0), ends, index) {
-        return Err(Refusal::Twice);
-    }
+    arrange::sort_table(s, asked.unwrap_or(0), ends, index)?;
     Ok((first, ends))
 }
 

@@ -2,6 +2,8 @@
 ghost use Rattle.std.specs.Prelude.{◌≡◌};
 ghost use Rattle.reader.specs.Refusals.{number_of};
 
+use sorting::twice::Twice;
+
 #[derive(Clone, Copy, Debug, PartialEq, Eq, Drop)]
 pub enum Refusal {
     // 1: the scratch that is lent is too short.
@@ -79,5 +81,16 @@ impl Refusal {
             Refusal::ShortOutput => 21,
             Refusal::Twice => 22,
         }
+    }
+}
+
+// What is told of two keys at one position is refusal 22.
+impl From<Twice> for Refusal {
+    ghost use Rattle.reader.specs.declared.refusal.Refusal.TheVariants as variants;
+
+    ghost from_gives = { λ _ r. r ≡ variants.Twice };
+
+    fn from(_twice: Twice) -> Refusal {
+        Refusal::Twice
     }
 }

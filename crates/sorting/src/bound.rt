@@ -13,10 +13,7 @@ pub type Bound = Option<Bpos>;
 pub fn is_over(b: Bound, p: Bpos) -> bool
     ensures { result ≡ over b p }
 {
-    match b {
-        Some(q) => bpos::pos_less(q, p),
-        None => true,
-    }
+    b.is_none_or(|q| bpos::pos_less(q, p))
 }
 
 // Whether a position is below the bound.
@@ -24,10 +21,7 @@ pub fn is_over(b: Bound, p: Bpos) -> bool
 pub fn is_under(b: Bound, p: Bpos) -> bool
     ensures { result ≡ under b p }
 {
-    match b {
-        Some(q) => bpos::pos_less(p, q),
-        None => true,
-    }
+    b.is_none_or(|q| bpos::pos_less(p, q))
 }
 
 // Whether a position is not above the bound.
@@ -35,10 +29,7 @@ pub fn is_under(b: Bound, p: Bpos) -> bool
 fn is_at_most(b: Bound, p: Bpos) -> bool
     ensures { result ≡ at_most b p }
 {
-    match b {
-        Some(q) => !bpos::pos_less(q, p),
-        None => true,
-    }
+    b.is_none_or(|q| !bpos::pos_less(q, p))
 }
 
 // Whether a position is above one bound, and not above another.

@@ -5,12 +5,20 @@ ghost use Rattle.sorting.specs.EntryPlaces.{EntryAt, entry_from};
 
 use wire::bpos::Bpos;
 use wire::fields::{Field, Fields};
+use wire::key_types::KeyType;
 use wire::{fields, keys, kinds, positions};
 
-// The section of the reserved buckets.
+// The section of the reserved buckets, and the tag of one in a volume.
 pub const BUCKETS: u8 = 64;
 
-// The sections in the order of a volume: the tags of the keys of each tree, and of the reserved buckets.
+// The tag of a bucket that a change list reserves.
+pub const TAKEN: u8 = 71;
+
+// The tag of a bucket that it unreserves.
+pub const UNRESERVED: u8 = 75;
+
+// The sections in the order of a volume: the tags of the keys of each tree, from `Tree::Alloc` to `Tree::BucketGens`, and of the reserved buckets. In numbers: a constant may call no
+// function, and `Tree::tag` is one.
 pub const SECTIONS: [u8; 7] = [4, 10, 11, 12, 13, 14, BUCKETS];
 
 // The section at an index of them. The caller's loop shows the bound.
@@ -26,7 +34,7 @@ pub fn section_at(i: usize) -> u8
 fn is_bucket(tag: u8, len: usize) -> bool
     ensures { result ≡ is_bucket tag len }
 {
-    len == 4 && matches!(tag, 64 | 71 | 75)
+    len == 4 && matches!(tag, BUCKETS | TAKEN | UNRESERVED)
 }
 
 // Whether a field with a tag and a length is of a section.
@@ -41,7 +49,7 @@ fn is_entry(section: u8, tag: u8, len: usize) -> bool
     }
 }
 
-// The position of the key whose body starts at o. `Entries` and the table of a volume show that one does, here and below.
+// The position of the key of a section whose body starts at o. The caller, who has the place of `Entries` or of a table, shows that one starts there, here and below.
 pub fn pos_at(s: &[u8], o: usize, section: u8) -> Bpos
     requires { EntryAt section s.now o }
     ensures { result ≡ (entry_from section s.now o).pos }
@@ -53,17 +61,20 @@ pub fn pos_at(s: &[u8], o: usize, section: u8) -> Bpos
     }
 }
 
-// Its type; a reserved bucket has type 1, and one that is unreserved type 0.
+// The type that a reserved bucket has as a key, which only has to be another than that of a deletion.
+const RESERVED_TYPE: u8 = 1;
+
+// The type of that key; a bucket that is unreserved has that of a deletion.
 pub fn type_at(s: &[u8], o: usize, section: u8) -> u8
     requires { EntryAt section s.now o }
     ensures { result ≡ (entry_from section s.now o).type }
 {
     if section != BUCKETS {
         keys::type_at(s, o)
-    } else if fields::tag_at(s, o) == 75 {
-        0
+    } else if fields::tag_at(s, o) == UNRESERVED {
+        KeyType::Deleted.number()
     } else {
-        1
+        RESERVED_TYPE
     }
 }
 
@@ -99,11 +110,8 @@ impl<'a> Iterator for Entries<'a> {
 
     // The next key, if one is left.
     fn next(&mut self) -> Option<Field<'a>> {
-        while let Some(field) = self.fields.next() {
-            if is_entry(self.section, field.tag, field.body.len()) {
-                return Some(field);
-            }
-        }
-        None
+        let section = self.section;
+        self.fields
+            .find(|field| is_entry(section, field.tag, field.body.len()))
     }
 }

@@ -7,3 +7,4 @@ pub mod last;
 pub mod places;
 pub mod repeats;
 pub mod sort;
+pub mod twice;

@@ -1,4 +1,5 @@
-use Rattle.std.proofs.Common.{sym, ◌∙◌, rules}
+use Rattle.std.proofs.Common.{sym, refl, ◌∙◌, rules}
+use Rattle.std.proofs.lemmas.Result.{err_from_is_err_and}
 use Rattle.reader.proofs.ListRefusalLaws.{broken}
 use Rattle.reader.proofs.ReadLaws.{past-asked, read_past, table_fits, table-sortable, read-ordered, read_twice, read-sorted}
 use Rattle.reader.proofs.call.read_table.Goals as goal
@@ -31,12 +32,14 @@ sort_table-requires c =
     (table-sortable (c.survey.ensures.found _ c.in-Some.is) _ c.read_head-first.ensures (sym c.past_limit.ensures ∙ c.if-past_limit.false) _
     c.ends_of-ends.ensures)
 
-pub returns-then-sort_table : goal.returns-then-sort_table
-returns-then-sort_table c =
-    read_twice (c.survey.ensures.found _ c.in-Some.is) _ c.read_head-first.ensures (sym c.past_limit.ensures ∙ c.if-past_limit.false)
-    _ c.if-sort_table.true (rw c.unwrap_or.ensures at c.sort_table.ensures)
+pub returns-in_err-sort_table : goal.returns-in_err-sort_table
+returns-in_err-sort_table c =
+    let p = err_from_is_err_and c.from_residual.result c.from_residual.ensures.1 in
+    rw (p.1, p.2)
+    (read_twice (c.survey.ensures.found _ c.in-Some.is) _ c.read_head-first.ensures (sym c.past_limit.ensures ∙ c.if-past_limit.false)
+    _ refl (rw c.unwrap_or.ensures at c.in_err-sort_table.ensures))
 
 pub returns : goal.returns
 returns c =
     read-sorted (c.survey.ensures.found _ c.in-Some.is) _ c.read_head-first.ensures (sym c.past_limit.ensures ∙ c.if-past_limit.false) _
-    c.ends_of-ends.ensures (search rules) _ c.if-sort_table.false (rw c.unwrap_or.ensures at c.sort_table.ensures)
+    c.ends_of-ends.ensures (search rules) _ refl (rw c.unwrap_or.ensures at c.in_ok-sort_table.ensures)

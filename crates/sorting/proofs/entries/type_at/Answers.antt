@@ -8,8 +8,8 @@ type_at-requires c = (key-size c.requires c.if-section-ne-BUCKETS.true).1
 pub returns-then-section-ne-BUCKETS : goal.returns-then-section-ne-BUCKETS
 returns-then-section-ne-BUCKETS c = c.type_at.ensures ∙ key-type c.requires c.if-section-ne-BUCKETS.true
 
-pub returns-then-tag_at-eq75 : goal.returns-then-tag_at-eq75
-returns-then-tag_at-eq75 c = bucket-deleted c.requires c.if-section-ne-BUCKETS.false (sym c.tag_at.ensures ∙ c.if-tag_at-eq75.true)
+pub returns-then-tag_at-eq-UNRESERVED : goal.returns-then-tag_at-eq-UNRESERVED
+returns-then-tag_at-eq-UNRESERVED c = c.number.ensures ∙ bucket-deleted c.requires c.if-section-ne-BUCKETS.false (sym c.tag_at.ensures ∙ c.if-tag_at-eq-UNRESERVED.true)
 
-pub returns-else-tag_at-eq75 : goal.returns-else-tag_at-eq75
-returns-else-tag_at-eq75 c = bucket-stays c.requires c.if-section-ne-BUCKETS.false (λ e. c.if-tag_at-eq75.false (c.tag_at.ensures ∙ e))
+pub returns-else-tag_at-eq-UNRESERVED : goal.returns-else-tag_at-eq-UNRESERVED
+returns-else-tag_at-eq-UNRESERVED c = bucket-stays c.requires c.if-section-ne-BUCKETS.false (λ e. c.if-tag_at-eq-UNRESERVED.false (c.tag_at.ensures ∙ e))
