@@ -7,6 +7,7 @@ pub mod Lending
 pub mod KeyHere
 pub mod Located
 pub mod Pieces
+pub mod PieceLists
 pub mod Checked
 pub mod Arranged
 pub mod Surveyed

@@ -11,6 +11,7 @@ pub mod keys;
 pub mod limits;
 pub mod order;
 pub mod piece;
+pub mod pieces;
 pub mod read_list;
 pub mod refusal;
 pub mod skip;
