@@ -4,6 +4,7 @@
 pub mod alloc;
 pub mod backpointer;
 pub mod checksums;
+pub mod compression;
 pub mod entries;
 pub mod gens;
 pub mod lru;

@@ -14,6 +14,7 @@ pub mod NotingLaws
 pub mod OfferedLaws
 pub mod OrderingLaws
 pub mod PieceLaws
+pub mod PieceListLaws
 pub mod PlaceLaws
 pub mod PlacedLaws
 pub mod RankLaws

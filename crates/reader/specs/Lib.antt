@@ -10,6 +10,7 @@ pub mod BucketHere
 pub mod ListedBuckets
 pub mod Located
 pub mod Pieces
+pub mod PieceLists
 pub mod Checked
 pub mod Arranged
 pub mod Surveyed

@@ -12,6 +12,7 @@ pub mod limits;
 pub mod listed_keys;
 pub mod order;
 pub mod piece;
+pub mod pieces;
 pub mod read_list;
 pub mod refusal;
 pub mod reserved_buckets;
