@@ -6,6 +6,8 @@ ghost use Rattle.reader.specs.CallFields.{alloc_within, run_within, waiting_with
 
 use wire::fields::Field;
 use wire::key_types::KeyType;
+use wire::tags::Tag;
+use wire::trees::Tree;
 use wire::{keys, kinds, positions};
 
 // Whether an alloc key at inode 0 is of a bucket in range. A key's length shows the bound here and below.
@@ -47,11 +49,14 @@ pub fn field_within(field: Field) -> bool
     requires { least_of field.tag ≤ length field.body.now }
     ensures { result ≡ field_within (field_in field.entry) }
 {
-    match field.tag {
-        4 => alloc_within(field.body),
-        11 => run_within(field.body),
-        12 => waiting_within(field.body),
-        64 => kinds::bucket_in_range(kinds::read_bucket(field.body, 0)),
+    let Some(tag) = Tag::named(field.tag) else {
+        return true;
+    };
+    match tag {
+        Tag::Key(Tree::Alloc) => alloc_within(field.body),
+        Tag::Key(Tree::Freespace) => run_within(field.body),
+        Tag::Key(Tree::NeedDiscard) => waiting_within(field.body),
+        Tag::Reserved => kinds::bucket_in_range(kinds::read_bucket(field.body, 0)),
         _ => true,
     }
 }

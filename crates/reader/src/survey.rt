@@ -8,6 +8,7 @@ ghost use Rattle.reader.specs.Surveyed.{HeadFirst, Surveyed, OrderSurveyed};
 use crate::table::PlaceTable;
 use crate::{head, limits, order, table};
 use wire::fields::{Field, Fields};
+use wire::tags::Tag;
 
 // What the pass finds of a list that keeps the layout.
 #[derive(Clone, Copy, Drop)]
@@ -39,7 +40,7 @@ fn head_first(s: &[u8], asked: Option<u8>) -> Option<Field>
     ensures { HeadFirst (unwrap_or asked 0) (is_none asked) s.now result }
 {
     let field = Fields::of(s).next()?;
-    if field.tag == 1 && head_field_ok(asked, field.body) {
+    if field.tag == Tag::Head.number() && head_field_ok(asked, field.body) {
         Some(field)
     } else {
         None
@@ -67,7 +68,7 @@ fn survey_any(s: &[u8], asked: Option<u8>, index: &mut [u32]) -> Option<Laid>
         if order::call_field_ok(asked, field) {
             over = passes(over, field, &mut table);
         } else {
-            if field.tag != 1 || head.is_some() || !head_field_ok(asked, field.body) {
+            if field.tag != Tag::Head.number() || head.is_some() || !head_field_ok(asked, field.body) {
                 return None;
             }
             head = Some(field.start);
