@@ -53,5 +53,5 @@ pub fn roots_after(list: &[u8], roots: u8) -> u8
 pub fn put_front(out: &mut Output, h: Head, roots: u8)
     ensures { out.new ≡ with_bytes out.old (front_bytes (head_in h) roots) }
 {
-    head::put_head(out, Head { roots, ..h });
+    head::put_head_field(out, Head { roots, ..h });
 }

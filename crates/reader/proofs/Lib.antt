@@ -26,6 +26,7 @@ pub mod SurveyEndLaws
 pub mod ShapeLaws
 pub mod FieldRankLaws
 pub mod TableLaws
+pub mod TagLaws
 pub mod VolumeLaws
 pub mod PartsLaws
 pub mod NextLaws

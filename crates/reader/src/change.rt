@@ -6,6 +6,8 @@ ghost use Rattle.reader.specs.Bodies.{root_ok, change_field_ok, tag_after};
 
 use crate::keys;
 use wire::fields::{Field, Fields};
+use wire::tags::Tag;
+use wire::trees::Tree;
 use wire::{keys as wire_keys, le};
 
 // Whether a field's body names a root: 10, 12 or 14.
@@ -29,15 +31,18 @@ fn change_field_ok(field: Field) -> bool
     ensures { result ≡ change_field_ok (field_in field.entry) }
 {
     let len = field.body.len();
-    match field.tag {
-        0 => wire_keys::key_sized(len),
-        4 | 10..=14 => keys::key_ok(field.body),
-        70 => root_ok(field.body),
-        71 | 75 => len == 4,
-        72 => len == 15,
-        73 => row_sized(len),
-        74 => len == 8,
-        76 => len == 0,
+    let Some(tag) = Tag::named(field.tag) else {
+        return false;
+    };
+    match tag {
+        Tag::Key(Tree::Extents) => wire_keys::key_sized(len),
+        Tag::Key(_) => keys::key_ok(field.body),
+        Tag::Root => root_ok(field.body),
+        Tag::Taken | Tag::Unreserved => len == 4,
+        Tag::Spot => len == 15,
+        Tag::Row => row_sized(len),
+        Tag::Sectors => len == 8,
+        Tag::End => len == 0,
         _ => false,
     }
 }

@@ -9,6 +9,7 @@ ghost use Rattle.reader.specs.Heads.{call_byte, head_in, head_sizes};
 use wire::fields::Fields;
 use wire::kinds::FileSector;
 use wire::output::Output;
+use wire::tags::Tag;
 use wire::{kinds, le};
 
 #[derive(Clone, Copy, Drop)]
@@ -30,7 +31,7 @@ pub fn call_byte(s: &[u8]) -> u8
     ensures { result ≡ call_byte s.now }
 {
     for field in Fields::of(s) {
-        if field.tag == 1 {
+        if field.tag == Tag::Head.number() {
             return if field.body.is_empty() {
                 0
             } else {
@@ -88,10 +89,10 @@ fn put_sizes(out: &mut Output, h: Head)
 }
 
 // Field 1.
-pub fn put_head(out: &mut Output, h: Head)
+pub fn put_head_field(out: &mut Output, h: Head)
     ensures { out.new ≡ with_bytes out.old (encode_field (record { tag = 1; body = head_body (head_in h) })) }
 {
-    out.put_head(1, 39);
+    out.put_head(Tag::Head.number(), 39);
     put_sizes(out, h);
     out.put_u32(h.reserve);
     out.put_u32(h.batch);

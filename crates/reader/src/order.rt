@@ -6,6 +6,8 @@ ghost use Rattle.reader.specs.CallFields as specs;
 
 use crate::keys;
 use wire::fields::Field;
+use wire::tags::Tag;
+use wire::trees::Tree;
 use wire::{bpos, keys as wire_keys, kinds};
 
 // Whether a field beside field 1 may stand in a list of the call that is asked for; without one no request may.
@@ -14,11 +16,15 @@ pub fn call_field_ok(asked: Option<u8>, field: Field) -> bool
     ensures { result ≡ call_field_ok (unwrap_or asked 0) (field_in field.entry) }
 {
     let len = field.body.len();
-    match field.tag {
-        4 | 10..=14 => keys::key_ok(field.body),
-        64 => len == 4,
-        65 => matches!(asked, Some(1)) && len == 13,
-        66 => matches!(asked, Some(2)) && len == 10,
+    let Some(tag) = Tag::named(field.tag) else {
+        return false;
+    };
+    match tag {
+        Tag::Key(Tree::Extents) => false,
+        Tag::Key(_) => keys::key_ok(field.body),
+        Tag::Reserved => len == 4,
+        Tag::Piece => matches!(asked, Some(1)) && len == 13,
+        Tag::Freed => matches!(asked, Some(2)) && len == 10,
         _ => false,
     }
 }

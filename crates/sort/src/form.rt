@@ -63,7 +63,7 @@ impl<'a> Emit for SortedForm<'a> {
     ghost bytes = { λ f. f };
 
     fn emit(&self, out: &mut Output) {
-        head::put_head(out, self.head);
+        head::put_head_field(out, self.head);
         put_fields(out, self.list, self.places);
     }
 }

@@ -6,7 +6,7 @@ use Rattle.reader.specs.CallFields.{call_field_ok, head_field_ok}
 use Rattle.reader.proofs.SurveyLaws.{breaks, second, bad-head, goes-head, bad-beside, next-within, next-free, goes_on}
 use Rattle.reader.proofs.SurveyStartLaws.{loosen, any-going}
 use Rattle.reader.proofs.SurveyEndLaws.{no-head, ends_found, broken-found, laid-found}
-use Rattle.reader.proofs.survey.survey_any.Goals.{then-field-ne1-via-then-field-ne1, then-field-ne1-via-else-field-ne1+then-is_some, then-field-ne1-via-else-field-ne1+else-is_some+then-not-head_field_ok}
+use Rattle.reader.proofs.survey.survey_any.Goals.{then-field-number-via-then-field-number, then-field-number-via-else-field-number+then-is_some, then-field-number-via-else-field-number+else-is_some+then-not-head_field_ok}
 use Rattle.reader.proofs.survey.survey_any.Goals as goal
 
 pub loop-field-init : goal.loop-field-init
@@ -35,19 +35,19 @@ loop-field-preserved-then-call_field_ok c =
       c.passes-over.ensures.same ∙ i.2,
     )
 
-pub returns-then-field-ne1 : goal.returns-then-field-ne1
-returns-then-field-ne1 c =
+pub returns-then-field-number : goal.returns-then-field-number
+returns-then-field-number c =
     let i = c.loop-field.invariant in
     let w = c.in-Some.ensures.steps in
     let f = field-found i.0 w in
     let is = field-is i.0 w in
     broken-found
-    (elim c.then-field-ne1.branch [
-      | then-field-ne1-via-then-field-ne1 w ↦
-          bad-beside _ _ _ _ _ _ _ _ i.1 _ _ _ f w.if-field-ne1.true (ap (call_field_ok _) (sym is) ∙ sym c.call_field_ok.ensures ∙ c.if-call_field_ok.false)
-      | then-field-ne1-via-else-field-ne1+then-is_some w ↦ second _ _ _ _ _ _ _ _ i.1 _ _ _ f w.if-field-ne1.false (sym w.is_some.ensures ∙ w.if-is_some.true)
-      | then-field-ne1-via-else-field-ne1+else-is_some+then-not-head_field_ok w ↦
-          bad-head _ _ _ _ _ _ _ _ i.1 _ _ _ f w.if-field-ne1.false (ap (head_field_ok _ _) (sym (ap (λ (f : Field). f.body) is)) ∙ sym w.head_field_ok.ensures ∙ w.if-not-head_field_ok.true)
+    (elim c.then-field-number.branch [
+      | then-field-number-via-then-field-number w ↦
+          bad-beside _ _ _ _ _ _ _ _ i.1 _ _ _ f (λ e. w.if-field-number.true (e ∙ sym c.number.ensures)) (ap (call_field_ok _) (sym is) ∙ sym c.call_field_ok.ensures ∙ c.if-call_field_ok.false)
+      | then-field-number-via-else-field-number+then-is_some w ↦ second _ _ _ _ _ _ _ _ i.1 _ _ _ f (w.if-field-number.false ∙ c.number.ensures) (sym w.is_some.ensures ∙ w.if-is_some.true)
+      | then-field-number-via-else-field-number+else-is_some+then-not-head_field_ok w ↦
+          bad-head _ _ _ _ _ _ _ _ i.1 _ _ _ f (w.if-field-number.false ∙ c.number.ensures) (ap (head_field_ok _ _) (sym (ap (λ (f : Field). f.body) is)) ∙ sym w.head_field_ok.ensures ∙ w.if-not-head_field_ok.true)
     ])
 
 pub loop-field-preserved : goal.loop-field-preserved
@@ -56,7 +56,7 @@ loop-field-preserved c =
     let i = c.loop-field.invariant in (
       list-stays i.0 w,
       rw w.at
-          (goes-head _ _ _ _ _ _ _ _ i.1 _ _ _ (field-found i.0 w) c.if-field-ne1.false (sym c.is_some.ensures ∙ c.if-is_some.false)
+          (goes-head _ _ _ _ _ _ _ _ i.1 _ _ _ (field-found i.0 w) (c.if-field-number.false ∙ c.number.ensures) (sym c.is_some.ensures ∙ c.if-is_some.false)
           (ap (head_field_ok _ _) (sym (ap (λ (f : Field). f.body) (field-is i.0 w))) ∙ sym c.head_field_ok.ensures ∙ c.if-not-head_field_ok.false)),
       i.2,
     )
@@ -78,5 +78,5 @@ returns c =
     let i = c.loop-field.invariant in
     let e = to-the-end i.0 c.in_default.ensures.steps c.if-not-at_end.ensures in
     let same = sym c.new-table.ensures.same_reference ∙ sym i.2 in
-    let laid = laid-found (ends_found _ _ _ _ _ _ _ _ i.1 e _ c.in_ok-head.was false (λ z. absurd (clash z refl))) in
+    let laid = laid-found (ends_found _ _ _ _ _ _ _ _ i.1 e _ c.in_ok-head.was false (λ z. absurd (clash z refl)) _ c.counted.ensures) in
     search (same, laid, rules)

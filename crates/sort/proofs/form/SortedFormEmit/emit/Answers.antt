@@ -6,4 +6,4 @@ use Rattle.sort.proofs.form.SortedFormEmit.emit.Goals as goal
 
 pub returns : goal.returns
 unfolding form_bytes
-returns c = rw (c.put_fields.ensures, c.put_head.ensures, with-with) (ap (with_bytes c.args.out.now) c.self.view_is)
+returns c = rw (c.put_fields.ensures, c.put_head_field.ensures, with-with) (ap (with_bytes c.args.out.now) c.self.view_is)
