@@ -1,5 +1,5 @@
-// `format` behind a C boundary, for what C compares with the Linux headers: numbers and byte slices come in, and a kind is made of a number here alone. No caller
-// owes anything: a remainder brings each number into its range, and a value of another length is left alone.
+// The functions of `format` for C, where tests compare what they write with the structs of the Linux headers. Numbers and byte slices come in, and kinds are made of
+// them here. No exported function asks anything of its caller: a remainder brings each number into its range, and a value of a length that a change does not take is left as it is.
 #![tactic(auto)]
 
 ghost use Rattle.std.specs.Prelude.{◌≡◌, ◌+◌, ◌*◌, ◌%◌, ◌^◌, ◌≤◌, ◌&&◌, cond, leb, length, None, Some};
@@ -83,6 +83,7 @@ pub extern "C" fn format_new_alloc(
 }
 
 // struct bch_alloc_v4 after emptying, at a journal number. A value that ends before byte 56, or has more than 256 bytes, is left alone.
+// The three functions that change a value repeat these lines: one that takes the change as a closure would state of it what it asks of a value and that it keeps the length, which is longer.
 #[unsafe(no_mangle)]
 pub extern "C" fn format_emptied(value: &mut [u8], journal: u64)
     ensures { value.new ≡ where_sized 56 256 (emptied journal) value.old }

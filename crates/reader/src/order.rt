@@ -31,7 +31,7 @@ fn ascends(s: &[u8], tag: u8, before: usize, start: usize) -> bool
 {
     match tag {
         0..=14 => bpos::pos_less(wire_keys::pos_at(s, before), wire_keys::pos_at(s, start)),
-        64 => kinds::bucket_below(kinds::read_bucket(s, before), kinds::read_bucket(s, start)),
+        64 => kinds::read_bucket(s, before) < kinds::read_bucket(s, start),
         _ => true,
     }
 }

@@ -1,4 +1,4 @@
-// Keys with their values, held by value (bkey.rs).
+// Keys with their values, held by value.
 ghost use Rattle.std.specs.Prelude.{◌≡◌, ◌+◌, ◌≤◌, ◌&&◌, leb, length, take, drop};
 ghost use Rattle.wire.specs.Numbers.{le};
 ghost use Rattle.wire.specs.Output.{put};

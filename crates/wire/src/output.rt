@@ -85,7 +85,7 @@ impl<'a> Output<'a> {
         self.put_slice(&x.to_le_bytes());
     }
 
-    // A field's tag, and the two low bytes of its length: no body is longer than they tell.
+    // A field's tag, and its length in two bytes, which a remainder brings it into: each body that is written is shorter than 65,536 bytes.
     pub fn put_head(&mut self, tag: u8, n: usize)
         ensures { self.new ≡ with_bytes self.old (head_bytes tag n) }
     {
@@ -93,7 +93,7 @@ impl<'a> Output<'a> {
         self.put_u16((n % 65536) as u16);
     }
 
-    // A bucket in four bytes: what is past them is left out, and the limits show that nothing is.
+    // A bucket in four bytes, which a remainder brings its number into: the limit on bucket numbers shows that nothing of it is lost.
     pub fn put_bucket_bytes(&mut self, b: Bucket)
         ensures { self.new ≡ with_bytes self.old (bucket_bytes b) }
     {
@@ -108,7 +108,7 @@ impl<'a> Output<'a> {
         self.put_bucket_bytes(b);
     }
 
-    // A device sector in eight bytes.
+    // A device sector in eight bytes. Each of the two kinds has a function of its own: a trait over them would be longer than both.
     pub fn put_sector(&mut self, d: DeviceSector)
         ensures { self.new ≡ with_bytes self.old (sector_bytes d) }
     {
@@ -169,7 +169,7 @@ impl<'a> Output<'a> {
         self.put_slice(value);
     }
 
-    // A key of a tree whose value is words. Who makes the words shows the bound.
+    // A key of a tree whose value is words: an alloc value has eight, a backpointer four, an extent's value at most three.
     pub fn put_words_key(&mut self, tree: u8, h: KeyHead, words: &[u64])
         requires { length words.now ≤ 8 }
         ensures { self.new ≡ with_bytes self.old (encode_field (key_field tree (key_with h (words_bytes words.now)))) }

@@ -34,7 +34,7 @@ pub fn alloc_at(b: Bucket) -> Bpos
     at(0, b.0)
 }
 
-// Tree 10: a bucket at an index of fragmentation, which is below 2^31 where the dirty count is below the bucket's sectors.
+// Tree 10: a bucket at an index of fragmentation. The key is made only where the dirty count is below the bucket's sectors, so the index is below 2^31.
 pub fn lru_at(index: u64, b: Bucket) -> Bpos
     requires { index < 2 ^ 61 }
     ensures { result ≡ lru_at index b }
