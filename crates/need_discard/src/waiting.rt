@@ -12,7 +12,6 @@ ghost use Rattle.need_discard.specs.Table.{waits_of, is_of_bucket, Entry, Waitin
 use reader::key;
 use wire::bpos::Bpos;
 use wire::key_types::KeyType;
-use wire::kinds;
 use wire::kinds::Bucket;
 
 // The key at place i takes the entry of its bucket, so that the last stands. The limits show the bounds, here and below.
@@ -43,7 +42,7 @@ fn names_bucket(s: &[u8], o: u32, b: Bucket) -> bool
     requires { NeedKept s.now o }
     ensures { result ≡ is_of_bucket (key_here s.now o) b }
 {
-    kinds::same_bucket(key::bucket_at(s, o as usize), b)
+    key::bucket_at(s, o as usize) == b
         && key::type_at(s, o as usize) == KeyType::Set.number()
 }
 

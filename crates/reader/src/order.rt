@@ -37,7 +37,7 @@ fn ascends(tag: u8, before: &[u8], body: &[u8]) -> bool
 {
     match tag {
         0..=14 => bpos::pos_less(wire_keys::pos_at(before, 0), wire_keys::pos_at(body, 0)),
-        64 => kinds::bucket_below(kinds::read_bucket(before, 0), kinds::read_bucket(body, 0)),
+        64 => kinds::read_bucket(before, 0) < kinds::read_bucket(body, 0),
         _ => true,
     }
 }

@@ -1,4 +1,4 @@
-// Positions of keys, and their order (bkey.rs).
+// Positions of keys, and their order: by inode, then by offset, then by snapshot.
 ghost use Rattle.std.specs.Prelude.{◌≡◌, ◌+◌, ◌≤◌, length, drop};
 ghost use Rattle.wire.specs.Keys.{pos_of};
 ghost use Rattle.wire.specs.Order.{pos_less, pos_same};
@@ -24,7 +24,7 @@ pub fn read_pos(s: &[u8], at: usize) -> Bpos
     }
 }
 
-// Whether a stands before b.
+// Whether a stands before b. It has a name, as the operator's law has to be cited where `<` stands (tried in sorting, `bound`): here that is once.
 #[tactic(auto, using(crate::proofs::OrderLaws::parts_compared))]
 pub fn pos_less(a: Bpos, b: Bpos) -> bool
     ensures { result ≡ pos_less a b }
@@ -32,7 +32,7 @@ pub fn pos_less(a: Bpos, b: Bpos) -> bool
     a < b
 }
 
-// Whether two positions are the same.
+// Whether two positions are the same, with a name for the same reason.
 #[tactic(auto, using(crate::proofs::OrderLaws::parts_same))]
 pub fn pos_same(a: Bpos, b: Bpos) -> bool
     ensures { result ≡ pos_same a b }

@@ -1,4 +1,4 @@
-// Bytes and numbers, fields and their tags, kinds, positions, trees, types of keys, keys and rows: how each is read and how each is emitted.
+// What lists are made of: numbers, fields and their tags, kinds, positions, trees, types of keys, keys and rows. All are written as bytes, and all but rows are read.
 #![tactic(auto)]
 
 pub mod bpos;

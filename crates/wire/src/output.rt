@@ -2,13 +2,13 @@
 // One function for each width, as the type of a number tells how many bytes it has: std has no trait that joins them, and a clause over that of num_traits would name its members in place of `le_bytes`.
 ghost use Rattle.std.specs.Prelude.{◌≡◌, ◌+◌, ◌-◌, ◌≤◌, min, max, [], ◌∷◌, length, take};
 ghost use Rattle.wire.specs.Numbers.{le_bytes, words_bytes};
-ghost use Rattle.wire.specs.Held.{value_in, key_in, key_with};
+ghost use Rattle.wire.specs.Held.{key_in, key_with};
 ghost use Rattle.wire.specs.Kinds.{bucket_bytes, sector_bytes, file_sector_bytes};
 ghost use Rattle.wire.specs.Encode.{head_bytes, encode_field, pos_bytes, key_start, key_field};
 ghost use Rattle.wire.specs.Output.{put, cap, with_bytes};
 
 use crate::bpos::Bpos;
-use crate::keys::{Bkey, KeyHead, Value};
+use crate::keys::{Bkey, KeyHead};
 use crate::kinds::{Bucket, DeviceSector, FileSector};
 
 // A slice that is lent, and the place in it that the next byte goes to.
@@ -85,7 +85,7 @@ impl<'a> Output<'a> {
         self.put_slice(&x.to_le_bytes());
     }
 
-    // A field's tag, and the two low bytes of its length: no body is longer than they tell.
+    // A field's tag, and its length in two bytes, which a remainder brings it into: each body that is written is shorter than 65,536 bytes.
     pub fn put_head(&mut self, tag: u8, n: usize)
         ensures { self.new ≡ with_bytes self.old (head_bytes tag n) }
     {
@@ -93,7 +93,7 @@ impl<'a> Output<'a> {
         self.put_u16((n % 65536) as u16);
     }
 
-    // A bucket in four bytes: what is past them is left out, and the limits show that nothing is.
+    // A bucket in four bytes, which a remainder brings its number into: the limit on bucket numbers shows that nothing of it is lost.
     pub fn put_bucket_bytes(&mut self, b: Bucket)
         ensures { self.new ≡ with_bytes self.old (bucket_bytes b) }
     {
@@ -108,7 +108,7 @@ impl<'a> Output<'a> {
         self.put_bucket_bytes(b);
     }
 
-    // A device sector in eight bytes.
+    // A device sector in eight bytes. Each of the two kinds has a function of its own: a trait over them would be longer than both.
     pub fn put_sector(&mut self, d: DeviceSector)
         ensures { self.new ≡ with_bytes self.old (sector_bytes d) }
     {
@@ -129,14 +129,6 @@ impl<'a> Output<'a> {
         for x in words {
             self.put_u64(*x);
         }
-    }
-
-    // The bytes of a value. `read_key` shows the bound.
-    pub fn put_value(&mut self, v: &Value)
-        requires { v.now.len ≤ 256 }
-        ensures { self.new ≡ with_bytes self.old (value_in v.now) }
-    {
-        self.put_slice(&v.bytes[..v.len]);
     }
 
     // A position in twenty bytes.
@@ -160,25 +152,24 @@ impl<'a> Output<'a> {
     }
 
     // A key of a tree with no value.
+    #[tactic(auto, unfolding(crate::specs::Numbers::words_bytes, crate::specs::Numbers::each))]
     pub fn put_bare_key(&mut self, tree: u8, h: KeyHead)
         ensures { self.new ≡ with_bytes self.old (encode_field (key_field tree (key_with h []))) }
     {
-        self.put_head(tree, 37);
-        self.put_key_start(h);
+        self.put_words_key(tree, h, &[]);
     }
 
-    // A key of a tree. Who reads or makes the key shows the bound of its value.
+    // A key of a tree.
     pub fn put_key(&mut self, tree: u8, k: &Bkey)
-        requires { k.now.value.len ≤ 256 }
         ensures { self.new ≡ with_bytes self.old (encode_field (key_field tree (key_in k.now))) }
     {
-        let value = &k.value.bytes[..k.value.len];
+        let value = k.value.as_slice();
         self.put_head(tree, 37 + value.len());
-        self.put_key_start(k.head());
+        self.put_key_start(k.head);
         self.put_slice(value);
     }
 
-    // A key of a tree whose value is words. Who makes the words shows the bound.
+    // A key of a tree whose value is words: an alloc value has eight, a backpointer four, an extent's value at most three.
     pub fn put_words_key(&mut self, tree: u8, h: KeyHead, words: &[u64])
         requires { length words.now ≤ 8 }
         ensures { self.new ≡ with_bytes self.old (encode_field (key_field tree (key_with h (words_bytes words.now)))) }

@@ -31,7 +31,7 @@ impl<'a> Output<'a> {
         self.put_slice(&x.to_le_bytes());
     }
 
-    // Signed numbers.
+    // Signed numbers. The loop is that of `put_words`: one for both asks for a trait with a law, two impls and a function for each, which is longer than two loops of a line.
     fn put_numbers(&mut self, numbers: &[i64])
         ensures { self.new ≡ with_bytes self.old (each signed_bytes numbers.now) }
     {
