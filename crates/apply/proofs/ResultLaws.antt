@@ -1,12 +1,11 @@
 -- The loop over the sections, and the answer.
 use mathlib.Core.Path.{◌≡◌, refl, ap, sym, ◌∙◌}
-use mathlib.Core.Bool.{Bool, true, ◌&&◌, and-true, and_assoc}
+use mathlib.Core.Bool.{Bool, true, false, ◌&&◌, and-true, and_assoc}
 use mathlib.Core.List.{List, [], ◌∷◌, ◌++◌}
-use Prim.Native.Nat.{ℕ, ◌+◌, ◌≤◌, ◌<◌, max, min}
+use Prim.Native.Nat.{ℕ, ◌+◌, ◌≤◌, ◌<◌, min}
 use native.Mathlib.Omega.{arith}
 use lib.Dec.{leb}
 use lib.ListN.{length, drop, get_or}
-use borrow.Author.Tests.{le-leb, lt-leb}
 use Rattle.reader.specs.Heads.{head_in}
 use Rattle.reader.specs.declared.read_list.ReadList.{ReadList}
 use Rattle.reader.proofs.PartsLaws.{volume-passed}
@@ -29,7 +28,7 @@ use Rattle.calls.specs.Trees.{apply_queue}
 use Rattle.sorting.specs.Entries.{sections, entries}
 use Rattle.sorting.specs.EntryPlaces.{entries_at}
 use Rattle.merge.specs.Merging.{Done}
-use Rattle.merge.proofs.CountLaws.{within_on}
+use Rattle.merge.proofs.CountLaws.{within_is}
 use Rattle.apply.specs.Roots.{roots_after, front_bytes}
 use Rattle.apply.specs.NextVolume.{Lists, bytes_after, Ready, section_keys, next_of, VolumeDone}
 use Rattle.apply.proofs.VolumeLaws.{roots-low}
@@ -42,10 +41,10 @@ pub done-next :
 unfolding next_of
 done-next vol list keys e d = rw e at d
 
--- the loop on its way: what is left of the next volume goes to o', and the count so far and the limits of what is left tell those of the whole
-pub record Sectioning (n : Lists) (o o' : Output) (most i : ℕ) : Type 0 where
+-- the loop on its way: what is left of the next volume goes to o', and the limits so far and those of what is left tell those of the whole
+pub record Sectioning (n : Lists) (o o' : Output) (within : Bool) (i : ℕ) : Type 0 where
   pub wrote : with_bytes o' (each (next_bytes n.volume n.change) (drop i sections)) ≡ with_bytes o (bytes_after n)
-  pub fits : (leb most 4096 && all_of (next_within n.volume n.change) (drop i sections)) ≡ volume_within (next_volume n.volume n.change)
+  pub fits : (within && all_of (next_within n.volume n.change) (drop i sections)) ≡ volume_within (next_volume n.volume n.change)
 
 -- what `roots_after` asks
 pub roots-ready : {r : ReadList} {list : List ℕ} → Ready r list → (r.head.roots < 8) × (change_laid_out list ≡ true)
@@ -55,7 +54,7 @@ module _ {r : ReadList} {list : List ℕ} {roots : ℕ} (q : Ready r list) (b : 
   abbrev lists : Lists
   lists = record { volume = r.list.now; change = list }
 
-  pub sections-start : {o o' : Output} → o' ≡ with_bytes o (front_bytes (head_in r.head) roots) → Sectioning lists o o' 0 0
+  pub sections-start : {o o' : Output} → o' ≡ with_bytes o (front_bytes (head_in r.head) roots) → Sectioning lists o o' true 0
   sections-start {o} f =
       let vol = r.list.now in
       let g : roots ≡ roots_after list (read_volume vol).head.roots = b ∙ ap (λ x. roots_after list x.roots) q.read.read.head in
@@ -67,10 +66,10 @@ module _ {r : ReadList} {list : List ℕ} {roots : ℕ} (q : Ready r list) (b : 
         fits = sym (next-within vol list q.change (volume-passed vol q.read.passed).within);
       }
 
-module _ {n : Lists} {o o' : Output} {most i : ℕ} (c : Sectioning n o o' most i) where
+module _ {n : Lists} {o o' : Output} {within : Bool} {i : ℕ} (c : Sectioning n o o' within i) where
   pub sections-on :
       {o'' : Output} {count : ℕ} → i < 7 → Done (get_or sections i 0) o' (next_of n.volume n.change (get_or sections i 0)) o'' count
-      → Sectioning n o o'' (max most count) (i + 1)
+      → Sectioning n o o'' (within && leb count 4096) (i + 1)
   unfolding next_bytes next_within all_of
   sections-on {o''} {count} l d =
       let t : ℕ = get_or sections i 0 in
@@ -83,9 +82,9 @@ module _ {n : Lists} {o o' : Output} {most i : ℕ} (c : Sectioning n o o' most 
             ∙ ap (with_bytes o') (sym (each_next (next_bytes n.volume n.change) split))
             ∙ c.wrote;
         fits =
-            ap (λ (b : Bool). b && all_of (next_within n.volume n.change) ts) (within_on t _ most count d.counted)
-            ∙ and_assoc (leb most 4096) (next_within n.volume n.change t) (all_of (next_within n.volume n.change) ts)
-            ∙ ap (λ (us : List ℕ). leb most 4096 && all_of (next_within n.volume n.change) us) (sym split)
+            ap (λ (b : Bool). b && all_of (next_within n.volume n.change) ts) (ap (λ (b : Bool). within && b) (within_is t _ count d.counted))
+            ∙ and_assoc within (next_within n.volume n.change t) (all_of (next_within n.volume n.change) ts)
+            ∙ ap (λ (us : List ℕ). within && all_of (next_within n.volume n.change) us) (sym split)
             ∙ c.fits;
       }
 
@@ -95,22 +94,22 @@ module _ {n : Lists} {o o' : Output} {most i : ℕ} (c : Sectioning n o o' most 
       let z : drop i sections ≡ [] = ap (λ (k : ℕ). drop k sections) e in
       sym (with-none o') ∙ ap (with_bytes o') (sym (each_none (next_bytes n.volume n.change) z)) ∙ c.wrote
 
-  end-fits : i ≡ 7 → volume_within (next_volume n.volume n.change) ≡ leb most 4096
+  end-fits : i ≡ 7 → volume_within (next_volume n.volume n.change) ≡ within
   unfolding all_of
   end-fits e =
       let z : drop i sections ≡ [] = ap (λ (k : ℕ). drop k sections) e in
       sym c.fits
-      ∙ ap (λ (us : List ℕ). leb most 4096 && all_of (next_within n.volume n.change) us) z
-      ∙ and-true (leb most 4096)
+      ∙ ap (λ (us : List ℕ). within && all_of (next_within n.volume n.change) us) z
+      ∙ and-true within
 
-  pub sections-end : {r : ReadList} {list : List ℕ} → Ready r list → r.list.now ≡ n.volume → list ≡ n.change → i ≡ 7 → VolumeDone n o o' most
+  pub sections-end : {r : ReadList} {list : List ℕ} → Ready r list → r.list.now ≡ n.volume → list ≡ n.change → i ≡ 7 → VolumeDone n o o' within
   sections-end {r} {list} q e f z =
       let bytes = bytes_after n in
       let p = volume-passed r.list.now q.read.passed in
       let laid : volume_laid_out n.volume ≡ true = rw (← e) p.laid in
       let change : change_laid_out n.change ≡ true = rw (← f) q.change in
       let once : none_twice (read_volume n.volume) ≡ true = rw (← e) p.once in
-      let within : volume_within (read_volume n.volume) ≡ true = rw (← e) p.within in
+      let kept : volume_within (read_volume n.volume) ≡ true = rw (← e) p.within in
       record {
         wrote = end-wrote z;
         answers =
@@ -118,37 +117,37 @@ module _ {n : Lists} {o o' : Output} {most i : ℕ} (c : Sectioning n o o' most 
             apply-is n.volume n.change room
             ∙ answer-next _ _ bytes room (rw (laid, change))
             ∙ answer-next _ _ bytes room (rw once)
-            ∙ answer-next _ _ bytes room (rw within)
+            ∙ answer-next _ _ bytes room (rw kept)
             ∙ ap (λ (b : Bool). answer (test 3 b ∷ []) bytes room) (end-fits z);
       }
 
 -- the answers
 
-module _ {n : Lists} {o o' : Output} {count : ℕ} (dry : VolumeDone n o o' count) (xs : List ℕ) where
+module _ {n : Lists} {o o' : Output} {within : Bool} (dry : VolumeDone n o o' within) (xs : List ℕ) where
   abbrev whole : Outcome
   whole = outcome (apply n.volume n.change (length xs)) xs
 
-  pub gives-3 : 4096 < count → made 3 0 xs ≡ whole
+  pub gives-3 : within ≡ false → made 3 0 xs ≡ whole
   gives-3 h =
-      refused 3 xs (dry.answers (length xs) ∙ rw (lt-leb count 4096 h) (answer-stops 3 [] (bytes_after n) (length xs) (λ e. omega arith))) refl
+      refused 3 xs (dry.answers (length xs) ∙ rw h (answer-stops 3 [] (bytes_after n) (length xs) (λ e. omega arith))) refl
 
   -- where no test is left but 21
-  light : count ≤ 4096 → apply n.volume n.change (length xs) ≡ answer [] (bytes_after n) (length xs)
-  light h = dry.answers (length xs) ∙ rw (le-leb count 4096 h) (answer-next 0 [] (bytes_after n) (length xs) refl)
+  light : within ≡ true → apply n.volume n.change (length xs) ≡ answer [] (bytes_after n) (length xs)
+  light h = dry.answers (length xs) ∙ rw h (answer-next 0 [] (bytes_after n) (length xs) refl)
 
   module _ (z : o.at ≡ 0) where
     -- the length that the run tells
     run-length : o'.at ≡ min (length (bytes_after n)) cap
     run-length = ap (λ (x : Output). x.at) dry.wrote ∙ counted o (bytes_after n) z
 
-    pub gives-21 : count ≤ 4096 → length xs < o'.at → made 21 0 xs ≡ whole
+    pub gives-21 : within ≡ true → length xs < o'.at → made 21 0 xs ≡ whole
     gives-21 h l = refused 21 xs (light h ∙ answer-short (bytes_after n) (length xs) (omega (arith, run-length))) refl
 
     pub has-room : o'.at ≤ length xs → length xs < cap → length (bytes_after n) ≤ length xs
     has-room l k = omega (arith, run-length)
 
     pub gives-0 :
-        {ys : List ℕ} → count ≤ 4096 → o'.at ≤ length xs → length xs < cap → ys ≡ bytes_after n ++ drop (length (bytes_after n)) xs
+        {ys : List ℕ} → within ≡ true → o'.at ≤ length xs → length xs < cap → ys ≡ bytes_after n ++ drop (length (bytes_after n)) xs
         → made 0 o'.at ys ≡ whole
     gives-0 h l k w =
         accepted (bytes_after n) xs (light h ∙ answer-fits (bytes_after n) (length xs) (has-room l k)) (omega (arith, run-length, has-room l k)) w

@@ -1,5 +1,5 @@
 -- What is asked before the next volume is written, and what is promised of each of its sections and of the whole.
-use Rattle.std.specs.Prelude.{◌≡◌, true, ℕ, None, List, [], ◌∷◌, map, leb}
+use Rattle.std.specs.Prelude.{◌≡◌, Bool, true, ℕ, None, List, [], ◌∷◌, map}
 use Rattle.wire.specs.Bytes.{All}
 use Rattle.wire.specs.Fields.{fields}
 use Rattle.wire.specs.Keys.{Key}
@@ -51,7 +51,7 @@ pub record QueueReady (t : ℕ) (list queue : List ℕ) : Type 0 where
   pub kept : All (EntryAt t list) queue
   pub keys : entries_at t list queue ≡ gather (entries t (fields list))
 
--- the next volume was written, and the count tells the refusals that are left: 3, and 21 where there is too little room
-pub record VolumeDone (n : Lists) (o o' : Output) (r : ℕ) : Type 0 where
+-- the next volume was written, and whether its sections are within the limits tells the refusals that are left: 3, and 21 where there is too little room
+pub record VolumeDone (n : Lists) (o o' : Output) (r : Bool) : Type 0 where
   pub wrote : o' ≡ with_bytes o (bytes_after n)
-  pub answers : (room : ℕ) → apply n.volume n.change room ≡ answer (test 3 (leb r 4096) ∷ []) (bytes_after n) room
+  pub answers : (room : ℕ) → apply n.volume n.change room ≡ answer (test 3 r ∷ []) (bytes_after n) room

@@ -10,6 +10,7 @@ ghost use Rattle.apply.specs.NextVolume.{Lists, bytes_after, Ready, next_of, Sec
 
 use crate::front;
 use merge::below::Rest;
+use merge::limits::KeyCount;
 use merge::{merge as merging, queue};
 use reader::answer;
 use reader::answer::Emit;
@@ -18,9 +19,6 @@ use reader::refusal::Refusal;
 use sorting::entries;
 use std::marker::Model;
 use wire::output::Output;
-
-// How many keys a section may have.
-const MOST: usize = 4096;
 
 // What the next volume is made of: a volume that was read, with the root bits of the next; a change list, and the table of its queued keys, with where those of each
 // section end where the table holds them.
@@ -82,36 +80,36 @@ impl<'a> NextVolume<'a> {
     }
 
     // A section; how many of its keys were written.
-    fn put_section(&self, out: &mut Output, i: usize) -> usize
+    fn put_section(&self, out: &mut Output, i: usize) -> KeyCount
         requires { i < 7 }
         ensures { Done (get_or sections i 0) out.old (next_of self.now.volume self.now.change (get_or sections i 0)) out.new result }
     {
-        let rest = Rest::new(entries::section_at(i), self.read.list, self.keys(i), 0);
+        let rest = Rest::new(entries::section_at(i), self.read.list, self.keys(i));
         match self.queued(i) {
             Some(queue) => merging::put_section(out, rest, self.list, queue),
             None => merging::put_section_in_chunks(out, rest, self.list),
         }
     }
 
-    // The next volume; the greatest count of a section.
-    fn put(&self, out: &mut Output) -> usize
+    // The next volume; whether each of its sections is within the limits.
+    fn put(&self, out: &mut Output) -> bool
         ensures { VolumeDone self.now out.old out.new result }
     {
         front::put_front(out, self.read.head, self.roots);
-        let mut most: usize = 0;
+        let mut within = true;
         for i in 0..7 {
-            most = most.max(self.put_section(out, i));
+            within &= self.put_section(out, i).is_within();
         }
-        most
+        within
     }
 
-    // Apply: first into no room, which tells the count and the length.
+    // Apply: first into no room, which tells whether the limits are kept, and the length.
     fn write(&self, out: &mut [u8]) -> Result<usize, Refusal>
         ensures { made_by result out.new ≡ outcome (apply self.now.volume self.now.change (length out.old)) out.old }
     {
         let mut none = [0u8; 0];
         let mut dry = Output::new(&mut none);
-        if MOST < self.put(&mut dry) {
+        if !self.put(&mut dry) {
             return Err(Refusal::Limit);
         }
         let n = dry.at;

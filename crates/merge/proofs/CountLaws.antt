@@ -1,8 +1,8 @@
 -- The limits of a section as one number.
-use mathlib.Core.Path.{◌≡◌, refl, ap, sym, ◌∙◌}
+use mathlib.Core.Path.{◌≡◌, refl, sym, ◌∙◌}
 use mathlib.Core.Bool.{Bool, true, false, ◌&&◌, and-false}
 use mathlib.Core.List.{List, [], ◌∷◌}
-use Prim.Native.Nat.{ℕ, ◌+◌, ◌≤◌, min, max}
+use Prim.Native.Nat.{ℕ, ◌+◌, ◌≤◌, min}
 use native.Mathlib.Omega.{arith}
 use lib.Dec.{leb}
 use lib.ListN.{length}
@@ -56,19 +56,10 @@ module _ (t : ℕ) where
       go true e = rw (exact ks e) (and-end (leb (length ks) 4096))
       go false e = rw (lt-leb (count_all t ks) 4096 (omega (arith, too_many ks e))) (sym (and-false (leb (length ks) 4096)))
 
--- the larger of two counts
-within-max : (a b : ℕ) → leb (max a b) 4096 ≡ (leb a 4096 && leb b 4096)
-within-max a b = go (leb a 4096) (leb b 4096) refl refl
+-- a section counted
+pub within_is : (t : ℕ) (ks : List Key) (w : ℕ) → min w 4097 ≡ min (count_all t ks) 4097 → leb w 4096 ≡ section_within t ks
+within_is t ks w h = same (leb (count_all t ks) 4096) refl ∙ counted-all t ks
   where
-    go : (x y : Bool) → leb a 4096 ≡ x → leb b 4096 ≡ y → leb (max a b) 4096 ≡ (x && y)
-    go true true p q = le-leb (max a b) 4096 (omega (arith, leb-true a 4096 p, leb-true b 4096 q))
-    go true false p q = lt-leb (max a b) 4096 (omega (arith, leb-false b 4096 q))
-    go false y p q = lt-leb (max a b) 4096 (omega (arith, leb-false a 4096 p))
-
--- one section more, counted by itself
-pub within_on : (t : ℕ) (ks : List Key) (a w : ℕ) → min w 4097 ≡ min (count_all t ks) 4097 → leb (max a w) 4096 ≡ (leb a 4096 && section_within t ks)
-within_on t ks a w h = within-max a w ∙ ap (λ (b : Bool). leb a 4096 && b) (same (leb (count_all t ks) 4096) refl ∙ counted-all t ks)
-  where
-    same : (x : Bool) → leb (count_all t ks) 4096 ≡ x → leb w 4096 ≡ x
-    same true e = le-leb w 4096 (omega (arith, leb-true (count_all t ks) 4096 e))
-    same false e = lt-leb w 4096 (omega (arith, leb-false (count_all t ks) 4096 e))
+    same : (x : Bool) → leb (count_all t ks) 4096 ≡ x → leb w 4096 ≡ leb (count_all t ks) 4096
+    same true e = rw e (le-leb w 4096 (omega (arith, leb-true (count_all t ks) 4096 e)))
+    same false e = rw e (lt-leb w 4096 (omega (arith, leb-false (count_all t ks) 4096 e)))

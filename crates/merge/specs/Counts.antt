@@ -1,5 +1,6 @@
 -- FORMAT.md, "Limits", of a section's keys as one number: 1 for each, and 4,097, which is too many, for one that passes a limit.
-use Rattle.std.specs.Prelude.{◌≡◌, ℕ, ◌+◌, Bool, true, ◌&&◌, cond, List, [], ◌∷◌, length, leb, eqb}
+use Rattle.std.specs.Prelude.{◌≡◌, ℕ, ◌+◌, Bool, true, ◌&&◌, cond, Option, Some, None, List, [], ◌∷◌, length, leb, eqb}
+use mathlib.Core.Path.{ap, refl}
 use Rattle.wire.specs.Keys.{Key}
 use Rattle.wire.specs.declared.bpos.Bpos.{Bpos}
 use Rattle.calls.specs.Lists.{all_of}
@@ -25,3 +26,20 @@ count_queued t y p = cond (eqb y 0) 0 (count_of t y p)
 unfoldable pub count_all : ℕ → List Key → ℕ
 count_all t [] = 0
 count_all t (k ∷ ks) = count_of t k.type k.pos + count_all t ks
+
+-- a count as a number, and back
+abbrev pub count_number : Option ℕ → ℕ
+count_number (Some n) = n
+count_number None = 4097
+
+abbrev pub count_within : ℕ → Option ℕ
+count_within n = cond (leb n 4096) (Some n) None
+
+-- none, or up to 4,096
+abbrev pub Counted : Option ℕ → Type 0
+Counted (Some n) = leb n 4096 ≡ true
+Counted None = Unit {0}
+
+pub count-back : (o : Option ℕ) → Counted o → count_within (count_number o) ≡ o
+count-back (Some n) h = ap (λ b. cond b (Some n) None) h
+count-back None h = refl

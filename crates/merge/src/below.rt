@@ -4,13 +4,14 @@ ghost use Rattle.wire.specs.Bytes.{All};
 ghost use Rattle.sorting.specs.EntryPlaces.{entries_at};
 ghost use Rattle.merge.specs.Queues.{below, beyond, skip_at};
 ghost use Rattle.merge.specs.Counts.{StandsWithin};
-ghost use Rattle.merge.specs.Merging.{Left, left_in, Stretched, Put, KeyCounted};
+ghost use Rattle.merge.specs.Merging.{Left, left_in, stretch_of, Stretched, Put, KeyCounted};
 
-use crate::limits;
+use crate::limits::KeyCount;
 use sorting::bound::Bound;
 use sorting::{bound, entries};
 use std::marker::Model;
 use wire::bpos::Bpos;
+use wire::key_types::KeyType;
 use wire::output::Output;
 use wire::{bpos, fields};
 
@@ -19,16 +20,29 @@ use wire::{bpos, fields};
 pub struct Stretch {
     pub n: usize,
     pub end: usize,
-    pub count: usize,
+    pub count: KeyCount,
 }
 
-// What is left of the keys of a section, by their places in the volume, and how many keys were written so far, as `limits` counts.
+impl Stretch {
+    // The stretch of n fields, if there are any.
+    fn of(n: usize, end: usize, count: KeyCount) -> Option<Stretch>
+        ensures { result ≡ stretch_of n end count }
+    {
+        if n == 0 {
+            None
+        } else {
+            Some(Stretch { n, end, count })
+        }
+    }
+}
+
+// What is left of the keys of a section, by their places in the volume, and how many keys were written so far.
 #[derive(Drop)]
 pub struct Rest<'a> {
     section: u8,
     vol: &'a [u8],
     keys: &'a [u32],
-    count: usize,
+    count: KeyCount,
 }
 
 // It is seen as the keys themselves. Each is within its limits.
@@ -40,15 +54,16 @@ impl<'a> Model for Rest<'a> {
     ghost invariant = { λ r. All (StandsWithin r.section r.vol.now) r.keys.now };
 }
 
-// Keys that stand side by side from a place on, as far as they are below the limit. The table shows that they are keys, and refusal 3 that each is within its limits.
+// Keys that stand side by side from a place on, as far as they are below the limit; none where the first is not. The table shows that they are keys, and refusal 3 that each is within
+// its limits. A function of the parts of a `Rest` and no method of it: the model of a `Rest` leaves out the volume, whose bytes the stretch is.
 fn pass_below(
     vol: &[u8],
     keys: &[u32],
     start: usize,
-    counted: usize,
+    counted: KeyCount,
     section: u8,
     lim: Bound,
-) -> Stretch
+) -> Option<Stretch>
     requires { All (StandsWithin section vol.now) keys.now × (0 < length keys.now) × (start + 3 ≡ get_or keys.now 0 0) }
     ensures { Stretched section vol.now keys.now start counted lim result }
 {
@@ -57,29 +72,25 @@ fn pass_below(
     for (n, key) in keys.iter().enumerate() {
         let o = *key as usize;
         if o != end + 3 || !bound::is_under(lim, entries::pos_at(vol, o, section)) {
-            return Stretch { n, end, count };
+            return Stretch::of(n, end, count);
         }
-        count = limits::add_within(count);
+        count = count.add_within();
         end = o + fields::len_at(vol, o);
     }
-    Stretch {
-        n: keys.len(),
-        end,
-        count,
-    }
+    Stretch::of(keys.len(), end, count)
 }
 
 impl<'a> Rest<'a> {
-    // All keys of a section, by the table of the volume, after as many written keys as `count`.
-    pub fn new(section: u8, vol: &'a [u8], keys: &'a [u32], count: usize) -> Rest<'a>
+    // All keys of a section, by the table of the volume; none was written.
+    pub fn new(section: u8, vol: &'a [u8], keys: &'a [u32]) -> Rest<'a>
         requires { All (StandsWithin section vol.now) keys.now }
-        ensures { result ≡ left_in section vol.now keys.now count }
+        ensures { result ≡ left_in section vol.now keys.now 0 }
     {
         Rest {
             section,
             vol,
             keys,
-            count,
+            count: KeyCount::new(),
         }
     }
 
@@ -91,7 +102,7 @@ impl<'a> Rest<'a> {
     }
 
     // How many keys were written.
-    pub fn count(&self) -> usize
+    pub fn count(&self) -> KeyCount
         ensures { result ≡ self.now.count }
     {
         self.count
@@ -103,10 +114,10 @@ impl<'a> Rest<'a> {
     {
         while let [first, ..] = self.keys {
             let start = *first as usize - 3;
-            let s = pass_below(self.vol, self.keys, start, self.count, self.section, lim);
-            if s.n == 0 {
+            let Some(s) = pass_below(self.vol, self.keys, start, self.count, self.section, lim)
+            else {
                 return;
-            }
+            };
             out.put_slice(&self.vol[start..s.end]);
             self.keys = &self.keys[s.n..];
             self.count = s.count;
@@ -132,8 +143,8 @@ impl<'a> Rest<'a> {
     pub fn add_shown(&mut self, ty: u8, pos: Bpos)
         ensures { KeyCounted self.old ty pos self.new }
     {
-        if ty != 0 {
-            self.count = limits::add(self.count, self.section, ty, pos);
+        if ty != KeyType::Deleted.number() {
+            self.count = self.count.add(self.section, ty, pos);
         }
     }
 }

@@ -9,6 +9,7 @@ ghost use Rattle.merge.specs.Merging.{Put};
 use crate::below::Rest;
 use sorting::entries;
 use wire::fields;
+use wire::key_types::KeyType;
 use wire::output::Output;
 
 // A queued key of a type, unless it is a deletion. `refill` and `sort_queue` show that one starts at o, here and below.
@@ -16,7 +17,7 @@ fn put_shown(out: &mut Output, list: &[u8], o: usize, section: u8, ty: u8)
     requires { EntryAt section list.now o × (ty ≡ (entry_from section list.now o).type) }
     ensures { out.new ≡ with_bytes out.old (section_bytes section (shown (entry_from section list.now o))) }
 {
-    if ty != 0 {
+    if ty != KeyType::Deleted.number() {
         let len = fields::len_at(list, o);
         out.put_head(section, len);
         out.put_slice(&list[o..o + len]);

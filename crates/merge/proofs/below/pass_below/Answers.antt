@@ -13,11 +13,12 @@ pos_at-requires c = (all-nth 0 c.requires.0 _ c.loop-n-test.true).stands.kept
 
 pub returns-then-o-end : goal.returns-then-o-end
 returns-then-o-end c =
-    elim c.then-o-end.branch [
+    rw c.of.ensures
+    (elim c.then-o-end.branch [
       | then-o-end-via-then-o-end w ↦ stretched-apart c.loop-n.invariant c.requires.2 w.if-o-end.true
       | then-o-end-via-else-o-end+then-not-is_under w ↦
           stretched-stop c.loop-n.invariant c.loop-n-test.true (cc (w.pos_at.ensures, w.is_under.ensures, w.if-not-is_under.true))
-    ]
+    ])
 
 pub len_at-requires : goal.len_at-requires
 len_at-requires c =

@@ -3,4 +3,4 @@ use Rattle.merge.proofs.MergeLaws.{Stretching}
 use Rattle.merge.proofs.below.pass_below.Given as goal
 
 abbrev pub invariant-loop-n : goal.invariant-loop-n
-invariant-loop-n l = Stretching l.section l.vol l.keys l.start l.counted l.lim l.n l.end l.count
+invariant-loop-n l = Stretching l.section l.vol l.keys l.start l.fn.counted l.lim l.n l.end l.count

@@ -17,15 +17,15 @@ slice_bounds-put_slice-end c =
     let h : c.args.o + c.len_at-len.result ≤ length c.args.list.now = omega (arith, c.len_at-len.ensures, c.requires.0.within) in
     omega arith
 
-pub returns-then-ty-ne0 : goal.returns-then-ty-ne0
+pub returns-then-ty-number : goal.returns-then-ty-number
 unfolding size_at
-returns-then-ty-ne0 c =
+returns-then-ty-number c =
     let n : c.args.o + c.len_at-len.result - c.args.o ≡ c.len_at-len.result = omega arith in
     rw (c.put_slice.ensures, c.put_head.ensures, n, with-with)
     (ap (with_bytes c.args.out.now)
-    (shown-bytes (bytes-from _ (λ i. let b = c.type_inv.list i in omega arith)) c.requires.0 (λ z. c.if-ty-ne0.true (c.requires.1 ∙ z))
+    (shown-bytes (bytes-from _ (λ i. let b = c.type_inv.list i in omega arith)) c.requires.0 (λ z. c.if-ty-number.true (c.requires.1 ∙ z ∙ sym c.number.ensures))
     c.len_at-len.ensures))
 
-pub returns-else-ty-ne0 : goal.returns-else-ty-ne0
-returns-else-ty-ne0 c =
-    sym (ap (with_bytes c.args.out.now) (shown-none c.args.section _ (sym c.requires.1 ∙ c.if-ty-ne0.false)) ∙ with-none c.args.out.now)
+pub returns-else-ty-number : goal.returns-else-ty-number
+returns-else-ty-number c =
+    sym (ap (with_bytes c.args.out.now) (shown-none c.args.section _ (sym c.requires.1 ∙ (c.if-ty-number.false ∙ c.number.ensures))) ∙ with-none c.args.out.now)

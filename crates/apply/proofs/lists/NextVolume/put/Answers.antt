@@ -7,7 +7,7 @@ pub loop-i-init : goal.loop-i-init
 loop-i-init c = rw (← c.self.view_is) (sections-start c.self.invariant.0 c.self.invariant.1 c.put_front.ensures)
 
 pub loop-i-preserved : goal.loop-i-preserved
-loop-i-preserved c = rw c.max-most.ensures (sections-on c.loop-i.invariant c.loop-i-test.true c.put_section.ensures)
+loop-i-preserved c = rw c.is_within-within.ensures (sections-on c.loop-i.invariant c.loop-i-test.true c.put_section.ensures)
 
 pub returns : goal.returns
 returns c =

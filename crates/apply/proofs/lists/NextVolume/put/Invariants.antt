@@ -3,4 +3,4 @@ use Rattle.apply.proofs.ResultLaws.{Sectioning}
 use Rattle.apply.proofs.lists.NextVolume.put.Given as goal
 
 abbrev pub invariant-loop-i : goal.invariant-loop-i
-invariant-loop-i l = Sectioning l.self l.fn.out l.out l.most l.i
+invariant-loop-i l = Sectioning l.self l.fn.out l.out l.within l.i

@@ -9,15 +9,15 @@ use Rattle.merge.proofs.below.Rest.put_below.Goals as goal
 keys-left : (l : List ℕ) (n : ℕ) → take (length l - n) (drop n l) ≡ drop n l
 keys-left l n = take_all (length l - n) (drop n l) (omega (arith, length-drop n l))
 
-pub returns-then-s-eq0 : goal.returns-then-s-eq0
-returns-then-s-eq0 c =
-    let e = c.pass_below-s.ensures.none c.if-s-eq0.true in
+pub returns-in_default-pass_below : goal.returns-in_default-pass_below
+returns-in_default-pass_below c =
+    let e = c.in_default-pass_below.ensures in
     writing-end _ _ _ _ c.loop-self.invariant.0 e.0 e.1
 
 pub loop-self-preserved : goal.loop-self-preserved
 loop-self-preserved c =
-    let e = keys-left c.loop-self.self-inside.keys.now c.pass_below-s.result.n in (
-      writing-on _ _ _ _ c.loop-self.invariant.0 c.pass_below-s.ensures c.put_slice.ensures e,
+    let e = keys-left c.loop-self.self-inside.keys.now c.in-Some.s.n in (
+      writing-on _ _ _ _ c.loop-self.invariant.0 c.in-Some.ensures c.put_slice.ensures e,
       rw e (all_drop _ c.loop-self.invariant.1),
     )
 
