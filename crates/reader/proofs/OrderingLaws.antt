@@ -67,7 +67,7 @@ module _ (t : ℕ) (body : List ℕ) where
   unfolding key_fits field_within
   within-key y p e f n = rw (e, f, ne_eqb t 64 n) (go (eqb t 4) (eqb t 12) (eqb t 11) refl refl refl)
     where
-      abbrev k : Key
+      k : Key
       k = key_of body
 
       go :

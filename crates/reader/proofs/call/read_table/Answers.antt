@@ -43,7 +43,7 @@ sort_table-requires c =
 
 pub returns-in_err-sort_table : goal.returns-in_err-sort_table
 returns-in_err-sort_table c =
-    let p = err_from_is_err_and c.from_residual.result c.from_residual.ensures.1 in
+    let p = err_from_is_err_and c.from_residual-in_err-sort_table.result c.from_residual-in_err-sort_table.ensures.1 in
     rw (p.1, p.2)
     (read_twice (c.survey.ensures.found _ c.in_ok-laid.ensures.ok_part) _ c.read_head-first.ensures (sym c.counts_within.ensures ∙ c.in-Some.is)
     _ refl (rw c.unwrap_or.ensures at c.in_err-sort_table.ensures))
