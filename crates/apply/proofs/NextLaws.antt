@@ -29,7 +29,8 @@ use Rattle.calls.proofs.encoding.Blocks.{field, keeps, shaped_out}
 use Rattle.reader.proofs.BoolLaws.{same}
 use Rattle.reader.proofs.DoubledLaws.{entries-bodies}
 use Rattle.sorting.specs.Entries.{sections, bucket_key, is_entry, entries, field_for, section_bytes}
-use Rattle.merge.specs.Counts.{key_fits, section_within}
+use Rattle.reader.specs.CallFields.{key_fits}
+use Rattle.merge.specs.Counts.{section_within}
 use Rattle.apply.specs.Roots.{roots_after, front_bytes}
 use Rattle.apply.proofs.BatchLaws.{tree-changes, bucket-changes, head-changes}
 use Rattle.apply.specs.NextVolume.{section_keys, next_of}

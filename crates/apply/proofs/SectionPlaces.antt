@@ -21,7 +21,8 @@ use Rattle.reader.proofs.PartsLaws.{volume-passed}
 use Rattle.reader.proofs.OfferedLaws.{here-length}
 use Rattle.sorting.specs.Entries.{sections, is_entry, entry_of}
 use Rattle.sorting.specs.EntryPlaces.{size_at, tag_at, entry_from, entries_at, Stands}
-use Rattle.merge.specs.Counts.{key_fits, StandsWithin, section_within}
+use Rattle.reader.specs.CallFields.{key_fits}
+use Rattle.merge.specs.Counts.{StandsWithin, section_within}
 use Rattle.apply.specs.NextVolume.{Ready, section_keys, SectionReady}
 use Rattle.apply.proofs.VolumeLaws.{SectionOf, parted}
 use Rattle.apply.proofs.NextLaws.{section-within}

@@ -11,7 +11,8 @@ use Rattle.wire.specs.Keys.{Key}
 use Rattle.wire.specs.declared.bpos.Bpos.{Bpos}
 use Rattle.calls.specs.Lists.{all_of}
 use Rattle.calls.proofs.lists.BoolLaws.{parts}
-use Rattle.merge.specs.Counts.{key_fits, section_within, count_of, count_all}
+use Rattle.reader.specs.CallFields.{key_fits}
+use Rattle.merge.specs.Counts.{section_within, count_of, count_all}
 
 module _ (t y : ℕ) (p : Bpos) where
   pub count_fits : key_fits t y p ≡ true → count_of t y p ≡ 1

@@ -1,19 +1,10 @@
 -- FORMAT.md, "Limits", of a section's keys as one number: 1 for each, and 4,097, which is too many, for one that passes a limit.
-use Rattle.std.specs.Prelude.{◌≡◌, ℕ, ◌+◌, Bool, true, not, ◌&&◌, ◌||◌, cond, List, [], ◌∷◌, length, leb, eqb}
+use Rattle.std.specs.Prelude.{◌≡◌, ℕ, ◌+◌, Bool, true, ◌&&◌, cond, List, [], ◌∷◌, length, leb, eqb}
 use Rattle.wire.specs.Keys.{Key}
-use Rattle.wire.specs.Kinds.{bucket_in_range, run_end_in_range}
-use Rattle.wire.specs.Positions.{bucket_in}
 use Rattle.wire.specs.declared.bpos.Bpos.{Bpos}
 use Rattle.calls.specs.Lists.{all_of}
+use Rattle.reader.specs.CallFields.{key_fits}
 use Rattle.sorting.specs.EntryPlaces.{Stands, entry_from}
-
--- a key of type y at p is within the limits of section t
-unfoldable pub key_fits : ℕ → ℕ → Bpos → Bool
-key_fits t y p =
-    cond (eqb t 64) (bucket_in_range (bucket_in p))
-    (cond (eqb t 4) (not (eqb p.inode 0) || bucket_in_range (bucket_in p))
-    (cond (eqb t 12) (not (eqb y 25) || bucket_in_range (bucket_in p))
-    (cond (eqb t 11) (not (eqb y 25 && eqb p.inode 0) || run_end_in_range (bucket_in p)) true)))
 
 -- a key of a volume starts at o, and is within the limits of section t
 pub record StandsWithin (t : ℕ) (s : List ℕ) (o : ℕ) : Type 0 where

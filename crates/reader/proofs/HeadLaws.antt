@@ -11,7 +11,7 @@ use native.Mathlib.Nat.{add-zero}
 use native.Mathlib.Omega.{arith}
 use Rattle.wire.specs.Numbers.{le}
 use Rattle.wire.specs.Fields.{fields, field_at}
-use Rattle.wire.proofs.NumberLaws.{body-le, body-length, le-take}
+use Rattle.wire.proofs.NumberLaws.{body-le}
 use Rattle.wire.proofs.FieldLaws.{FieldAt}
 use Rattle.calls.specs.Lists.{those}
 use Rattle.calls.specs.CallList.{Head, head_of, head_ok, bodies, first_body, call_list_of}

@@ -1,20 +1,19 @@
 -- Which field may stand after another, and which keeps the limits, by their tests.
-use Prim.Native.Nat.{ℕ, ◌+◌, ◌≤◌, ◌<◌}
-use mathlib.Core.Path.{◌≡◌, refl, sym}
+use Prim.Native.Nat.{ℕ, ◌≤◌, ◌<◌}
+use mathlib.Core.Path.{◌≡◌, refl}
 use mathlib.Core.List.{List}
-use mathlib.Core.Bool.{Bool, true, false, not, ◌&&◌, ◌||◌}
+use mathlib.Core.Bool.{Bool, true, false, cond}
 use lib.ListN.{drop}
 use lib.Dec.{eqb}
-use borrow.Author.Tests.{le-leb, lt-leb, lt-ltb, le-ltb, eq-eqb, ne_eqb}
+use borrow.Author.Tests.{le-leb, lt-leb, lt-ltb, le-ltb, eq-eqb, eqb-true, ne_eqb}
 use native.Mathlib.Omega.{arith}
 use Rattle.wire.specs.Numbers.{le}
 use Rattle.wire.specs.Keys.{Key, pos_of, key_of}
 use Rattle.wire.specs.Order.{pos_less}
-use Rattle.wire.specs.Kinds.{bucket_read, bucket_below, bucket_in_range, run_end_in_range}
-use Rattle.wire.specs.Positions.{bucket_in}
+use Rattle.wire.specs.Kinds.{bucket_read, bucket_below, bucket_in_range}
 use Rattle.wire.specs.declared.bpos.Bpos.{Bpos}
 use Rattle.wire.specs.declared.kinds.Bucket.{Bucket}
-use Rattle.reader.specs.CallFields.{least_of, ascends, follows, alloc_within, run_within, waiting_within, field_within}
+use Rattle.reader.specs.CallFields.{least_of, ascends, follows, alloc_within, run_within, waiting_within, key_fits, field_within}
 
 -- what a tag asks of a body's length
 pub least-key : (t : ℕ) → t ≤ 14 → least_of t ≡ 37
@@ -59,90 +58,37 @@ module _ (last : ℕ) (before : List ℕ) (t : ℕ) (body : List ℕ) where
   unfolding follows
   follows_same e = rw e (simp (le-ltb t t (omega arith), eq-eqb t t refl))
 
--- the limits of a key, by its position and its type
-module _ (body : List ℕ) where
+-- the limits of a field
+module _ (t : ℕ) (body : List ℕ) where
   abbrev key : Key
   key = key_of body
 
-  module _ (p : Bpos) (e : p ≡ pos_of (drop 17 body)) where
-    pos-here : key.pos ≡ p
-    pos-here = sym e
+  -- those of its key
+  pub within-key :
+      (y : ℕ) (p : Bpos) → y ≡ le 1 body → p ≡ pos_of (drop 17 body) → (t ≡ 64 → ⊥) → key_fits t y p ≡ field_within (record { tag = t; body = body })
+  unfolding key_fits field_within
+  within-key y p e f n = rw (e, f, ne_eqb t 64 n) (go (eqb t 4) (eqb t 12) (eqb t 11) refl refl refl)
+    where
+      go :
+          (a b c : Bool) → eqb t 4 ≡ a → eqb t 12 ≡ b → eqb t 11 ≡ c
+          → cond (eqb t 4) (alloc_within key) (cond (eqb t 12) (waiting_within key) (cond (eqb t 11) (run_within key) true))
+          ≡ cond (eqb t 4) (alloc_within key) (cond (eqb t 11) (run_within key) (cond (eqb t 12) (waiting_within key) true))
+      go true b c x y z = rw x refl
+      go false false c x y z = rw (x, y) refl
+      go false true false x y z = rw (x, y, z) refl
+      go false true true x y z = absurd (omega (arith, eqb-true t 12 y, eqb-true t 11 z))
 
-    pub alloc-other : (p.inode ≡ 0 → ⊥) → true ≡ alloc_within key
-    alloc-other h = by-pos key.pos pos-here
-      where
-        by-pos : (q : Bpos) → q ≡ p → true ≡ (not (eqb q.inode 0) || bucket_in_range (bucket_in q))
-        by-pos q z = rw z (simp (ne_eqb p.inode 0 h))
+  pub within-reserved : t ≡ 64 → field_within (record { tag = t; body = body }) ≡ bucket_in_range (bucket_read body)
+  unfolding field_within
+  within-reserved e = rw e
 
-    pub alloc-here : p.inode ≡ 0 → bucket_in_range (bucket_in p) ≡ alloc_within key
-    alloc-here h = by-pos key.pos pos-here
-      where
-        by-pos : (q : Bpos) → q ≡ p → bucket_in_range (bucket_in p) ≡ (not (eqb q.inode 0) || bucket_in_range (bucket_in q))
-        by-pos q z = rw z (simp (eq-eqb p.inode 0 h))
+  pub within-others :
+      (t ≡ 4 → ⊥) → (t ≡ 11 → ⊥) → (t ≡ 12 → ⊥) → (t ≡ 64 → ⊥) → field_within (record { tag = t; body = body }) ≡ true
+  unfolding field_within
+  within-others a b d e = simp (ne_eqb t 4 a, ne_eqb t 11 b, ne_eqb t 12 d, ne_eqb t 64 e)
 
-    pub run-away : (k : ℕ) → k ≡ le 1 body → k ≡ 25 → (p.inode ≡ 0 → ⊥) → true ≡ run_within key
-    run-away k f g h = by-pos key.pos key.type pos-here (sym f)
-      where
-        by-pos :
-            (q : Bpos) (x : ℕ) → q ≡ p → x ≡ k
-            → true ≡ (not (eqb x 25 && eqb q.inode 0) || run_end_in_range (bucket_in q))
-        by-pos q x z y = rw (z, y) (simp (eq-eqb k 25 g, ne_eqb p.inode 0 h))
-
-    pub run-here :
-        (k : ℕ) → k ≡ le 1 body → k ≡ 25 → p.inode ≡ 0 → run_end_in_range (bucket_in p) ≡ run_within key
-    run-here k f g h = by-pos key.pos key.type pos-here (sym f)
-      where
-        by-pos :
-            (q : Bpos) (x : ℕ) → q ≡ p → x ≡ k
-            → run_end_in_range (bucket_in p) ≡ (not (eqb x 25 && eqb q.inode 0) || run_end_in_range (bucket_in q))
-        by-pos q x z y = rw (z, y) (simp (eq-eqb k 25 g, eq-eqb p.inode 0 h))
-
-    pub waiting-here : (k : ℕ) → k ≡ le 1 body → k ≡ 25 → bucket_in_range (bucket_in p) ≡ waiting_within key
-    waiting-here k f g = by-pos key.pos key.type pos-here (sym f)
-      where
-        by-pos :
-            (q : Bpos) (x : ℕ) → q ≡ p → x ≡ k → bucket_in_range (bucket_in p) ≡ (not (eqb x 25) || bucket_in_range (bucket_in q))
-        by-pos q x z y = rw (z, y) (simp (eq-eqb k 25 g))
-
-  module _ (k : ℕ) (e : k ≡ le 1 body) (n : k ≡ 25 → ⊥) where
-    pub run-other : true ≡ run_within key
-    run-other = by-type key.type key.pos (sym e)
-      where
-        by-type : (x : ℕ) (q : Bpos) → x ≡ k → true ≡ (not (eqb x 25 && eqb q.inode 0) || run_end_in_range (bucket_in q))
-        by-type x q z = rw z (simp (ne_eqb k 25 n))
-
-    pub waiting-other : true ≡ waiting_within key
-    waiting-other = by-type key.type key.pos (sym e)
-      where
-        by-type : (x : ℕ) (q : Bpos) → x ≡ k → true ≡ (not (eqb x 25) || bucket_in_range (bucket_in q))
-        by-type x q z = rw z (simp (ne_eqb k 25 n))
-
-  module _ (t : ℕ) where
-    pub within-alloc : t ≡ 4 → field_within (record { tag = t; body = body }) ≡ alloc_within (key_of body)
-    unfolding field_within
-    within-alloc e = rw e
-
-    pub within-run : t ≡ 11 → field_within (record { tag = t; body = body }) ≡ run_within (key_of body)
-    unfolding field_within
-    within-run e = rw e
-
-    pub within-waiting : t ≡ 12 → field_within (record { tag = t; body = body }) ≡ waiting_within (key_of body)
-    unfolding field_within
-    within-waiting e = rw e
-
-    pub within-reserved : t ≡ 64 → field_within (record { tag = t; body = body }) ≡ bucket_in_range (bucket_read body)
-    unfolding field_within
-    within-reserved e = rw e
-
-    pub within-others :
-        (t ≡ 4 → ⊥) → (t ≡ 11 → ⊥) → (t ≡ 12 → ⊥) → (t ≡ 64 → ⊥) → field_within (record { tag = t; body = body }) ≡ true
-    unfolding field_within
-    within-others a b d e = simp (ne_eqb t 4 a, ne_eqb t 11 b, ne_eqb t 12 d, ne_eqb t 64 e)
-
--- one key's limits, one field's, and the order of two bodies and of two fields, by their tags
-pub ruleset limit_cases = (alloc-other, alloc-here, run-other, run-away, run-here, waiting-other, waiting-here)
-
-pub ruleset within_cases = (least-key, least-reserved, within-alloc, within-run, within-waiting, within-reserved, within-others)
+-- one field's limits, and the order of two bodies and of two fields, by their tags
+pub ruleset within_cases = (least-key, least-reserved, within-key, within-reserved, within-others)
 
 pub ruleset ascends_cases = (least-key, least-reserved, ascends-keys, ascends-buckets, ascends-others)
 

@@ -1,28 +1,19 @@
 -- Fields at their places, and the lengths of those that may be listed.
 use Prim.Native.Nat.{ℕ, ◌+◌, ◌-◌, ◌≤◌}
-use mathlib.Core.Path.{◌≡◌, refl, sym, ◌∙◌, ap, subst}
-use mathlib.Core.Logic.{⊎_elim}
+use mathlib.Core.Path.{◌≡◌, sym, ◌∙◌, ap}
 use Rattle.std.proofs.Common.{None}
 use mathlib.Core.List.{List, [], ◌∷◌}
-use mathlib.Core.Bool.{Bool, true, false, not, ◌&&◌, ◌||◌, cond}
+use mathlib.Core.Bool.{Bool, true, false, cond}
 use lib.ListN.{length, take, drop, get_or}
 use lib.Seq.{drop-drop, get_or-drop}
-use lib.Dec.{leb, ltb, eqb}
-use borrow.Author.Tests.{eq-eqb, ne_eqb, eqb-true, leb-true}
+use lib.Dec.{leb}
 use native.Mathlib.Omega.{arith}
 use Rattle.wire.specs.Numbers.{le}
 use Rattle.wire.specs.Fields.{FieldPlace, step_of, found}
-use Rattle.wire.specs.Keys.{pos_of, key_of}
-use Rattle.wire.specs.Order.{pos_less}
-use Rattle.wire.specs.Kinds.{bucket_read, bucket_below, bucket_in_range, run_end_in_range}
-use Rattle.wire.specs.Positions.{bucket_in}
-use Rattle.wire.proofs.NumberLaws.{le-take}
-use Rattle.wire.proofs.KeyLaws.{pos-at}
 use Rattle.wire.proofs.FieldLaws.{FieldAt}
 use Rattle.reader.specs.CallFields.{least_of}
 use Rattle.reader.specs.Table.{FieldHere}
-use Rattle.reader.proofs.ShapeLaws.{same_or}
-use Rattle.reader.proofs.OrderingLaws.{least-key, least-reserved}
+use Rattle.reader.proofs.OrderingLaws.{least-key}
 use Rattle.reader.proofs.ListedLaws.{FieldListed, key, reserved, piece, freed, key-tag-bounds}
 
 -- the lengths of a listed field

@@ -4,7 +4,7 @@ use Prim.Native.Nat.{ℕ, ◌≤◌, ◌<◌}
 use native.Mathlib.Omega.{arith}
 use mathlib.Core.Path.{◌≡◌, refl, sym, ◌∙◌, ap}
 use mathlib.Core.List.{List}
-use mathlib.Core.Bool.{Bool, true, false, not, ◌||◌, cond}
+use mathlib.Core.Bool.{Bool, true, false, not, cond}
 use lib.ListN.{length, take, drop}
 use Rattle.calls.specs.CallList as calls
 use Rattle.calls.specs.CallList.{head_of, none_twice}
@@ -47,12 +47,6 @@ ended-in n l =
       within = omega (arith, n.within);
     }
 
--- neither of two tests
-both_false : (a b : Bool) → (a || not b) ≡ false → (a ≡ false) × (b ≡ true)
-both_false false true h = (refl, refl)
-both_false false false h = absurd (clash refl h)
-both_false true b h = absurd (clash refl h)
-
 module _
     {call : ℕ} {any : Bool} {s index : List ℕ} {p : Laid} (found : LaidFound call any s index p) (first : Head)
     (e : head_in first ≡ head_of (take 39 (drop p.head s))) where
@@ -63,39 +57,38 @@ module _
   past-asked = record { sections = laid-sectioned s call any found.laid; once = found.once }
 
   -- a limit is passed
-  past-within : (p.over || not (head_within (head_in first))) ≡ true → list_within (read_call s) ≡ false
-  past-within h = go p.over refl h
-    where
-      go : (o : Bool) → p.over ≡ o → (o || not (head_within (head_in first))) ≡ true → list_within (read_call s) ≡ false
-      go true z k = found.past z
-      go false z k = fails _ _ (head-kept s) (not-true (head_within (read_volume s).head) (ap (λ (h : calls.Head). not (head_within h)) (sym head-is) ∙ k))
-        where
-          not-true : (b : Bool) → not b ≡ true → b ≡ false
-          not-true true x = absurd (clash x refl)
-          not-true false x = refl
+  past-within : (w : Bool) → head_within (head_in first) ≡ w → cond w p.counts None ≡ None → list_within (read_call s) ≡ false
+  past-within true w h = found.past h
+  past-within false w h = fails _ _ (head-kept s) (ap head_within (sym head-is) ∙ w)
 
-  pub read_past : (n : ℕ) → (p.over || not (head_within (head_in first))) ≡ true → n ≡ cond (none_twice (read_volume s)) 3 22 → RefusedBy s call any n
-  read_past n h k = rw k (past-refused s call any found.laid (past-within h))
+  pub read_past : (n : ℕ) → cond (head_within (head_in first)) p.counts None ≡ None → n ≡ cond (none_twice (read_volume s)) 3 22 → RefusedBy s call any n
+  read_past n h k = rw k (past-refused s call any found.laid (past-within (head_within (head_in first)) refl h))
 
   -- none is passed
-  module _ (h : (p.over || not (head_within (head_in first))) ≡ false) where
-    counted : Counted call s p.counts index
-    counted = found.counted (both_false p.over (head_within (head_in first)) h).0
+  module _ {c : List ℕ} (h : cond (head_within (head_in first)) p.counts None ≡ Some c) where
+    both : (w : Bool) → head_within (head_in first) ≡ w → cond w p.counts None ≡ Some c → (p.counts ≡ Some c) × (head_within (head_in first) ≡ true)
+    both true w k = (k, w)
+    both false w k = absurd (let y : ◌≡◌ {A = ℕ} 0 1 = cc in omega arith)
+
+    counts-are : p.counts ≡ Some c
+    counts-are = (both (head_within (head_in first)) refl h).0
+
+    counted : Counted call s c index
+    counted = found.counted c counts-are
 
     kept-within : list_within (read_call s) ≡ true
-    kept-within =
-        counted.within (ap head_within (sym head-is) ∙ (both_false p.over (head_within (head_in first)) h).1)
+    kept-within = counted.within (ap head_within (sym head-is) ∙ (both (head_within (head_in first)) refl h).1)
 
-    pub table_fits : rank_end p.counts 8 ≤ 29696
+    pub table_fits : rank_end c 8 ≤ 29696
     table_fits = counted.fits
 
-    pub table-sortable : (e : Ends) → e ≡ ends_in p.counts → Sortable call s index e
-    table-sortable e z = rw z (sortable s call any found.laid index (ends_in p.counts) kept-within counted.short counted.ends)
+    pub table-sortable : (e : Ends) → e ≡ ends_in c → Sortable call s index e
+    table-sortable e z = rw z (sortable s call any found.laid index (ends_in c) kept-within counted.short counted.ends)
 
-    pub read-ordered : (e : Ends) → e ≡ ends_in p.counts → p.ordered ≡ true → (0 ≡ list_refusal call any s) × TableRead call s index first e
+    pub read-ordered : (e : Ends) → e ≡ ends_in c → p.ordered ≡ true → (0 ≡ list_refusal call any s) × TableRead call s index first e
     read-ordered e z o = (
       accepted s call any found.laid (found.once o) kept-within,
-      rw z (record { head = head-is; ends = counted.ends; table = found.table o (both_false p.over (head_within (head_in first)) h).0 }),
+      rw z (record { head = head-is; ends = counted.ends; table = found.table o c counts-are }),
     )
 
     -- with the table that is sorted
@@ -106,7 +99,7 @@ module _
         was-false true x = absurd (clash (sym x) refl)
         was-false false x = refl
 
-    pub read-sorted : (e : Ends) → e ≡ ends_in p.counts → {index' : List ℕ} → length index' ≡ length index → (r : Bool) → r ≡ false → Arranged call s index' e r
+    pub read-sorted : (e : Ends) → e ≡ ends_in c → {index' : List ℕ} → length index' ≡ length index → (r : Bool) → r ≡ false → Arranged call s index' e r
         → (0 ≡ list_refusal call any s) × TableRead call s index' first e
     read-sorted e z l r q a = (
       accepted s call any found.laid (was-true (none_twice (read_volume s)) (sym q ∙ a.double)) kept-within,

@@ -1,22 +1,18 @@
 -- Which fields may stand in a list, by their tags.
-use Prim.Native.Nat.{ℕ, ◌+◌, ◌≤◌, ◌<◌}
-use mathlib.Core.Path.{◌≡◌, refl, sym, ap}
+use Prim.Native.Nat.{ℕ, ◌≤◌, ◌<◌}
+use mathlib.Core.Path.{◌≡◌, refl, sym}
 use mathlib.Core.Logic.{◌⊎◌, inl, inr, ⊎_elim}
 use mathlib.Core.List.{List, [], ◌∷◌}
 use mathlib.Core.Bool.{Bool, true, false, ◌&&◌, ◌||◌, cond, or-false, and-true}
-use lib.ListN.{length, take, drop}
+use lib.ListN.{length}
 use lib.Dec.{leb, eqb}
-use borrow.Author.Tests.{eq-eqb, eqb-true, eqb-false, leb-true, ne_eqb, le-leb}
+use borrow.Author.Tests.{eqb-true, eqb-false, leb-true, ne_eqb, le-leb}
 use native.Mathlib.Omega.{arith}
-use Rattle.wire.specs.Numbers.{le}
-use Rattle.wire.specs.Keys.{pos_of, key_of, key_sized}
-use Rattle.wire.specs.declared.bpos.Bpos.{Bpos}
-use Rattle.wire.specs.Fields.{Field, field_at}
-use Rattle.wire.proofs.KeyLaws.{pos-at}
-use Rattle.wire.proofs.NumberLaws.{body-length, le-take}
+use Rattle.wire.specs.Keys.{key_sized}
+use Rattle.wire.specs.Fields.{Field}
 use Rattle.calls.specs.CallList.{Shape, shaped, volume_shapes, exactly, request_shapes}
 use Rattle.calls.specs.Lists.{all_of}
-use Rattle.calls.specs.ChangeList.{change_shapes, root_listed, field_ok}
+use Rattle.calls.specs.ChangeList.{change_shapes, field_ok}
 use Rattle.reader.proofs.BoolLaws.{apart, and_left, and_right}
 use Rattle.reader.specs.CallFields.{rest_shapes, call_field_ok}
 use Rattle.reader.specs.Bodies.{key_ok, root_ok, change_field_ok}

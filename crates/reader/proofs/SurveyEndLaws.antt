@@ -8,7 +8,7 @@ use lib.ListN.{length, take, drop, get_or, length-map, drop_of_length-le}
 use lib.Dec.{eqb}
 use borrow.Author.Tests.{ne_eqb, eqb-true, eqb-false}
 use native.Mathlib.Omega.{arith}
-use Rattle.wire.specs.Fields.{Field, fields_after, fields, field_at, whole}
+use Rattle.wire.specs.Fields.{Field, fields_after, fields, whole}
 use Rattle.wire.proofs.FieldLaws.{whole-end}
 use Rattle.calls.specs.Lists.{all_of, those, in_order}
 use Rattle.calls.specs.CallList.{head_of, bodies, first_body, call_list_of, none_twice}
@@ -16,7 +16,7 @@ use Rattle.calls.specs.Limits.{list_within}
 use Rattle.calls.specs.Answers.{read_call, read_volume}
 use Rattle.calls.proofs.encoding.Blocks.{field}
 use Rattle.reader.specs.CallFields.{any_field_ok, others, follows, ascends, head_within, field_within}
-use Rattle.reader.specs.Table.{most_of, rank_end, Fits, sorted_bodies, Indexed, Ended, ends_in, request_bodies, request_tag, Tabled}
+use Rattle.reader.specs.Table.{most_of, rank_end, Fits, sorted_bodies, Indexed, Ended, ends_in, request_bodies, request_tag, Tabled, counted_of}
 use Rattle.reader.specs.Readings.{laid_as}
 use Rattle.reader.specs.Surveyed.{Counted, LaidFound, Surveyed, OrderSurveyed}
 use Rattle.reader.specs.declared.table.PlaceTable.{PlaceTable}
@@ -268,16 +268,28 @@ module _
               requests = table_is 7 (request_tag call) (request_bodies call (fields s)) (omega arith) rank-requests;
             }
 
-    pub ends_found : (ordered : Bool) → (ordered ≡ true → last.tag ≡ 255 → ⊥) → LaidFound call any s table.index.now (record { head = b; over = over; ordered = ordered; counts = table.counts })
-    ends_found ordered told =
+    -- what is counted, where there are counts
+    uncounted : (o : Bool) → over ≡ o → cond o None (Some table.counts) ≡ None → list_within (read_call s) ≡ false
+    uncounted true z h = ends-past z
+    uncounted false z h = absurd (let y : ◌≡◌ {A = ℕ} 0 1 = cc in omega arith)
+
+    kept_counts : (P : List ℕ → Type 0) → (over ≡ false → P table.counts) → (o : Bool) → over ≡ o → (c : List ℕ) → cond o None (Some table.counts) ≡ Some c → P c
+    kept_counts P f true z c h = absurd (let y : ◌≡◌ {A = ℕ} 0 1 = cc in omega arith)
+    kept_counts P f false z c h =
+        let y : table.counts ≡ c = cc in
+        subst P y (f z)
+
+    pub ends_found : (ordered : Bool) → (ordered ≡ true → last.tag ≡ 255 → ⊥) → (r : Option (List ℕ)) → r ≡ counted_of over table
+        → LaidFound call any s table.index.now (record { head = b; ordered = ordered; counts = r })
+    ends_found ordered told r e =
         record {
           laid = ends-laid;
           inside = g.inside b some;
           first = ends-head;
-          past = ends-past;
-          counted = ends-counted;
+          past = λ h. uncounted over refl (sym e ∙ h);
+          counted = λ c h. kept_counts (λ x. Counted call s x table.index.now) ends-counted over refl c (sym e ∙ h);
           once = λ o. ends-once (told o);
-          table = λ o z. ends-indexed z (told o);
+          table = λ o c h. kept_counts (λ x. Indexed call s table.index.now (ends_in x)) (λ z. ends-indexed z (told o)) over refl c (sym e ∙ h);
         }
 
 -- the one outcome of the pass, or the other

@@ -1,6 +1,6 @@
 -- The pass over a list at its start: where no order is told, and where field 1 stands first.
 use Prim.Native.Nat.{ℕ, ◌+◌}
-use mathlib.Core.Path.{◌≡◌, refl, sym, ◌∙◌, ap}
+use mathlib.Core.Path.{refl, sym, ◌∙◌, ap}
 use mathlib.Core.Logic.{inr}
 use Rattle.std.proofs.Common.{Option, Some, None}
 use mathlib.Core.List.{List, []}

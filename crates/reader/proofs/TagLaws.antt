@@ -6,11 +6,12 @@ use mathlib.Core.Bool.{true, false}
 use native.Mathlib.Omega.{arith}
 use borrow.Author.Tests.{ne_eqb}
 use Rattle.wire.specs.Tags.{tag_number}
+use Rattle.wire.specs.declared.bpos.Bpos.{Bpos}
 use Rattle.wire.specs.declared.tags.Tag.{Tag}
 use Rattle.wire.specs.declared.tags.Tag.TheVariants.{Key, Reserved, Piece, Freed, Root, Taken, Spot, Row, Sectors, Unreserved, End}
 use Rattle.wire.specs.declared.trees.Tree.TheVariants.{Extents, Alloc, Lru, Freespace, NeedDiscard, Backpointers, BucketGens}
 use Rattle.reader.specs.Bodies.{change_field_ok}
-use Rattle.reader.specs.CallFields.{call_field_ok, field_within}
+use Rattle.reader.specs.CallFields.{call_field_ok, key_fits, field_within}
 use Rattle.reader.specs.Table.{rank_of}
 use Rattle.reader.proofs.ShapeLaws.{change-none, call_none}
 use Rattle.reader.proofs.OrderingLaws.{within-others}
@@ -29,7 +30,17 @@ module _ {n : ℕ} (u : (t : Tag) → n ≡ tag_number t → ⊥) where
   call-unnamed call body = sym (call_none call n body (u (Key Alloc)) no_key (u Reserved) (u Piece) (u Freed))
 
   pub within-unnamed : (body : List ℕ) → true ≡ field_within (record { tag = n; body = body })
-  within-unnamed body = sym (within-others body n (u (Key Alloc)) (u (Key Freespace)) (u (Key NeedDiscard)) (u Reserved))
+  within-unnamed body = sym (within-others n body (u (Key Alloc)) (u (Key Freespace)) (u (Key NeedDiscard)) (u Reserved))
+
+  pub fits-unnamed : (y : ℕ) (p : Bpos) → true ≡ key_fits n y p
+  unfolding key_fits
+  fits-unnamed y p =
+      simp (
+        ne_eqb n 64 (u Reserved),
+        ne_eqb n 4 (u (Key Alloc)),
+        ne_eqb n 12 (u (Key NeedDiscard)),
+        ne_eqb n 11 (u (Key Freespace)),
+      )
 
   pub rank-unnamed : 7 ≡ rank_of n
   unfolding rank_of

@@ -5,6 +5,7 @@ use Rattle.wire.specs.Keys.{Key, key_of}
 use Rattle.wire.specs.Order.{pos_less}
 use Rattle.wire.specs.Kinds.{bucket_read, bucket_below, bucket_in_range, run_end_in_range, base_in_range}
 use Rattle.wire.specs.Positions.{bucket_in}
+use Rattle.wire.specs.declared.bpos.Bpos.{Bpos}
 use Rattle.calls.specs.Lists.{those}
 use Rattle.calls.specs.CallList.{Head, head_of, head_ok, Shape, shaped, volume_shapes, request_shapes}
 use Rattle.calls.specs.ChangeList.{field_ok}
@@ -51,6 +52,14 @@ waiting_within k = not (is_set k) || bucket_in_range (bucket_in k.pos)
 
 abbrev pub run_within : Key → Bool
 run_within k = not (is_run k) || run_end_in_range (bucket_in k.pos)
+
+-- a key of type y at p is within the limits of section t; a reserved bucket is a key at inode 0 and its number
+unfoldable pub key_fits : ℕ → ℕ → Bpos → Bool
+key_fits t y p =
+    cond (eqb t 64) (bucket_in_range (bucket_in p))
+    (cond (eqb t 4) (not (eqb p.inode 0) || bucket_in_range (bucket_in p))
+    (cond (eqb t 12) (not (eqb y 25) || bucket_in_range (bucket_in p))
+    (cond (eqb t 11) (not (eqb y 25 && eqb p.inode 0) || run_end_in_range (bucket_in p)) true)))
 
 -- limits on one field after field 1, and on field 1
 unfoldable pub field_within : Field → Bool

@@ -17,16 +17,16 @@ pub record Counted (call : ℕ) (s counts index : List ℕ) : Type 0 where
   pub fits : rank_end counts 8 ≤ 29696
   pub short : length s ≤ 0xffff_ffff
 
--- a list that is laid out: the body of field 1 starts at `head`; `over` tells that a limit beside the head's is passed, `ordered` that the fields
--- beside field 1 ascend
+-- a list that is laid out: the body of field 1 starts at `head`; there are no `counts` where a limit beside the head's is passed, and `ordered` tells
+-- that the fields beside field 1 ascend
 pub record LaidFound (call : ℕ) (any : Bool) (s index : List ℕ) (p : Laid) : Type 0 where
   pub laid : laid_as call any s ≡ true
   pub inside : p.head + 39 ≤ length s
   pub first : head_of (take 39 (drop p.head s)) ≡ (read_volume s).head
-  pub past : p.over ≡ true → list_within (read_call s) ≡ false
-  pub counted : p.over ≡ false → Counted call s p.counts index
+  pub past : p.counts ≡ None → list_within (read_call s) ≡ false
+  pub counted : (c : List ℕ) → p.counts ≡ Some c → Counted call s c index
   pub once : p.ordered ≡ true → none_twice (read_volume s) ≡ true
-  pub table : p.ordered ≡ true → p.over ≡ false → Indexed call s index (ends_in p.counts)
+  pub table : p.ordered ≡ true → (c : List ℕ) → p.counts ≡ Some c → Indexed call s index (ends_in c)
 
 -- a field 1 of this call, or of any, stands first
 pub record HeadAt (call : ℕ) (any : Bool) (s : List ℕ) (f : code.Field) : Type 0 where

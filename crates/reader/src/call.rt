@@ -1,5 +1,5 @@
 // Call lists and volumes: refusals 2, 22 and 3. A list in order is judged in one pass; any other has its table sorted.
-ghost use Rattle.std.specs.Prelude.{◌≡◌, ◌<◌, ◌||◌, not, cond, unwrap_or, is_none};
+ghost use Rattle.std.specs.Prelude.{◌≡◌, ◌<◌, cond, None, unwrap_or, is_none};
 ghost use Rattle.calls.specs.CallList.{none_twice};
 ghost use Rattle.calls.specs.Answers.{read_volume};
 ghost use Rattle.reader.specs.CallFields.{head_within};
@@ -13,14 +13,19 @@ ghost use Rattle.reader.specs.Readings.{list_refusal, TableAnswered, refusal_of,
 use crate::head::Head;
 use crate::read_list::ReadList;
 use crate::refusal::Refusal;
+use crate::survey::Laid;
 use crate::table::Ends;
 use crate::{arrange, head, read_list, survey, table};
 
-// Whether a limit is passed, by a field or by the head.
-fn past_limit(over: bool, first: Head) -> bool
-    ensures { result ≡ (over || not (head_within (head_in first))) }
+// How many fields there are of each rank, unless a limit is passed, by one of them or by the head.
+fn counts_within(laid: Laid, first: Head) -> Option<[usize; 8]>
+    ensures { result ≡ cond (head_within (head_in first)) laid.counts None }
 {
-    over || !head::head_within(first)
+    if head::head_within(first) {
+        laid.counts
+    } else {
+        None
+    }
 }
 
 // The refusal of a list that passes a limit: 22 where a position stands twice, else 3. The pass over it shows what is asked.
@@ -42,14 +47,12 @@ fn read_table(s: &[u8], asked: Option<u8>, index: &mut [u32]) -> Result<(Head, E
     requires { Fits s.now index.old }
     ensures { TableAnswered (list_refusal (unwrap_or asked 0) (is_none asked) s.now) (unwrap_or asked 0) s.now index.new result }
 {
-    let Some(laid) = survey::survey(s, asked, index) else {
-        return Err(Refusal::Layout);
-    };
+    let laid = survey::survey(s, asked, index).ok_or(Refusal::Layout)?;
     let first = head::read_head(s, laid.head);
-    if past_limit(laid.over, first) {
+    let Some(counts) = counts_within(laid, first) else {
         return Err(past_refusal(s, laid.ordered));
-    }
-    let ends = table::ends_of(laid.counts);
+    };
+    let ends = table::ends_of(counts);
     if laid.ordered {
         return Ok((first, ends));
     }

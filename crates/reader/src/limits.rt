@@ -1,46 +1,32 @@
-// The limits of FORMAT.md on one field.
+// The limits of FORMAT.md on one key and on one field.
 ghost use Rattle.std.specs.Prelude.{◌≡◌, ◌≤◌, length};
-ghost use Rattle.wire.specs.Keys.{key_of};
 ghost use Rattle.wire.specs.FieldsFound.{field_in};
-ghost use Rattle.reader.specs.CallFields.{alloc_within, run_within, waiting_within, field_within, least_of};
+ghost use Rattle.reader.specs.CallFields.{key_fits, field_within, least_of};
 
+use wire::bpos::Bpos;
 use wire::fields::Field;
 use wire::key_types::KeyType;
 use wire::tags::Tag;
 use wire::trees::Tree;
 use wire::{keys, kinds, positions};
 
-// Whether an alloc key at inode 0 is of a bucket in range. A key's length shows the bound here and below.
-#[tactic(auto, using(crate::proofs::OrderingLaws::limit_cases))]
-fn alloc_within(body: &[u8]) -> bool
-    requires { 37 ≤ length body.now }
-    ensures { result ≡ alloc_within (key_of body.now) }
+// Whether a key of a section, by its type and its position, is within the limits. A reserved bucket is a key at inode 0 and its number.
+#[tactic(auto, unfolding(crate::specs::CallFields::key_fits))]
+pub fn key_fits(section: u8, key_type: u8, pos: Bpos) -> bool
+    ensures { result ≡ key_fits section key_type pos }
 {
-    let pos = keys::pos_at(body, 0);
-    pos.inode != 0 || kinds::bucket_in_range(positions::bucket_in(pos))
-}
-
-// Whether a type 25 freespace key at inode 0 ends in range.
-#[tactic(auto, using(crate::proofs::OrderingLaws::limit_cases))]
-fn run_within(body: &[u8]) -> bool
-    requires { 37 ≤ length body.now }
-    ensures { result ≡ run_within (key_of body.now) }
-{
-    if keys::type_at(body, 0) != KeyType::Set.number() {
+    let Some(tag) = Tag::named(section) else {
         return true;
+    };
+    let b = positions::bucket_in(pos);
+    let is_set = key_type == KeyType::Set.number();
+    match tag {
+        Tag::Reserved => kinds::bucket_in_range(b),
+        Tag::Key(Tree::Alloc) => pos.inode != 0 || kinds::bucket_in_range(b),
+        Tag::Key(Tree::NeedDiscard) => !is_set || kinds::bucket_in_range(b),
+        Tag::Key(Tree::Freespace) => !is_set || pos.inode != 0 || kinds::run_end_in_range(b),
+        _ => true,
     }
-    let pos = keys::pos_at(body, 0);
-    pos.inode != 0 || kinds::run_end_in_range(positions::bucket_in(pos))
-}
-
-// Whether a need-discard key of type 25 is of a bucket in range.
-#[tactic(auto, using(crate::proofs::OrderingLaws::limit_cases))]
-fn waiting_within(body: &[u8]) -> bool
-    requires { 37 ≤ length body.now }
-    ensures { result ≡ waiting_within (key_of body.now) }
-{
-    keys::type_at(body, 0) != KeyType::Set.number()
-        || kinds::bucket_in_range(positions::bucket_in(keys::pos_at(body, 0)))
 }
 
 // Whether a field after field 1 keeps the limits. The length that its tag asks shows the bound.
@@ -53,9 +39,11 @@ pub fn field_within(field: Field) -> bool
         return true;
     };
     match tag {
-        Tag::Key(Tree::Alloc) => alloc_within(field.body),
-        Tag::Key(Tree::Freespace) => run_within(field.body),
-        Tag::Key(Tree::NeedDiscard) => waiting_within(field.body),
+        Tag::Key(_) => key_fits(
+            field.tag,
+            keys::type_at(field.body, 0),
+            keys::pos_at(field.body, 0),
+        ),
         Tag::Reserved => kinds::bucket_in_range(kinds::read_bucket(field.body, 0)),
         _ => true,
     }

@@ -5,79 +5,56 @@ ghost use Rattle.reader.specs.Refusals.{number_of};
 #[derive(Clone, Copy, Debug, PartialEq, Eq, Drop)]
 pub enum Refusal {
     // 1: the scratch that is lent is too short.
-    ShortScratch,
+    ShortScratch = 1,
     // 2: the list breaks the layout, names another call or holds requests of another; or the buckets asked for do not ascend.
-    Layout,
+    Layout = 2,
     // 3: a limit is passed.
-    Limit,
+    Limit = 3,
     // 4: a bucket has no sectors.
-    NoSectors,
+    NoSectors = 4,
     // 5: the checksum option is none that there is.
-    ChecksumOption,
+    ChecksumOption = 5,
     // 6: a compression kind is none that there is.
-    CompressionKind,
+    CompressionKind = 6,
     // 7: a kind other than 0 meets checksum option 0.
-    NoChecksum,
+    NoChecksum = 7,
     // 8: the block sectors do not divide both the bucket sectors and 128.
-    BlockSectors,
+    BlockSectors = 8,
     // 9: a piece's sectors are not as a bucket, a block and its kind allow.
-    PieceSectors,
+    PieceSectors = 9,
     // 10: two runs of free buckets overlap.
-    RunsOverlap,
+    RunsOverlap = 10,
     // 11: too few buckets are free.
-    TooFewFree,
+    TooFewFree = 11,
     // 12: the walk meets a run whose size is above its offset.
-    RunBeforeBuckets,
+    RunBeforeBuckets = 12,
     // 13: the walk would take a bucket that is in use.
-    BucketInUse,
+    BucketInUse = 13,
     // 14: a piece has 0 or over 128 sectors, passes the end of its bucket, or has a bucket that is none.
-    OutsideBucket,
+    OutsideBucket = 14,
     // 15: a bucket has no alloc key at inode 0.
-    NoAlloc,
+    NoAlloc = 15,
     // 16: its alloc value is too short.
-    ShortAlloc,
+    ShortAlloc = 16,
     // 17: its dirty sectors are more than a bucket has.
-    DirtyPastBucket,
+    DirtyPastBucket = 17,
     // 18: more is freed of it than is dirty.
-    FreedPastDirty,
+    FreedPastDirty = 18,
     // 19: it is emptied and its generation record is too short.
-    ShortGens,
+    ShortGens = 19,
     // 20: a discard's batch has no buckets.
-    NoBatch,
+    NoBatch = 20,
     // 21: the output is too short.
-    ShortOutput,
+    ShortOutput = 21,
     // 22: a key of a tree or a reserved bucket stands twice.
-    Twice,
+    Twice = 22,
 }
 
 impl Refusal {
-    // Its number.
+    // Its number. By this name and not by `From`: the crates above ask for the number of a refusal, and there is one number for it.
     pub fn number(self) -> u32
         ensures { result ≡ number_of self }
     {
-        match self {
-            Refusal::ShortScratch => 1,
-            Refusal::Layout => 2,
-            Refusal::Limit => 3,
-            Refusal::NoSectors => 4,
-            Refusal::ChecksumOption => 5,
-            Refusal::CompressionKind => 6,
-            Refusal::NoChecksum => 7,
-            Refusal::BlockSectors => 8,
-            Refusal::PieceSectors => 9,
-            Refusal::RunsOverlap => 10,
-            Refusal::TooFewFree => 11,
-            Refusal::RunBeforeBuckets => 12,
-            Refusal::BucketInUse => 13,
-            Refusal::OutsideBucket => 14,
-            Refusal::NoAlloc => 15,
-            Refusal::ShortAlloc => 16,
-            Refusal::DirtyPastBucket => 17,
-            Refusal::FreedPastDirty => 18,
-            Refusal::ShortGens => 19,
-            Refusal::NoBatch => 20,
-            Refusal::ShortOutput => 21,
-            Refusal::Twice => 22,
-        }
+        self as u32
     }
 }

@@ -15,12 +15,10 @@ use wire::tags::Tag;
 pub struct Laid {
     // Where the body of field 1 starts.
     pub head: usize,
-    // Whether a limit beside the head's is passed.
-    pub over: bool,
     // Whether the other fields are in order.
     pub ordered: bool,
-    // How many of them there are of each rank, unless a limit is passed.
-    pub counts: [usize; 8],
+    // How many of them there are of each rank; none where a limit beside the head's is passed.
+    pub counts: Option<[usize; 8]>,
 }
 
 // Whether the body of a field 1 is one of the call that is asked for, or of any where none is.
@@ -55,7 +53,7 @@ fn passes(over: bool, field: Field, table: &mut PlaceTable) -> bool
     over || !limits::field_within(field) || !table.note(table::rank_of(field.tag), field.start)
 }
 
-// The pass over a list in any order, of the call that is asked for, or of whatever call its head names: field 1 may stand anywhere, and no order is told; none where the list breaks the layout. The table that is lent shows the bound, and a field that passes the end breaks the layout, here and below.
+// The pass over a list in any order, of the call that is asked for, or of whatever call its head names: field 1 may stand anywhere, and no order is told. None where the list breaks the layout, as a field that passes the end does. `Fits` says that the table that is lent is long enough.
 fn survey_any(s: &[u8], asked: Option<u8>, index: &mut [u32]) -> Option<Laid>
     requires { Fits s.now index.old }
     ensures { Surveyed (unwrap_or asked 0) (is_none asked) s.now index.new result }
@@ -79,13 +77,12 @@ fn survey_any(s: &[u8], asked: Option<u8>, index: &mut [u32]) -> Option<Laid>
     }
     Some(Laid {
         head: head?,
-        over,
         ordered: false,
-        counts: table.counts,
+        counts: table.counted(over),
     })
 }
 
-// The pass over a list that begins with field 1 and whose other fields are in order; none of any other list. Field 1 is the one before the first of them.
+// The pass over a list that begins with field 1 and whose other fields are in order; none of any other list. Field 1 is the one before the first of them. `Fits` is as above.
 fn survey_ordered(s: &[u8], asked: Option<u8>, index: &mut [u32]) -> Option<Laid>
     requires { Fits s.now index.old }
     ensures { OrderSurveyed (unwrap_or asked 0) (is_none asked) s.now index.new result }
@@ -107,9 +104,8 @@ fn survey_ordered(s: &[u8], asked: Option<u8>, index: &mut [u32]) -> Option<Laid
     }
     Some(Laid {
         head: head.start,
-        over,
         ordered: true,
-        counts: table.counts,
+        counts: table.counted(over),
     })
 }
 

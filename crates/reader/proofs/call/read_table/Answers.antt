@@ -1,42 +1,52 @@
-use Rattle.std.proofs.Common.{sym, ◌∙◌, rules}
+use Rattle.std.proofs.Common.{Option, Result, sym, ◌∙◌, ap, rules}
+use Rattle.std.proofs.lemmas.Result.{err_from_is_err_and}
+use Rattle.std.specs.Option.{ok_or}
+use Rattle.reader.specs.Refusals.{number_in}
+use Rattle.reader.specs.declared.survey.Laid.{Laid}
+use Rattle.reader.specs.declared.refusal.Refusal.{Refusal}
+use Rattle.reader.specs.declared.refusal.Refusal.TheVariants.{Layout}
 use Rattle.reader.proofs.ListRefusalLaws.{broken}
 use Rattle.reader.proofs.ReadLaws.{past-asked, read_past, table_fits, table-sortable, read-ordered, read_twice, read-sorted}
 use Rattle.reader.proofs.call.read_table.Goals as goal
 
-pub returns-in_default : goal.returns-in_default
-returns-in_default c = broken _ _ _ (c.survey.ensures.broken c.in_default.is)
+pub returns-in_err-laid : goal.returns-in_err-laid
+returns-in_err-laid c =
+    let p = err_from_is_err_and c.from_residual.result c.from_residual.ensures.1 in
+    let none = c.in_err-laid.ensures.ok_part in
+    let layout = ap (λ (r : Result Laid Refusal). number_in r) (c.in_err-laid.ensures.value ∙ ap (λ (o : Option Laid). ok_or o Layout) none) in
+    rw (p.1, p.2, layout) (broken _ _ _ (c.survey.ensures.broken none))
 
 pub read_head-first-requires : goal.read_head-first-requires
-read_head-first-requires c = (c.survey.ensures.found _ c.in-Some.is).inside
+read_head-first-requires c = (c.survey.ensures.found _ c.in_ok-laid.ensures.ok_part).inside
 
 pub past_refusal-requires : goal.past_refusal-requires
-past_refusal-requires c = past-asked (c.survey.ensures.found _ c.in-Some.is) _ c.read_head-first.ensures
+past_refusal-requires c = past-asked (c.survey.ensures.found _ c.in_ok-laid.ensures.ok_part) _ c.read_head-first.ensures
 
-pub returns-then-past_limit : goal.returns-then-past_limit
-returns-then-past_limit c =
-    read_past (c.survey.ensures.found _ c.in-Some.is) _ c.read_head-first.ensures _ (sym c.past_limit.ensures ∙ c.if-past_limit.true) c.past_refusal.ensures
+pub returns-in_default : goal.returns-in_default
+returns-in_default c =
+    read_past (c.survey.ensures.found _ c.in_ok-laid.ensures.ok_part) _ c.read_head-first.ensures _ (sym c.counts_within.ensures ∙ c.in_default.is) c.past_refusal.ensures
 
 pub ends_of-ends-requires : goal.ends_of-ends-requires
 ends_of-ends-requires c =
-    table_fits (c.survey.ensures.found _ c.in-Some.is) _ c.read_head-first.ensures (sym c.past_limit.ensures ∙ c.if-past_limit.false)
+    table_fits (c.survey.ensures.found _ c.in_ok-laid.ensures.ok_part) _ c.read_head-first.ensures (sym c.counts_within.ensures ∙ c.in-Some.is)
 
 pub returns-then-laid : goal.returns-then-laid
 returns-then-laid c =
-    read-ordered (c.survey.ensures.found _ c.in-Some.is) _ c.read_head-first.ensures (sym c.past_limit.ensures ∙ c.if-past_limit.false) _
+    read-ordered (c.survey.ensures.found _ c.in_ok-laid.ensures.ok_part) _ c.read_head-first.ensures (sym c.counts_within.ensures ∙ c.in-Some.is) _
     c.ends_of-ends.ensures c.if-laid.true
 
 pub sort_table-requires : goal.sort_table-requires
 sort_table-requires c =
     rw c.unwrap_or.ensures
-    (table-sortable (c.survey.ensures.found _ c.in-Some.is) _ c.read_head-first.ensures (sym c.past_limit.ensures ∙ c.if-past_limit.false) _
+    (table-sortable (c.survey.ensures.found _ c.in_ok-laid.ensures.ok_part) _ c.read_head-first.ensures (sym c.counts_within.ensures ∙ c.in-Some.is) _
     c.ends_of-ends.ensures)
 
 pub returns-then-sort_table : goal.returns-then-sort_table
 returns-then-sort_table c =
-    read_twice (c.survey.ensures.found _ c.in-Some.is) _ c.read_head-first.ensures (sym c.past_limit.ensures ∙ c.if-past_limit.false)
+    read_twice (c.survey.ensures.found _ c.in_ok-laid.ensures.ok_part) _ c.read_head-first.ensures (sym c.counts_within.ensures ∙ c.in-Some.is)
     _ c.if-sort_table.true (rw c.unwrap_or.ensures at c.sort_table.ensures)
 
 pub returns : goal.returns
 returns c =
-    read-sorted (c.survey.ensures.found _ c.in-Some.is) _ c.read_head-first.ensures (sym c.past_limit.ensures ∙ c.if-past_limit.false) _
+    read-sorted (c.survey.ensures.found _ c.in_ok-laid.ensures.ok_part) _ c.read_head-first.ensures (sym c.counts_within.ensures ∙ c.in-Some.is) _
     c.ends_of-ends.ensures (search rules) _ c.if-sort_table.false (rw c.unwrap_or.ensures at c.sort_table.ensures)

@@ -78,5 +78,5 @@ returns c =
     let i = c.loop-field.invariant in
     let e = to-the-end i.0 c.in_default.ensures.steps c.if-not-at_end.ensures in
     let same = sym c.new-table.ensures.same_reference ∙ sym i.2 in
-    let laid = laid-found (ends_found _ _ _ _ _ _ _ _ i.1 e _ c.in_ok-head.was false (λ z. absurd (clash z refl))) in
+    let laid = laid-found (ends_found _ _ _ _ _ _ _ _ i.1 e _ c.in_ok-head.was false (λ z. absurd (clash z refl)) _ c.counted.ensures) in
     search (same, laid, rules)

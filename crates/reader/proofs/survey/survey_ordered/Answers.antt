@@ -52,5 +52,5 @@ returns c =
     let i = c.loop-field.invariant in
     let e = to-the-end i.0 c.in_default.ensures.steps c.if-not-at_end.ensures in
     let same = sym c.new-table.ensures.same_reference ∙ sym i.3 in
-    let laid = ordered-found i.1.fits (ends_found _ _ _ _ _ _ _ _ i.1 e _ refl true (λ z. i.2)) refl in
+    let laid = ordered-found i.1.fits (ends_found _ _ _ _ _ _ _ _ i.1 e _ refl true (λ z. i.2) _ c.counted.ensures) refl in
     search (same, laid, rules)
