@@ -4,9 +4,11 @@ use mathlib.Core.Path.{◌≡◌, refl, sym, ◌∙◌, ap}
 use mathlib.Core.List.{List, []}
 use lib.ListN.{length, take, drop}
 use lib.Seq.{take_all}
-use lib.Dec.{eqb}
-use borrow.Author.Tests.{eq-eqb, ne_eqb}
-use mathlib.Core.Bool.{Bool, false, ◌&&◌, ◌||◌}
+use lib.Dec.{leb, ltb, eqb}
+use borrow.Author.Tests.{leb-true, eq-eqb, ne_eqb}
+use Rattle.std.proofs.Common.{Option, Some, None}
+use Rattle.std.specs.Prelude.{is_some}
+use mathlib.Core.Bool.{Bool, true, false, ◌&&◌, ◌||◌, and_assoc}
 use native.Mathlib.Nat.{add-zero}
 use native.Mathlib.Omega.{arith}
 use Rattle.wire.specs.Numbers.{le}
@@ -17,6 +19,9 @@ use Rattle.calls.specs.Lists.{those}
 use Rattle.calls.specs.CallList.{Head, head_of, head_ok, bodies, first_body, call_list_of}
 use Rattle.reader.specs.CallFields.{head_field_ok}
 use Rattle.reader.specs.Heads.{call_byte}
+use Rattle.reader.specs.CallKinds.{CallNamed}
+use Rattle.reader.specs.declared.call_kinds.Call.{Call}
+use Rattle.reader.specs.declared.call_kinds.Call.TheVariants.{Place, Release, Discard}
 use Rattle.reader.proofs.ListLaws.{bodies-here, bodies-other}
 
 module _ (s : List ℕ) (at : ℕ) where
@@ -97,5 +102,27 @@ module _ (call : ℕ) (any : Bool) (body : List ℕ) where
   head-told h e k =
       let g : head_of body ≡ h = ap head_of (sym (take_all 39 body (omega arith))) ∙ sym k in
       simp (eq-eqb (length body) 39 e, g)
+
+-- a head's call and its roots
+module _ (h : Head) where
+  call_named : (r : Option Call) → CallNamed h.call r → is_some r ≡ (leb 1 h.call && leb h.call 3)
+  call_named (Some Place) e = rw e refl
+  call_named (Some Release) e = rw e refl
+  call_named (Some Discard) e = rw e refl
+  call_named None u = go (leb 1 h.call) (leb h.call 3) refl refl
+    where
+      go : (p q : Bool) → leb 1 h.call ≡ p → leb h.call 3 ≡ q → false ≡ (p && q)
+      go false q x y = refl
+      go true false x y = refl
+      go true true x y = absurd (omega (arith, leb-true 1 h.call x, leb-true h.call 3 y, u Place, u Release, u Discard))
+
+  module _ (r : Option Call) (n : CallNamed h.call r) where
+    pub head-called : true ≡ is_some r → ltb h.roots 8 ≡ head_ok h
+    unfolding head_ok
+    head-called e = rw (← and_assoc (leb 1 h.call) (leb h.call 3) (ltb h.roots 8), sym (e ∙ call_named r n)) refl
+
+    pub head-uncalled : false ≡ is_some r → false ≡ head_ok h
+    unfolding head_ok
+    head-uncalled e = rw (← and_assoc (leb 1 h.call) (leb h.call 3) (ltb h.roots 8), sym (e ∙ call_named r n)) refl
 
 pub ruleset head_cases = (head-missized, head-told)

@@ -1,6 +1,6 @@
 -- Which field may stand after another, and which keeps the limits, by their tests.
 use Prim.Native.Nat.{ℕ, ◌≤◌, ◌<◌}
-use mathlib.Core.Path.{◌≡◌, refl, sym}
+use mathlib.Core.Path.{◌≡◌, refl}
 use mathlib.Core.List.{List}
 use mathlib.Core.Bool.{Bool, true, false, cond}
 use lib.ListN.{drop}
@@ -11,7 +11,6 @@ use Rattle.wire.specs.Numbers.{le}
 use Rattle.wire.specs.Keys.{Key, pos_of, key_of}
 use Rattle.wire.specs.Order.{pos_less}
 use Rattle.wire.specs.Kinds.{bucket_read, bucket_below, bucket_in_range}
-use Rattle.wire.specs.Positions.{bucket_in}
 use Rattle.wire.specs.declared.bpos.Bpos.{Bpos}
 use Rattle.wire.specs.declared.kinds.Bucket.{Bucket}
 use Rattle.reader.specs.CallFields.{least_of, ascends, follows, alloc_within, run_within, waiting_within, key_fits, field_within}
@@ -61,19 +60,19 @@ module _ (last : ℕ) (before : List ℕ) (t : ℕ) (body : List ℕ) where
 
 -- the limits of a field
 module _ (t : ℕ) (body : List ℕ) where
+  abbrev key : Key
+  key = key_of body
+
   -- those of its key
   pub within-key :
       (y : ℕ) (p : Bpos) → y ≡ le 1 body → p ≡ pos_of (drop 17 body) → (t ≡ 64 → ⊥) → key_fits t y p ≡ field_within (record { tag = t; body = body })
   unfolding key_fits field_within
   within-key y p e f n = rw (e, f, ne_eqb t 64 n) (go (eqb t 4) (eqb t 12) (eqb t 11) refl refl refl)
     where
-      k : Key
-      k = key_of body
-
       go :
           (a b c : Bool) → eqb t 4 ≡ a → eqb t 12 ≡ b → eqb t 11 ≡ c
-          → cond (eqb t 4) (alloc_within k) (cond (eqb t 12) (waiting_within k) (cond (eqb t 11) (run_within k) true))
-          ≡ cond (eqb t 4) (alloc_within k) (cond (eqb t 11) (run_within k) (cond (eqb t 12) (waiting_within k) true))
+          → cond (eqb t 4) (alloc_within key) (cond (eqb t 12) (waiting_within key) (cond (eqb t 11) (run_within key) true))
+          ≡ cond (eqb t 4) (alloc_within key) (cond (eqb t 11) (run_within key) (cond (eqb t 12) (waiting_within key) true))
       go true b c x y z = rw x refl
       go false false c x y z = rw (x, y) refl
       go false true false x y z = rw (x, y, z) refl

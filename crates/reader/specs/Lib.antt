@@ -1,6 +1,7 @@
 pub mod Heads
 pub mod Bodies
 pub mod CallFields
+pub mod CallKinds
 pub mod Table
 pub mod Readings
 pub mod Lending

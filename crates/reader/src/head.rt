@@ -6,6 +6,7 @@ ghost use Rattle.calls.specs.CallList.{head_of, head_body, head_ok};
 ghost use Rattle.reader.specs.CallFields.{head_within};
 ghost use Rattle.reader.specs.Heads.{call_byte, head_in, head_sizes};
 
+use crate::call_kinds::Call;
 use wire::fields::Fields;
 use wire::kinds::FileSector;
 use wire::output::Output;
@@ -63,11 +64,10 @@ pub fn read_head(s: &[u8], at: usize) -> Head
 }
 
 // Whether a head names a call, and no root that there is not.
-#[tactic(auto, unfolding(calls::specs::CallList::head_ok))]
 pub fn head_ok(h: Head) -> bool
     ensures { result ≡ head_ok (head_in h) }
 {
-    (1..=3).contains(&h.call) && h.roots < 8
+    Call::named(h.call).is_some() && h.roots < 8
 }
 
 // Whether a head is within FORMAT.md's limits.

@@ -4,6 +4,7 @@
 pub mod answer;
 pub mod arrange;
 pub mod call;
+pub mod call_kinds;
 pub mod change;
 pub mod head;
 pub mod key;

@@ -4,6 +4,7 @@ ghost use Rattle.wire.specs.FieldsFound.{field_in};
 ghost use Rattle.reader.specs.CallFields.{call_field_ok, least_of};
 ghost use Rattle.reader.specs.CallFields as specs;
 
+use crate::call_kinds::Call;
 use crate::keys;
 use wire::fields::Field;
 use wire::tags::Tag;
@@ -15,6 +16,7 @@ use wire::{bpos, keys as wire_keys, kinds};
 pub fn call_field_ok(asked: Option<u8>, field: Field) -> bool
     ensures { result ≡ call_field_ok (unwrap_or asked 0) (field_in field.entry) }
 {
+    let call = asked.unwrap_or(0);
     let len = field.body.len();
     let Some(tag) = Tag::named(field.tag) else {
         return false;
@@ -23,13 +25,13 @@ pub fn call_field_ok(asked: Option<u8>, field: Field) -> bool
         Tag::Key(Tree::Extents) => false,
         Tag::Key(_) => keys::key_ok(field.body),
         Tag::Reserved => len == 4,
-        Tag::Piece => matches!(asked, Some(1)) && len == 13,
-        Tag::Freed => matches!(asked, Some(2)) && len == 10,
+        Tag::Piece => call == Call::Place.number() && len == 13,
+        Tag::Freed => call == Call::Release.number() && len == 10,
         _ => false,
     }
 }
 
-// Whether two bodies of a tag, side by side, ascend. The length that the tag asks shows the bounds.
+// Whether two bodies of a tag, side by side, ascend. The length that the tag asks shows the bounds. By number and not by name: of a tag below 15 that has no name the clause says what it says of a key's.
 #[tactic(auto, using(crate::proofs::OrderingLaws::ascends_cases))]
 fn ascends(tag: u8, before: &[u8], body: &[u8]) -> bool
     requires { (least_of tag ≤ length before.now) × (least_of tag ≤ length body.now) }
