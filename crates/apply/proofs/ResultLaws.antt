@@ -1,11 +1,15 @@
 -- The loop over the sections, and the answer.
 use mathlib.Core.Path.{◌≡◌, refl, ap, sym, ◌∙◌}
 use mathlib.Core.Bool.{Bool, true, false, ◌&&◌, and-true, and_assoc}
-use mathlib.Core.List.{List, [], ◌∷◌, ◌++◌}
+use mathlib.Core.List.{List, [], ◌∷◌, ◌++◌, map}
 use Prim.Native.Nat.{ℕ, ◌+◌, ◌≤◌, ◌<◌, min}
 use native.Mathlib.Omega.{arith}
 use lib.Dec.{leb}
-use lib.ListN.{length, drop, get_or}
+use lib.ListN.{length, drop, get_or, get_or-map}
+use Rattle.std.specs.Borrow.{Bor}
+use Rattle.std.proofs.Common.{Some}
+use Rattle.merge.specs.QueueParts.{InParts}
+use Rattle.merge.specs.declared.queue.Queue.{Queue}
 use Rattle.reader.specs.Heads.{head_in}
 use Rattle.reader.specs.declared.read_list.ReadList.{ReadList}
 use Rattle.reader.proofs.PartsLaws.{volume-passed}
@@ -30,7 +34,7 @@ use Rattle.sorting.specs.EntryPlaces.{entries_at}
 use Rattle.merge.specs.Merging.{Done}
 use Rattle.merge.proofs.CountLaws.{within_is}
 use Rattle.apply.specs.Roots.{roots_after, front_bytes}
-use Rattle.apply.specs.NextVolume.{Lists, bytes_after, Ready, section_keys, next_of, VolumeDone}
+use Rattle.apply.specs.NextVolume.{Lists, bytes_after, Ready, section_keys, next_of, QueueReady, VolumeDone}
 use Rattle.apply.proofs.VolumeLaws.{roots-low}
 use Rattle.apply.proofs.NextLaws.{next_bytes, next_within, next-bytes, next-within}
 
@@ -45,6 +49,15 @@ done-next vol list keys e d = rw e at d
 pub record Sectioning (n : Lists) (o o' : Output) (within : Bool) (i : ℕ) : Type 0 where
   pub wrote : with_bytes o' (each (next_bytes n.volume n.change) (drop i sections)) ≡ with_bytes o (bytes_after n)
   pub fits : (within && all_of (next_within n.volume n.change) (drop i sections)) ≡ volume_within (next_volume n.volume n.change)
+
+-- the part of a queue at an index
+pub queue-ready : {list : List ℕ} (q : Queue) → InParts list (Some q) → (i : ℕ) → i < 7 → (d : Bor (List ℕ)) → d.now ≡ []
+    → QueueReady (get_or sections i 0) list (get_or q.parts i d).now
+queue-ready {list} q p i h d e =
+    let x = p i h in
+    let z : get_or (map (λ (x : Bor (List ℕ)). x.now) q.parts) i [] ≡ (get_or q.parts i d).now =
+    ap (get_or (map (λ (x : Bor (List ℕ)). x.now) q.parts) i) (sym e) ∙ get_or-map (λ (x : Bor (List ℕ)). x.now) q.parts i d in
+    record { kept = rw (← z) x.kept; keys = rw (← z) x.keys }
 
 -- what `roots_after` asks
 pub roots-ready : {r : ReadList} {list : List ℕ} → Ready r list → (r.head.roots < 8) × (change_laid_out list ≡ true)

@@ -1,16 +1,17 @@
 // The next volume, whole.
-ghost use Rattle.std.specs.Prelude.{◌≡◌, ◌-◌, ◌/◌, ◌≤◌, ◌<◌, ◌∷◌, IfSome, length, take, drop, get_or};
+ghost use Rattle.std.specs.Prelude.{◌≡◌, ◌/◌, ◌≤◌, ◌<◌, IfSome, length, get_or};
 ghost use Rattle.reader.specs.Refusals.{made_by};
 ghost use Rattle.calls.specs.Answers.{apply, outcome};
 ghost use Rattle.sorting.specs.Entries.{sections};
 ghost use Rattle.merge.specs.Merging.{Done};
-ghost use Rattle.merge.specs.QueueTable.{InParts};
+ghost use Rattle.merge.specs.QueueParts.{InParts};
 ghost use Rattle.apply.specs.Roots.{roots_after};
 ghost use Rattle.apply.specs.NextVolume.{Lists, bytes_after, Ready, next_of, SectionReady, QueueReady, VolumeDone};
 
 use crate::front;
 use merge::below::Rest;
 use merge::limits::KeyCount;
+use merge::queue::Queue;
 use merge::{merge as merging, queue};
 use reader::answer;
 use reader::answer::Emit;
@@ -20,36 +21,26 @@ use sorting::entries;
 use std::marker::Model;
 use wire::output::Output;
 
-// What the next volume is made of: a volume that was read, with the root bits of the next; a change list, and the table of its queued keys, with where those of each
-// section end where the table holds them.
+// What the next volume is made of: a volume that was read, with the root bits of the next; a change list, and the places of its queued keys by section, where the table that is lent
+// held them.
 #[derive(Drop)]
-pub struct NextVolume<'a> {
+pub struct NextVolume<'a, 'q> {
     read: ReadList<'a>,
     roots: u8,
     list: &'a [u8],
-    table: &'a [usize],
-    queue: Option<[usize; 7]>,
+    queue: Option<Queue<'q>>,
 }
 
 // It is seen as both lists. Their layouts were tested, and the places are theirs.
-impl<'a> Model for NextVolume<'a> {
+impl<'a, 'q> Model for NextVolume<'a, 'q> {
     ghost Value = { Lists };
 
     ghost view = { λ n. record { volume = n.read.list.now; change = n.list.now } };
 
-    ghost invariant = { λ n. Ready n.read n.list.now × (n.roots ≡ roots_after n.list.now n.read.head.roots) × InParts n.list.now n.table.now n.queue };
+    ghost invariant = { λ n. Ready n.read n.list.now × (n.roots ≡ roots_after n.list.now n.read.head.roots) × InParts n.list.now n.queue };
 }
 
-// The part of a table with an index: it begins where the part before ends.
-fn part(table: &[usize], ends: [usize; 7], i: usize) -> &[usize]
-    requires { (i < 7) × (get_or (0 ∷ ends) i 0 ≤ get_or ends i 0) × (get_or ends i 0 ≤ length table.now) }
-    ensures { result.now ≡ take (get_or ends i 0 - get_or (0 ∷ ends) i 0) (drop (get_or (0 ∷ ends) i 0) table.now) }
-{
-    let from = if i == 0 { 0 } else { ends[i - 1] };
-    &table[from..ends[i]]
-}
-
-impl<'a> NextVolume<'a> {
+impl<'a, 'q> NextVolume<'a, 'q> {
     // The places of the keys of a section. The loop over the sections shows the bound, here and below.
     fn keys(&self, i: usize) -> &[u32]
         requires { i < 7 }
@@ -74,7 +65,7 @@ impl<'a> NextVolume<'a> {
         ensures { IfSome result (λ q. QueueReady (get_or sections i 0) self.now.change q.now) }
     {
         match self.queue {
-            Some(ends) => Some(part(self.table, ends, i)),
+            Some(queue) => Some(queue.parts[i]),
             None => None,
         }
     }
@@ -121,7 +112,7 @@ impl<'a> NextVolume<'a> {
     }
 }
 
-impl<'a> Emit for NextVolume<'a> {
+impl<'a, 'q> Emit for NextVolume<'a, 'q> {
     ghost bytes = { bytes_after };
 
     fn emit(&self, out: &mut Output) {
@@ -145,7 +136,6 @@ fn apply_with(
         read: *read,
         roots: front::roots_after(list, read.head.roots),
         list,
-        table,
         queue,
     };
     next.write(out)

@@ -3,3 +3,4 @@ pub mod Places
 pub mod Counts
 pub mod Merging
 pub mod QueueTable
+pub mod QueueParts

@@ -1,5 +1,5 @@
 // Of sorted places, the last at each position.
-ghost use Rattle.std.specs.Prelude.{◌≡◌, ◌≤◌, length, take, drop, get_or};
+ghost use Rattle.std.specs.Prelude.{◌≡◌, drop, get_or};
 ghost use Rattle.wire.specs.Bytes.{All};
 ghost use Rattle.sorting.specs.Lasts.{ahead, lasts};
 ghost use Rattle.sorting.specs.Places.{FieldInside, place_less};
@@ -18,9 +18,9 @@ fn is_ahead(s: &[u8], t: &[usize]) -> bool
 }
 
 // Of places in order, the last at each position, moved to the front in order. The caller's table shows the bounds.
-pub fn keep_last(s: &[u8], t: &mut [usize]) -> usize
+pub fn keep_last<'t>(s: &[u8], t: &'t mut [usize]) -> &'t [usize]
     requires { All (FieldInside s.now) t.old }
-    ensures { (result ≤ length t.new) × (take result t.new ≡ lasts (place_less s.now) t.old) }
+    ensures { result.now ≡ lasts (place_less s.now) t.old }
 {
     // By index: a place is written to the front of the slice whose end is still read.
     let mut n = 0;
@@ -30,5 +30,5 @@ pub fn keep_last(s: &[u8], t: &mut [usize]) -> usize
             n += 1;
         }
     }
-    n
+    &t[..n]
 }

@@ -14,4 +14,4 @@ loop-i-preserved c =
     ]
 
 pub returns : goal.returns
-returns c = keeping-end c.loop-i.invariant (omega arith)
+returns c = (keeping-end c.loop-i.invariant (omega arith)).1
