@@ -1,4 +1,4 @@
--- Laws of reading keys: a key at its place, one field's part of a tree's keys, and the copy of a value.
+-- Laws of reading keys: a key at its place, and one field's part of a tree's keys.
 use Prim.Native.Nat.{ℕ, zero, suc, ◌+◌, ◌-◌, ◌≤◌}
 use mathlib.Core.Path.{◌≡◌}
 use mathlib.Core.List.{List, [], ◌∷◌}
@@ -64,6 +64,6 @@ module _ (s : List ℕ) (t tag b n : ℕ) (fits : b + n ≤ length s) (fs : List
   unfolding keys is_key key_sized
   keys-take e l m = simp (eq-eqb tag t e, body-length s b n fits, le-leb 37 n l, le-leb n 293 m)
 
--- the length of a key's value, as `put_key` asks it
+-- the length of a key's value
 pub value-length : (s : List ℕ) (start len : ℕ) → start + len ≤ length s → length (key_of (take len (drop start s))).value ≡ len - 37
 value-length s start len fits = rw (length-drop, body-length s start len fits)

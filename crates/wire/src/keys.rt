@@ -37,6 +37,7 @@ pub struct KeyHead {
     pub pos: Bpos,
 }
 
+// A key.
 #[derive(Drop)]
 pub struct Bkey {
     pub head: KeyHead,
