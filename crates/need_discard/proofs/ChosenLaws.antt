@@ -10,6 +10,7 @@ use lib.ListN.{length, get_or, set, take, drop, drop_of_length-le}
 use lib.Seq.{take-suc-set, drop-cons, append_snoc}
 use borrow.Author.Tests.{eqb-true, leb-true}
 use Rattle.wire.specs.Bytes.{All}
+use Rattle.wire.specs.Keys.{Key}
 use Rattle.format.specs.Packing.{get}
 use Rattle.format.specs.AllocV4.{gen, data_type}
 use Rattle.calls.specs.Lists.{those}
@@ -35,7 +36,7 @@ unfolding gen_taken
 gen_there s o h l = sym (ap (λ (x : ℕ). ltb x 16) (member-here s o h gen (omega arith)))
 
 -- the key at place i, beside the n that are chosen so far and what is chosen of the rest
-module _ (s needs alloc chosen : List ℕ) (n i : ℕ) (h : i < length alloc) {all : List ℕ}
+module _ (s : List ℕ) (needs : List Key) (alloc chosen : List ℕ) (n i : ℕ) (h : i < length alloc) {all : List ℕ}
     (e : take n chosen ++ discarded_from s needs (drop i alloc) ≡ all) where
   abbrev here : ℕ
   here = get_or alloc i 0
@@ -56,13 +57,13 @@ module _ (s needs alloc chosen : List ℕ) (n i : ℕ) (h : i < length alloc) {a
   unfolding those
   chosen-same t = ap (λ (l : List ℕ). take n chosen ++ l) (sym (rw (split, t) refl)) ∙ e
 
-pub chosen-all : (s needs alloc chosen : List ℕ) (n i : ℕ) {all : List ℕ} → length alloc ≤ i → take n chosen ++ discarded_from s needs (drop i alloc) ≡ all → take n chosen ≡ all
+pub chosen-all : (s : List ℕ) (needs : List Key) (alloc chosen : List ℕ) (n i : ℕ) {all : List ℕ} → length alloc ≤ i → take n chosen ++ discarded_from s needs (drop i alloc) ≡ all → take n chosen ≡ all
 unfolding those
 chosen-all s needs alloc chosen n i h e =
     sym (append-nil (take n chosen)) ∙ ap (λ (l : List ℕ). take n chosen ++ l) (sym (rw (drop_of_length-le alloc h) refl)) ∙ e
 
 -- what is chosen is what the batches want of it
-pub discarded-kept : {s : List ℕ} (needs : List ℕ) {alloc : List ℕ} → All (AllocKept s) alloc → All (DiscardedKept s) (discarded_from s needs alloc)
+pub discarded-kept : {s : List ℕ} (needs : List Key) {alloc : List ℕ} → All (AllocKept s) alloc → All (DiscardedKept s) (discarded_from s needs alloc)
 unfolding is_discarded
 discarded-kept {s} needs a =
     all-imp
@@ -79,5 +80,5 @@ discarded-kept {s} needs a =
     (all-chosen (is_discarded_at s needs) a)
 
 -- no more are chosen than there are
-pub discarded-few : (s needs alloc : List ℕ) {l : List ℕ} {n : ℕ} → l ≡ discarded_from s needs alloc → length alloc ≤ n → length l ≤ n
+pub discarded-few : (s : List ℕ) (needs : List Key) (alloc : List ℕ) {l : List ℕ} {n : ℕ} → l ≡ discarded_from s needs alloc → length alloc ≤ n → length l ≤ n
 discarded-few s needs alloc e h = omega (arith, ap length e, those-length (is_discarded_at s needs) alloc)

@@ -10,7 +10,6 @@ use native.Mathlib.Numerals.{add-one}
 use lib.ListN.{length, get_or, set, take, replicate, length-set, get_or-replicate}
 use lib.Seq.{get_or-set_same, get_or-set_other, take-suc, take-length}
 use borrow.Author.Tests.{eqb-true, eqb-false, ne_eqb, ltb-true}
-use Rattle.wire.specs.Bytes.{All}
 use Rattle.wire.specs.Keys.{Key}
 use Rattle.wire.specs.Kinds.{same_bucket, bucket_in_range}
 use Rattle.wire.specs.declared.kinds.Bucket.{Bucket}
@@ -18,8 +17,8 @@ use Rattle.calls.specs.Limits.{is_set}
 use Rattle.calls.specs.Lists.{is_none}
 use Rattle.calls.specs.Discard.{waiting_key}
 use Rattle.reader.specs.KeyHere.{key_here, keys_here}
-use Rattle.need_discard.specs.Kept.{bucket_here, NeedKept}
-use Rattle.need_discard.specs.Table.{is_of_bucket, Entry, need_place, TableEntries, WaitingTable, wait_noted}
+use Rattle.need_discard.specs.Kept.{bucket_here}
+use Rattle.need_discard.specs.Table.{is_of_bucket, Entry, need_place, TableEntries, wait_noted}
 
 -- one key more: the last that names a bucket stands
 pub waiting-more : (ks : List Key) (k : Key) (b : Bucket) → waiting_key (ks ++ k ∷ []) b ≡ cond (is_of_bucket k b) (some k) (waiting_key ks b)
@@ -121,7 +120,3 @@ module _ (s needs : List ℕ) (b : Bucket) where
 
   pub search-all : (e : Maybe ℕ) (i : ℕ) → i ≡ length needs → Entry s needs (keys_here s (take i needs)) b e → Entry s needs (keys_here s needs) b e
   search-all e i q n = rw (q, take-length needs) at n
-
--- a table that has not an entry for each bucket
-pub unfilled : {s needs table : List ℕ} → All (NeedKept s) needs → length table < 65536 → WaitingTable s needs table
-unfilled k h = record { kept = k; entries = λ l. absurd (omega arith) }

@@ -1,15 +1,14 @@
 -- The table by bucket: which need-discard key is the last that names each bucket.
-use Rattle.std.specs.Prelude.{ℕ, ◌+◌, ◌-◌, ◌≤◌, ◌<◌, ◌≡◌, List, Bool, true, ◌&&◌, cond, eqb, length, get_or, set, Some, None, Option as Maybe}
+use Rattle.std.specs.Prelude.{ℕ, ◌+◌, ◌-◌, ◌<◌, ◌≡◌, List, Bool, true, ◌&&◌, cond, eqb, length, get_or, set, Some, None, Option as Maybe}
 use Rattle.std.proofs.Math.Option.{Option, none, some}
-use Rattle.wire.specs.Bytes.{All}
 use Rattle.wire.specs.Keys.{Key}
 use Rattle.wire.specs.Kinds.{same_bucket, bucket_in_range}
 use Rattle.wire.specs.Positions.{bucket_in}
 use Rattle.wire.specs.declared.kinds.Bucket.{Bucket}
 use Rattle.calls.specs.Limits.{is_set}
 use Rattle.calls.specs.Discard.{waiting_key}
-use Rattle.reader.specs.KeyHere.{key_here, keys_here}
-use Rattle.need_discard.specs.Kept.{bucket_here, NeedKept}
+use Rattle.reader.specs.KeyHere.{key_here}
+use Rattle.need_discard.specs.Kept.{bucket_here}
 use Rattle.wire.specs.declared.bpos.Bpos.{Bpos}
 
 -- where the need-discard key of a bucket stands, if it has one
@@ -33,11 +32,6 @@ need_place e = cond (eqb e 0) None (Some (e - 1))
 -- each bucket within the limit has the entry that these of the need-discard keys give it
 abbrev pub TableEntries : List ℕ → List ℕ → List Key → List ℕ → Type 0
 TableEntries s needs ks table = (b : Bucket) → bucket_in_range b ≡ true → Entry s needs ks b (need_place (get_or table b.0 0))
-
--- A table with an entry for each bucket is filled, and the need-discard keys stand where they are looked for.
-pub record WaitingTable (s needs table : List ℕ) : Type 0 where
-  pub kept : All (NeedKept s) needs
-  pub entries : 65536 ≤ length table → TableEntries s needs (keys_here s needs) table
 
 -- the table after the need-discard key at an offset, the one at place i: a key of another type than 25 names no bucket
 unfoldable pub wait_noted : List ℕ → List ℕ → ℕ → ℕ → List ℕ

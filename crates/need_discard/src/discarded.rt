@@ -1,19 +1,15 @@
 // Which alloc keys are discarded.
-ghost use Rattle.std.specs.Prelude.{◌≡◌, ◌+◌, ◌≤◌, ◌<◌, ◌++◌, true, not, length, take, drop};
+ghost use Rattle.std.specs.Prelude.{◌≡◌, ◌+◌, ◌≤◌, length, drop};
 ghost use Rattle.wire.specs.Bytes.{All};
-ghost use Rattle.wire.specs.Kinds.{bucket_in_range};
-ghost use Rattle.calls.specs.Lists.{is_none};
-ghost use Rattle.calls.specs.Discard.{waiting_key, gen_taken};
-ghost use Rattle.reader.specs.KeyHere.{key_here, keys_here, Whole};
+ghost use Rattle.calls.specs.Discard.{gen_taken};
+ghost use Rattle.reader.specs.KeyHere.{key_here, Whole};
 ghost use Rattle.need_discard.specs.Kept.{AllocKept};
-ghost use Rattle.need_discard.specs.Table.{WaitingTable};
 ghost use Rattle.need_discard.specs.Chosen.{is_value_taken, is_discarded_at, discarded_from};
 
-use crate::waiting;
+use crate::waiting::Waiting;
 use format::alloc;
 use reader::key;
 use wire::key_types::KeyType;
-use wire::kinds::Bucket;
 use wire::positions;
 
 // Whether a waiting bucket is taken: its generation is below 16. The value's length shows the bound.
@@ -23,14 +19,6 @@ pub fn gen_taken(s: &[u8], at: usize) -> bool
     ensures { result ≡ gen_taken (drop at s.now) }
 {
     alloc::generation(s, at) < 16
-}
-
-// Whether a need-discard key names a bucket.
-fn is_waiting(s: &[u8], needs: &[u32], table: &[u16], b: Bucket) -> bool
-    requires { WaitingTable s.now needs.now table.now × (bucket_in_range b ≡ true) }
-    ensures { result ≡ not (is_none (waiting_key (keys_here s.now needs.now) b)) }
-{
-    waiting::waiting_at(s, needs, table, b).is_some()
 }
 
 // Whether the value of the alloc key at a place says that its bucket waits, and has a generation that is taken.
@@ -45,35 +33,34 @@ fn value_taken(s: &[u8], at: usize) -> bool
 
 // Whether the alloc key at an offset is discarded.
 #[tactic(auto, unfolding(calls::specs::Discard::is_discarded))]
-fn is_discarded(s: &[u8], o: u32, needs: &[u32], table: &[u16]) -> bool
-    requires { AllocKept s.now o × WaitingTable s.now needs.now table.now }
-    ensures { result ≡ is_discarded_at s.now needs.now o }
+fn is_discarded(s: &[u8], o: u32, waiting: &Waiting) -> bool
+    requires { AllocKept s.now o }
+    ensures { result ≡ is_discarded_at s.now waiting.now o }
 {
     let at = o as usize;
     let pos = key::pos_at(s, at);
     key::type_at(s, at) == KeyType::AllocV4.number()
         && pos.inode == 0
         && value_taken(s, at)
-        && is_waiting(s, needs, table, positions::bucket_in(pos))
+        && waiting.is_waiting(positions::bucket_in(pos))
 }
 
-// The offsets of the alloc keys that are discarded, and how many they are. The limits show the bound.
-pub fn discarded_keys(
-    discarded: &mut [u32],
+// The offsets of the alloc keys that are discarded, in the front of a room for those of all. The limits show the bound.
+pub fn discarded_keys<'r>(
+    room: &'r mut [u32],
     s: &[u8],
     alloc: &[u32],
-    needs: &[u32],
-    table: &[u16],
-) -> usize
-    requires { All (AllocKept s.now) alloc.now × (length alloc.now ≤ length discarded.old) × WaitingTable s.now needs.now table.now }
-    ensures { (result ≤ length discarded.new) × (take result discarded.new ≡ discarded_from s.now needs.now alloc.now) }
+    waiting: &Waiting,
+) -> &'r [u32]
+    requires { All (AllocKept s.now) alloc.now × (length alloc.now ≤ length room.old) }
+    ensures { result.now ≡ discarded_from s.now waiting.now alloc.now }
 {
     let mut n: usize = 0;
     for o in alloc {
-        if is_discarded(s, *o, needs, table) {
-            discarded[n] = *o;
+        if is_discarded(s, *o, waiting) {
+            room[n] = *o;
             n += 1;
         }
     }
-    n
+    &room[..n]
 }

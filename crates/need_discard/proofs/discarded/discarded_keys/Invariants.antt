@@ -5,4 +5,4 @@ use Rattle.need_discard.proofs.discarded.discarded_keys.Given as goal
 
 abbrev pub invariant-loop-o : goal.invariant-loop-o
 invariant-loop-o l =
-    (l.n ≤ l.o-index) × (take l.n l.discarded ++ discarded_from l.s l.needs (drop l.o-index l.alloc) ≡ discarded_from l.s l.needs l.alloc)
+    (l.n ≤ l.o-index) × (take l.n l.room ++ discarded_from l.s l.waiting (drop l.o-index l.alloc) ≡ discarded_from l.s l.waiting l.alloc)

@@ -18,6 +18,4 @@ loop-i-preserved c =
     (noted-length s l.table _ l.i ∙ l.invariant.0, noted-entries s c.args.needs.now l.table l.i c.loop-i-test.true l.invariant.0 l.invariant.1)
 
 pub returns : goal.returns
-returns c =
-    let l = c.loop-i in
-    (l.invariant.0, record { kept = c.requires.0; entries = λ z. all-entries c.args.s.now c.args.needs.now l.table l.i (omega arith) l.invariant.1 })
+returns c = let l = c.loop-i in all-entries c.args.s.now c.args.needs.now l.table l.i (omega arith) l.invariant.1
