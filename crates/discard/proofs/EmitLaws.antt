@@ -46,27 +46,27 @@ module _ (needs : List Key) (b : Bucket) where
       go (some k) p q = let e : k.pos ≡ x = cc in rw e
 
 -- a batch, tree by tree
-module _ (s needs os : List ℕ) where
+module _ (s : List ℕ) (needs : List Key) (os : List ℕ) where
   buckets-are : map (λ (k : Key). bucket_in k.pos) (keys_here s os) ≡ buckets_at s os
   buckets-are = map-map (λ (k : Key). bucket_in k.pos) (key_here s) os
 
   pub batch-is :
       keys_bytes 4 (map discarded_key (keys_here s os))
       ++ (keys_bytes 11 (map run_key (joined_runs (buckets_at s os)))
-      ++ (keys_bytes 12 (flat_map (waiting_deletions (keys_here s needs)) (buckets_at s os))
+      ++ (keys_bytes 12 (flat_map (waiting_deletions needs) (buckets_at s os))
       ++ (rows_bytes (buckets_row 0 (pos (length os)) (pos 0) (pos 0) ∷ buckets_row 9 (neg_ℤ (pos (length os))) (pos 0) (pos 0) ∷ [])
       ++ (encode (map discarded_field (buckets_at s os)) ++ encode_field end_field))))
       ≡ batch_bytes s needs os
   unfolding batch_fields discard_batch tree_fields
   batch-is = sym (simp (append-nil, append_assoc, encode-append, encode_one, buckets-are, length-map))
 
-module _ (s needs : List ℕ) (o : ℕ) where
+module _ (s : List ℕ) (needs : List Key) (o : ℕ) where
   abbrev deletions : List Key
-  deletions = waiting_deletions (keys_here s needs) (bucket_here s o)
+  deletions = waiting_deletions needs (bucket_here s o)
 
-  pub no-deletion : {r : std.Option Bpos} → r ≡ waits_of (waiting_key (keys_here s needs) (bucket_here s o)) → r ≡ std.None → keys_bytes 12 deletions ≡ []
-  no-deletion p q = fields-none (key_field 12) (none-waits (keys_here s needs) (bucket_here s o) p q)
+  pub no-deletion : {r : std.Option Bpos} → r ≡ waits_of (waiting_key needs (bucket_here s o)) → r ≡ std.None → keys_bytes 12 deletions ≡ []
+  no-deletion p q = fields-none (key_field 12) (none-waits needs (bucket_here s o) p q)
 
-  pub one-deletion : {r : std.Option Bpos} {x : Bpos} → r ≡ waits_of (waiting_key (keys_here s needs) (bucket_here s o)) → r ≡ std.Some x
+  pub one-deletion : {r : std.Option Bpos} {x : Bpos} → r ≡ waits_of (waiting_key needs (bucket_here s o)) → r ≡ std.Some x
       → encode_field (key_field 12 (deletion x)) ≡ keys_bytes 12 deletions
-  one-deletion {x = x} p q = sym (ap (keys_bytes 12) (one-waits (keys_here s needs) (bucket_here s o) p q) ∙ encode_one (key_field 12 (deletion x)))
+  one-deletion {x = x} p q = sym (ap (keys_bytes 12) (one-waits needs (bucket_here s o) p q) ∙ encode_one (key_field 12 (deletion x)))

@@ -1,6 +1,6 @@
 -- The answer to a discard: the offsets that the reader gives find the keys of the definition, and its tests in their order.
 use Prim.Native.Nat.{ℕ, zero, suc, ◌≤◌, ◌<◌}
-use mathlib.Core.Path.{◌≡◌, refl, sym, ap, ◌∙◌}
+use mathlib.Core.Path.{◌≡◌, refl, sym, ap, ◌∙◌, subst}
 use mathlib.Core.Bool.{Bool, true, not, ◌||◌}
 use Rattle.std.proofs.Common.{Some}
 use mathlib.Core.List.{List, [], ◌∷◌, map, map-map}
@@ -23,6 +23,7 @@ use Rattle.calls.proofs.lists.BoolLaws.{parts, or-then}
 use Rattle.calls.proofs.answers.AnswerLaws.{discard-is}
 use Rattle.calls.proofs.answers.OutcomeLaws.{answer-next, answer-stops}
 use Rattle.calls.proofs.encoding.KeyFitsLaws.{list-within}
+use Rattle.calls.proofs.lists.AllLaws.{all-nth}
 use Rattle.calls.proofs.lists.MapLaws.{map-take, map-drop}
 use Rattle.calls.proofs.lists.ThoseLaws.{those-map}
 use Rattle.reader.specs.Located.{KeyAt, KeysAt}
@@ -31,10 +32,12 @@ use Rattle.reader.specs.declared.read_list.ReadList.{ReadList}
 use Rattle.reader.proofs.KeyHereLaws.{keys-tail, keys-here}
 use Rattle.reader.proofs.PartsLaws.{passed, read-on, read-refused, located}
 use Rattle.reader.specs.KeyHere.{key_here, keys_here}
-use Rattle.need_discard.specs.Kept.{AllocKept, NeedKept}
+use Rattle.need_discard.specs.Kept.{AllocKept, NeedKept, DiscardedKept}
 use Rattle.need_discard.specs.Chosen.{need_trees, discarded_from}
 use Rattle.discard.specs.Emitted.{batches_from, changes_from}
+use Rattle.need_discard.proofs.ChosenLaws.{discarded-kept, discarded-few}
 use Rattle.discard.specs.Given.{DiscardGiven}
+use Rattle.discard.specs.Shown.{DiscardShown}
 
 -- what the offsets have of a test that each key passes
 found : {P : ℕ → Type 0} {s os : List ℕ} {ks : List Key} (t : Key → Bool) → ((o : ℕ) (k : Key) → KeyAt s o k → t k ≡ true → P o)
@@ -101,34 +104,34 @@ chunks-map f (suc m) size (x ∷ xs) =
     λ i. t i ∷ r i
 
 -- trees with the same need-discard keys discard the same
-module _ (t : Trees) (s needs : List ℕ) (e : t.need_discard ≡ keys_here s needs) where
-  same-choice : is_discarded t ≡ is_discarded (need_trees s needs)
+module _ (t : Trees) (s : List ℕ) (needs : List Key) (e : t.need_discard ≡ needs) where
+  same-choice : is_discarded t ≡ is_discarded (need_trees needs)
   unfolding is_discarded
-  same-choice = let p : (k : Key) → is_discarded t k ≡ is_discarded (need_trees s needs) k = λ k. rw e in λ i k. p k i
+  same-choice = let p : (k : Key) → is_discarded t k ≡ is_discarded (need_trees needs) k = λ k. rw e in λ i k. p k i
 
-  same-batch : discard_batch t ≡ discard_batch (need_trees s needs)
+  same-batch : discard_batch t ≡ discard_batch (need_trees needs)
   unfolding discard_batch
-  same-batch = let p : (ks : List Key) → discard_batch t ks ≡ discard_batch (need_trees s needs) ks = λ ks. rw e in λ i ks. p ks i
+  same-batch = let p : (ks : List Key) → discard_batch t ks ≡ discard_batch (need_trees needs) ks = λ ks. rw e in λ i ks. p ks i
 
   keys-chosen : (alloc : List ℕ) → t.alloc ≡ keys_here s alloc → discarded_keys t ≡ keys_here s (discarded_from s needs alloc)
   unfolding discarded_keys
-  keys-chosen alloc f = rw (same-choice, f) (those-map (is_discarded (need_trees s needs)) (key_here s) alloc)
+  keys-chosen alloc f = rw (same-choice, f) (those-map (is_discarded (need_trees needs)) (key_here s) alloc)
 
   batches-are : (alloc : List ℕ) (size : ℕ) → t.alloc ≡ keys_here s alloc
       → map (discard_batch t) (chunks (length (discarded_keys t)) size (discarded_keys t)) ≡ batches_from s needs size (discarded_from s needs alloc)
   batches-are alloc size f =
       let os = discarded_from s needs alloc in
       rw (keys-chosen alloc f, same-batch, length-map os (key_here s), chunks-map (key_here s) (length os) size os)
-      (map-map (discard_batch (need_trees s needs)) (map (key_here s)) (chunks (length os) size os))
+      (map-map (discard_batch (need_trees needs)) (map (key_here s)) (chunks (length os) size os))
 
 pub changes-are : {r : ReadList} → DiscardGiven r
-    → changes_from r.list.now r.need_discard.now r.head.batch (discarded_from r.list.now r.need_discard.now r.alloc.now)
+    → changes_from r.list.now (keys_here r.list.now r.need_discard.now) r.head.batch (discarded_from r.list.now (keys_here r.list.now r.need_discard.now) r.alloc.now)
     ≡ change_bytes (discard_batches (read_volume r.list.now))
 unfolding discard_batches
 changes-are {r} q =
     let v = read_volume r.list.now in
     let b : r.head.batch ≡ v.head.batch = ap (λ h. h.batch) q.headed in
-    ap change_bytes (rw b (sym (batches-are v.trees r.list.now r.need_discard.now (keys-here q.needs_at) r.alloc.now v.head.batch (keys-here q.alloc_at))))
+    ap change_bytes (rw b (sym (batches-are v.trees r.list.now (keys_here r.list.now r.need_discard.now) (keys-here q.needs_at) r.alloc.now v.head.batch (keys-here q.alloc_at))))
 
 -- the answer of the definition: the tests of the reader, then 20, then 21
 module _ (s : List ℕ) (room : ℕ) where
@@ -161,4 +164,15 @@ read-ready {r} q b =
       needs_at = (located q).need_discard;
       within = (list-within (read_call s) (passed 3 s q.passed).within).0;
       batched = b;
+    }
+
+-- what is chosen is shown to be discarded
+pub chosen-shown : {r : ReadList} {l : List ℕ} → DiscardGiven r → l ≡ discarded_from r.list.now (keys_here r.list.now r.need_discard.now) r.alloc.now
+    → DiscardShown r.list.now l
+chosen-shown {r} q e =
+    let f = ready-found q in
+    let ks = keys_here r.list.now r.need_discard.now in
+    record {
+      at = all-nth 0 (subst (All (DiscardedKept r.list.now)) (sym e) (discarded-kept ks f.allocs));
+      few = discarded-few r.list.now ks r.alloc.now e f.few_allocs;
     }

@@ -1,21 +1,17 @@
 -- Runs as they are made, bucket by bucket, are those of the definition.
 use Prim.Native.Nat.{ℕ, suc, ◌+◌, ◌≤◌, ◌<◌}
-use mathlib.Core.Path.{◌≡◌, refl, sym, ap, ◌∙◌}
+use mathlib.Core.Path.{◌≡◌, refl, sym, ap, ◌∙◌, subst}
 use mathlib.Core.Bool.{Bool, true, false, cond}
 use mathlib.Core.List.{List, [], ◌∷◌, ◌++◌, map}
 use native.Mathlib.Omega.{arith}
-use borrow.Author.Tests.{ne_eqb, eq-eqb}
 use lib.ListN.{length, get_or, drop, drop_of_length-le}
 use Rattle.wire.specs.Encode.{encode_field, key_field}
 use Rattle.wire.specs.Output.{with_bytes}
 use Rattle.wire.specs.declared.output.Output.{Output}
-use Rattle.wire.specs.Positions.{run_at}
-use Rattle.wire.specs.declared.bpos.Bpos.{Bpos}
 use Rattle.wire.proofs.OutputLaws.{drop-next}
 use Rattle.wire.proofs.AppendLaws.{with-with}
 use Rattle.wire.proofs.EncodeLaws.{encode-none, encode_one}
-use Rattle.calls.specs.Trees.{new_key}
-use Rattle.need_discard.specs.Kept.{bucket_here}
+use Rattle.need_discard.specs.Kept.{bucket_here, DiscardedKept}
 use Rattle.change_fields.specs.FieldBytes.{keys_bytes}
 use Rattle.change_fields.proofs.FieldLists.{fields-append}
 use Rattle.wire.specs.Keys.{Key}
@@ -23,12 +19,13 @@ use Rattle.wire.specs.Kinds.{same_bucket, next_bucket}
 use Rattle.wire.specs.declared.kinds.Bucket.{Bucket}
 use Rattle.calls.specs.Discard.{join_run, joined_runs, run_key}
 use Rattle.calls.specs.Discard as calls
-use Rattle.discard.specs.Emitted.{buckets_at, shown_run, ended_run, with_bucket}
-use Rattle.discard.specs.declared.runs.Run.{Run}
+use Rattle.discard.specs.Emitted.{buckets_at, freed_key, ended_run, with_bucket}
+use Rattle.discard.specs.Shown.{DiscardShown}
+use Rattle.discard.specs.declared.runs.FreedRun.{FreedRun}
 
 -- the runs of some buckets after a run that is not ended
-unfoldable pub open_runs : Run → List Bucket → List Key
-open_runs r [] = shown_run r
+unfoldable pub open_runs : FreedRun → List Bucket → List Key
+open_runs r [] = freed_key r ∷ []
 open_runs r (b ∷ bs) = ended_run r b ++ open_runs (with_bucket r b) bs
 
 -- a run before some runs: joined to the first where it stands next to it
@@ -74,39 +71,40 @@ module _ (q : calls.Run) (b : Bucket) where
       go false = rw e
 
 -- as the code has it
-abbrev opened : calls.Run → Run
+abbrev opened : calls.Run → FreedRun
 opened q = record { end = q.end; size = q.size }
 
-shown : (q : calls.Run) → 0 < q.size → shown_run (opened q) ≡ run_key q ∷ []
-shown q h = rw (ne_eqb q.size 0 (λ z. omega arith))
-
-open-glued : (bs : List Bucket) (q : calls.Run) → 0 < q.size → open_runs (opened q) bs ≡ map run_key (glue q (joined_runs bs))
+open-glued : (bs : List Bucket) (q : calls.Run) → open_runs (opened q) bs ≡ map run_key (glue q (joined_runs bs))
 unfolding open_runs joined_runs glue
-open-glued [] q h = shown q h
-open-glued (b ∷ bs) q h =
-    rw (join_is b (joined_runs bs))
-    (go (same_bucket q.end b) refl (open-glued bs (longer q b) (omega arith)) (open-glued bs (single b) (omega arith)))
+open-glued [] q = refl
+open-glued (b ∷ bs) q =
+    rw (join_is b (joined_runs bs)) (go (same_bucket q.end b) refl (open-glued bs (longer q b)) (open-glued bs (single b)))
   where
     go : (t : Bool) → same_bucket q.end b ≡ t → open_runs (opened (longer q b)) bs ≡ map run_key (glue (longer q b) (joined_runs bs))
         → open_runs (opened (single b)) bs ≡ map run_key (glue (single b) (joined_runs bs))
-        → cond t [] (shown_run (opened q)) ++ open_runs (record { end = next_bucket b; size = cond t (q.size + 1) 1 }) bs
+        → cond t [] (freed_key (opened q) ∷ []) ++ open_runs (record { end = next_bucket b; size = cond t (q.size + 1) 1 }) bs
         ≡ map run_key (glue q (glue (single b) (joined_runs bs)))
     go true e f g = f ∙ ap (map run_key) (sym (glue-joined q b e (joined_runs bs)))
-    go false e f g = rw (shown q h, g) (ap (map run_key) (sym (glue-apart q b e (joined_runs bs))))
+    go false e f g = rw g (ap (map run_key) (sym (glue-apart q b e (joined_runs bs))))
 
--- from no run on
-pub open_none : (e : Bucket) (bs : List Bucket) → open_runs (record { end = e; size = 0 }) bs ≡ map run_key (joined_runs bs)
-unfolding open_runs joined_runs
-open_none e [] = refl
-open_none e (b ∷ bs) = rw (join_is b (joined_runs bs)) (go (same_bucket e b))
-  where
-    go : (t : Bool)
-        → cond t [] (shown_run (record { end = e; size = 0 })) ++ open_runs (record { end = next_bucket b; size = cond t 1 1 }) bs
-        ≡ map run_key (glue (single b) (joined_runs bs))
-    go true = open-glued bs (single b) (omega arith)
-    go false = open-glued bs (single b) (omega arith)
+-- from the first offset on
+module _ (s : List ℕ) {all os : List ℕ} {o : ℕ} (e : all ≡ o ∷ os) where
+  pub runs-start : {x : Bucket} → x ≡ next_bucket (bucket_here s o)
+      → open_runs (record { end = x; size = 1 }) (buckets_at s os) ≡ map run_key (joined_runs (buckets_at s all))
+  unfolding joined_runs
+  runs-start p =
+      let b = bucket_here s o in
+      let bs = buckets_at s os in
+      rw (e, p) (open-glued bs (single b) ∙ ap (map run_key) (sym (join_is b (joined_runs bs))))
 
-pub with_size : (r : Run) (b : Bucket) → (with_bucket r b).size ≤ r.size + 1
+  module _ (h : DiscardShown s all) where
+    pub shown-first : DiscardedKept s o
+    shown-first = subst (DiscardedKept s) (ap (λ (l : List ℕ). get_or l 0 0) e) (h.at 0 (omega (arith, ap length e)))
+
+    pub shown-after : (i : ℕ) → i < length os → DiscardedKept s (get_or os i 0)
+    shown-after i l = subst (DiscardedKept s) (ap (λ (l : List ℕ). get_or l (suc i) 0) e) (h.at (suc i) (omega (arith, ap length e)))
+
+pub with_size : (r : FreedRun) (b : Bucket) → (with_bucket r b).size ≤ r.size + 1
 with_size r b = go (same_bucket r.end b)
   where
     go : (t : Bool) → cond t (r.size + 1) 1 ≤ r.size + 1
@@ -115,7 +113,7 @@ with_size r b = go (same_bucket r.end b)
 
 -- a turn of the loop over offsets: of the runs that are left after a run that is not ended, what the next bucket ends is put
 pub run-turn :
-    (s os : List ℕ) (i : ℕ) (r : Run) (b : Bucket) (o q : Output) → i < length os → b ≡ bucket_here s (get_or os i 0)
+    (s os : List ℕ) (i : ℕ) (r : FreedRun) (b : Bucket) (o q : Output) → i < length os → b ≡ bucket_here s (get_or os i 0)
     → q ≡ with_bytes o (keys_bytes 11 (ended_run r b))
     → with_bytes q (keys_bytes 11 (open_runs (with_bucket r b) (buckets_at s (drop (i + 1) os))))
     ≡ with_bytes o (keys_bytes 11 (open_runs r (buckets_at s (drop i os))))
@@ -126,18 +124,19 @@ run-turn s os i r b o q h e w =
 
 -- the end: the last run is put
 pub run-end :
-    (s os : List ℕ) (i : ℕ) (r : Run) (o q : Output) → length os ≤ i → q ≡ with_bytes o (keys_bytes 11 (shown_run r))
+    (s os : List ℕ) (i : ℕ) (r : FreedRun) (o q : Output) → length os ≤ i → q ≡ with_bytes o (encode_field (key_field 11 (freed_key r)))
     → q ≡ with_bytes o (keys_bytes 11 (open_runs r (buckets_at s (drop i os))))
 unfolding open_runs
-run-end s os i r o q h w = rw (drop_of_length-le os h) w
+run-end s os i r o q h w = rw (drop_of_length-le os h, encode_one) w
 
--- what the emitters of a run write
-
-pub no_run : (r : Run) → r.size ≡ 0 → keys_bytes 11 (shown_run r) ≡ []
-no_run r e = rw (eq-eqb r.size 0 e) encode-none
-
-pub one-run : (r : Run) {x : Bpos} → (r.size ≡ 0 → ⊥) → x ≡ run_at r.end → encode_field (key_field 11 (new_key 25 r.size x [])) ≡ keys_bytes 11 (shown_run r)
-one-run r e p = rw (ne_eqb r.size 0 e, p) (sym (encode_one _))
-
-pub joined-run : (r : Run) (b : Bucket) → same_bucket r.end b ≡ true → keys_bytes 11 (ended_run r b) ≡ []
+-- a run that a bucket joins is not put, and another is
+pub joined-run : (r : FreedRun) (b : Bucket) → same_bucket r.end b ≡ true → keys_bytes 11 (ended_run r b) ≡ []
 joined-run r b e = rw e encode-none
+
+pub ended-alone : (r : FreedRun) (b : Bucket) → same_bucket r.end b ≡ false → encode_field (key_field 11 (freed_key r)) ≡ keys_bytes 11 (ended_run r b)
+ended-alone r b e = rw e (sym (encode_one _))
+
+-- of no offset there is no run
+pub runs-none : (s : List ℕ) {os : List ℕ} → os ≡ [] → keys_bytes 11 (map run_key (joined_runs (buckets_at s os))) ≡ []
+unfolding joined_runs
+runs-none s e = rw e encode-none

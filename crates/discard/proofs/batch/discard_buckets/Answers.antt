@@ -15,5 +15,5 @@ returns c =
       c.put_alloc_keys.ensures,
       with-with,
       append_assoc,
-      batch-is d.list.now d.needs.now d.offsets.now,
+      batch-is d.list.now d.waiting.now d.offsets.now,
     )

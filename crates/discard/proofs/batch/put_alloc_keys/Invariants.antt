@@ -8,5 +8,5 @@ use Rattle.discard.proofs.batch.put_alloc_keys.Given as goal
 
 abbrev pub invariant-loop-o : goal.invariant-loop-o
 invariant-loop-o l =
-    with_bytes l.out (keys_bytes 4 (map discarded_key (keys_here l.s (drop l.o-index l.offsets))))
-    ≡ with_bytes l.fn.out (keys_bytes 4 (map discarded_key (keys_here l.s l.offsets)))
+    with_bytes l.out (keys_bytes 4 (map discarded_key (keys_here l.d.list.now (drop l.o-index l.o-items))))
+    ≡ with_bytes l.fn.out (keys_bytes 4 (map discarded_key (keys_here l.d.list.now l.d.offsets.now)))

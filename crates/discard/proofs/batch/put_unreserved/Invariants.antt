@@ -8,5 +8,5 @@ use Rattle.discard.proofs.batch.put_unreserved.Given as goal
 
 abbrev pub invariant-loop-o : goal.invariant-loop-o
 invariant-loop-o l =
-    with_bytes l.out (encode (map discarded_field (buckets_at l.s (drop l.o-index l.offsets))))
-    ≡ with_bytes l.fn.out (encode (map discarded_field (buckets_at l.s l.offsets)))
+    with_bytes l.out (encode (map discarded_field (buckets_at l.d.list.now (drop l.o-index l.o-items))))
+    ≡ with_bytes l.fn.out (encode (map discarded_field (buckets_at l.d.list.now l.d.offsets.now)))
