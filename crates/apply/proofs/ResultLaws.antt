@@ -32,7 +32,6 @@ use Rattle.merge.specs.Merging.{Done}
 use Rattle.merge.proofs.CountLaws.{within_on}
 use Rattle.apply.specs.Roots.{roots_after, front_bytes}
 use Rattle.apply.specs.NextVolume.{Lists, bytes_after, Ready, section_keys, next_of, VolumeDone}
-use Rattle.apply.proofs.VolumeLaws.{roots-low}
 use Rattle.apply.proofs.NextLaws.{next_bytes, next_within, next-bytes, next-within}
 
 -- the keys of a section that are put are those of the next volume
@@ -46,10 +45,6 @@ done-next vol list keys e d = rw e at d
 pub record Sectioning (n : Lists) (o o' : Output) (most i : ℕ) : Type 0 where
   pub wrote : with_bytes o' (each (next_bytes n.volume n.change) (drop i sections)) ≡ with_bytes o (bytes_after n)
   pub fits : (leb most 4096 && all_of (next_within n.volume n.change) (drop i sections)) ≡ volume_within (next_volume n.volume n.change)
-
--- what `roots_after` asks
-pub roots-ready : {r : ReadList} {list : List ℕ} → Ready r list → (r.head.roots < 8) × (change_laid_out list ≡ true)
-roots-ready {r} q = (rw (ap (λ x. x.roots) q.read.read.head) (roots-low r.list.now (volume-passed r.list.now q.read.passed).laid), q.change)
 
 module _ {r : ReadList} {list : List ℕ} {roots : ℕ} (q : Ready r list) (b : roots ≡ roots_after list r.head.roots) where
   abbrev lists : Lists
@@ -69,13 +64,12 @@ module _ {r : ReadList} {list : List ℕ} {roots : ℕ} (q : Ready r list) (b : 
 
 module _ {n : Lists} {o o' : Output} {most i : ℕ} (c : Sectioning n o o' most i) where
   pub sections-on :
-      {o'' : Output} {count : ℕ} → i < 7 → Done (get_or sections i 0) o' (next_of n.volume n.change (get_or sections i 0)) o'' count
+      {o'' : Output} {t count : ℕ} → i < 7 → t ≡ get_or sections i 0 → Done t o' (next_of n.volume n.change t) o'' count
       → Sectioning n o o'' (max most count) (i + 1)
   unfolding next_bytes next_within all_of
-  sections-on {o''} {count} l d =
-      let t : ℕ = get_or sections i 0 in
+  sections-on {o''} {t} {count} l e d =
       let ts : List ℕ = drop (i + 1) sections in
-      let split : drop i sections ≡ t ∷ ts = drop-next 0 sections i l in
+      let split : drop i sections ≡ t ∷ ts = rw e (drop-next 0 sections i l) in
       record {
         wrote =
             ap (λ (x : Output). with_bytes x (each (next_bytes n.volume n.change) ts)) d.wrote

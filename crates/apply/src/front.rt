@@ -3,41 +3,33 @@ ghost use Rattle.std.specs.Prelude.{◌≡◌, true, ◌<◌};
 ghost use Rattle.wire.specs.Output.{with_bytes};
 ghost use Rattle.calls.specs.ChangeList.{change_laid_out};
 ghost use Rattle.reader.specs.Heads.{head_in};
-ghost use Rattle.apply.specs.Roots.{with_root, is_root, roots_after, NamesRoot, Rooted, after_field, front_bytes};
+ghost use Rattle.apply.specs.Roots.{roots_after, NamesRoot, after_field, front_bytes};
 
-use reader::head;
 use reader::head::Head;
+use reader::roots::Root;
+use reader::{head, roots};
 use wire::fields::Fields;
 use wire::output::Output;
 
-// The bit of a root set. The layout of the change list shows the id, that of the volume the bits.
-fn set_root(roots: u8, id: u8) -> u8
-    requires { (roots < 8) × (is_root id ≡ true) }
-    ensures { Rooted result (with_root roots id) }
-{
-    match id {
-        10 => roots | 1,
-        12 => roots | 2,
-        _ => roots | 4,
-    }
-}
-
 // What one field of a change list makes of the root bits. The layout of the change list shows what a field 70 holds.
 fn after_field(list: &[u8], roots: u8, tag: u8, start: usize) -> u8
-    requires { (roots < 8) × NamesRoot list.now tag start }
-    ensures { Rooted result (after_field list.now roots tag start) }
+    requires { NamesRoot list.now tag start }
+    ensures { result ≡ after_field list.now roots tag start }
 {
-    if tag == 70 {
-        set_root(roots, list[start])
-    } else {
-        roots
+    if tag != 70 {
+        return roots;
+    }
+    match Root::of_id(list[start]) {
+        Some(root) => roots::with_root(roots, root),
+        None => roots,
     }
 }
 
-// The root bits after a change list, whose layout was tested, as the volume's was.
+// The root bits after a change list, whose layout was tested.
 pub fn roots_after(list: &[u8], roots: u8) -> u8
-    requires { (roots < 8) × (change_laid_out list.now ≡ true) }
-    ensures { Rooted result (roots_after list.now roots) }
+    requires { change_laid_out list.now ≡ true }
+    ensures same { result ≡ roots_after list.now roots }
+    ensures low { roots < 8 → result < 8 }
 {
     let mut r = roots;
     for field in Fields::of(list) {

@@ -39,3 +39,4 @@ pub mod ArrangedLaws
 pub mod DoubledLaws
 pub mod AnswerLaws
 pub mod NumberLaws
+pub mod RootBits

@@ -13,6 +13,7 @@ pub mod order;
 pub mod piece;
 pub mod read_list;
 pub mod refusal;
+pub mod roots;
 pub mod skip;
 pub mod survey;
 pub mod table;
