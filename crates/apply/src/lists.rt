@@ -59,13 +59,13 @@ impl<'a> NextVolume<'a> {
     {
         let r = &self.read;
         [
-            (Tree::Alloc.tag(), r.alloc),
-            (Tree::Lru.tag(), r.lru),
-            (Tree::Freespace.tag(), r.freespace),
-            (Tree::NeedDiscard.tag(), r.need_discard),
-            (Tree::Backpointers.tag(), r.backpointers),
-            (Tree::BucketGens.tag(), r.gens),
-            (BUCKETS, r.reserved),
+            (Tree::Alloc.tag(), r.alloc.places),
+            (Tree::Lru.tag(), r.lru.places),
+            (Tree::Freespace.tag(), r.freespace.places),
+            (Tree::NeedDiscard.tag(), r.need_discard.places),
+            (Tree::Backpointers.tag(), r.backpointers.places),
+            (Tree::BucketGens.tag(), r.gens.places),
+            (BUCKETS, r.reserved.places),
         ]
     }
 

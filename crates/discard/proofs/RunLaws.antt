@@ -1,26 +1,25 @@
 -- Runs as they are made, bucket by bucket, are those of the definition.
-use Prim.Native.Nat.{ℕ, suc, ◌+◌, ◌≤◌, ◌<◌}
-use mathlib.Core.Path.{◌≡◌, refl, sym, ap, ◌∙◌, subst}
+use Prim.Native.Nat.{suc, ◌+◌, ◌≤◌, ◌<◌}
+use mathlib.Core.Path.{◌≡◌, refl, sym, ap, ◌∙◌}
 use mathlib.Core.Bool.{Bool, true, false, cond}
 use mathlib.Core.List.{List, [], ◌∷◌, ◌++◌, map}
 use native.Mathlib.Omega.{arith}
-use lib.ListN.{length, get_or, drop, drop_of_length-le}
+use borrow.Author.Tests.{ltb-true}
+use Rattle.need_discard.specs.Kept.{DiscardedKept}
 use Rattle.wire.specs.Encode.{encode_field, key_field}
 use Rattle.wire.specs.Output.{with_bytes}
 use Rattle.wire.specs.declared.output.Output.{Output}
-use Rattle.wire.proofs.OutputLaws.{drop-next}
 use Rattle.wire.proofs.AppendLaws.{with-with}
 use Rattle.wire.proofs.EncodeLaws.{encode-none, encode_one}
-use Rattle.need_discard.specs.Kept.{bucket_here, DiscardedKept}
 use Rattle.change_fields.specs.FieldBytes.{keys_bytes}
 use Rattle.change_fields.proofs.FieldLists.{fields-append}
 use Rattle.wire.specs.Keys.{Key}
 use Rattle.wire.specs.Kinds.{same_bucket, next_bucket}
+use Rattle.wire.specs.Positions.{bucket_in}
 use Rattle.wire.specs.declared.kinds.Bucket.{Bucket}
 use Rattle.calls.specs.Discard.{join_run, joined_runs, run_key}
 use Rattle.calls.specs.Discard as calls
-use Rattle.discard.specs.Emitted.{buckets_at, freed_key, ended_run, with_bucket}
-use Rattle.discard.specs.Shown.{DiscardShown}
+use Rattle.discard.specs.Emitted.{buckets_of, freed_key, ended_run, with_bucket}
 use Rattle.discard.specs.declared.runs.FreedRun.{FreedRun}
 
 -- the runs of some buckets after a run that is not ended
@@ -87,22 +86,14 @@ open-glued (b ∷ bs) q =
     go true e f g = f ∙ ap (map run_key) (sym (glue-joined q b e (joined_runs bs)))
     go false e f g = rw g (ap (map run_key) (sym (glue-apart q b e (joined_runs bs))))
 
--- from the first offset on
-module _ (s : List ℕ) {all os : List ℕ} {o : ℕ} (e : all ≡ o ∷ os) where
-  pub runs-start : {x : Bucket} → x ≡ next_bucket (bucket_here s o)
-      → open_runs (record { end = x; size = 1 }) (buckets_at s os) ≡ map run_key (joined_runs (buckets_at s all))
-  unfolding joined_runs
-  runs-start p =
-      let b = bucket_here s o in
-      let bs = buckets_at s os in
-      rw (e, p) (open-glued bs (single b) ∙ ap (map run_key) (sym (join_is b (joined_runs bs))))
-
-  module _ (h : DiscardShown s all) where
-    pub shown-first : DiscardedKept s o
-    shown-first = subst (DiscardedKept s) (ap (λ (l : List ℕ). get_or l 0 0) e) (h.at 0 (omega (arith, ap length e)))
-
-    pub shown-after : (i : ℕ) → i < length os → DiscardedKept s (get_or os i 0)
-    shown-after i l = subst (DiscardedKept s) (ap (λ (l : List ℕ). get_or l (suc i) 0) e) (h.at (suc i) (omega (arith, ap length e)))
+-- from the first key on
+pub runs-start : {ks rest : List Key} {k : Key} {x : Bucket} → ks ≡ k ∷ rest → x ≡ next_bucket (bucket_in k.pos)
+    → open_runs (record { end = x; size = 1 }) (buckets_of rest) ≡ map run_key (joined_runs (buckets_of ks))
+unfolding joined_runs
+runs-start {rest = rest} {k = k} e p =
+    let b = bucket_in k.pos in
+    let bs = buckets_of rest in
+    rw (e, p) (open-glued bs (single b) ∙ ap (map run_key) (sym (join_is b (joined_runs bs))))
 
 pub with_size : (r : FreedRun) (b : Bucket) → (with_bucket r b).size ≤ r.size + 1
 with_size r b = go (same_bucket r.end b)
@@ -111,23 +102,22 @@ with_size r b = go (same_bucket r.end b)
     go true = omega arith
     go false = omega arith
 
--- a turn of the loop over offsets: of the runs that are left after a run that is not ended, what the next bucket ends is put
+-- a turn of the loop over keys: of the runs that are left after a run that is not ended, what the next bucket ends is put
 pub run-turn :
-    (s os : List ℕ) (i : ℕ) (r : FreedRun) (b : Bucket) (o q : Output) → i < length os → b ≡ bucket_here s (get_or os i 0)
-    → q ≡ with_bytes o (keys_bytes 11 (ended_run r b))
-    → with_bytes q (keys_bytes 11 (open_runs (with_bucket r b) (buckets_at s (drop (i + 1) os))))
-    ≡ with_bytes o (keys_bytes 11 (open_runs r (buckets_at s (drop i os))))
+    {ks rest : List Key} {k : Key} (r : FreedRun) (o q : Output) → ks ≡ k ∷ rest → q ≡ with_bytes o (keys_bytes 11 (ended_run r (bucket_in k.pos)))
+    → with_bytes q (keys_bytes 11 (open_runs (with_bucket r (bucket_in k.pos)) (buckets_of rest))) ≡ with_bytes o (keys_bytes 11 (open_runs r (buckets_of ks)))
 unfolding open_runs
-run-turn s os i r b o q h e w =
-    let rest = open_runs (with_bucket r b) (buckets_at s (drop (i + 1) os)) in
-    rw (drop-next 0 os i h, ← e, w, with-with o (keys_bytes 11 (ended_run r b)) (keys_bytes 11 rest), fields-append (key_field 11) (ended_run r b) rest)
+run-turn {rest = rest} {k = k} r o q s w =
+    let b = bucket_in k.pos in
+    let later = open_runs (with_bucket r b) (buckets_of rest) in
+    rw (w, s, with-with o (keys_bytes 11 (ended_run r b)) (keys_bytes 11 later), fields-append (key_field 11) (ended_run r b) later) refl
 
 -- the end: the last run is put
 pub run-end :
-    (s os : List ℕ) (i : ℕ) (r : FreedRun) (o q : Output) → length os ≤ i → q ≡ with_bytes o (encode_field (key_field 11 (freed_key r)))
-    → q ≡ with_bytes o (keys_bytes 11 (open_runs r (buckets_at s (drop i os))))
+    {ks : List Key} (r : FreedRun) (o q : Output) → ks ≡ [] → q ≡ with_bytes o (encode_field (key_field 11 (freed_key r)))
+    → q ≡ with_bytes o (keys_bytes 11 (open_runs r (buckets_of ks)))
 unfolding open_runs
-run-end s os i r o q h w = rw (drop_of_length-le os h, encode_one) w
+run-end r o q s w = rw (s, encode_one) w
 
 -- a run that a bucket joins is not put, and another is
 pub joined-run : (r : FreedRun) (b : Bucket) → same_bucket r.end b ≡ true → keys_bytes 11 (ended_run r b) ≡ []
@@ -136,7 +126,11 @@ joined-run r b e = rw e encode-none
 pub ended-alone : (r : FreedRun) (b : Bucket) → same_bucket r.end b ≡ false → encode_field (key_field 11 (freed_key r)) ≡ keys_bytes 11 (ended_run r b)
 ended-alone r b e = rw e (sym (encode_one _))
 
--- of no offset there is no run
-pub runs-none : (s : List ℕ) {os : List ℕ} → os ≡ [] → keys_bytes 11 (map run_key (joined_runs (buckets_at s os))) ≡ []
+-- of no key there is no run
+pub runs-none : {ks : List Key} → ks ≡ [] → keys_bytes 11 (map run_key (joined_runs (buckets_of ks))) ≡ []
 unfolding joined_runs
-runs-none s e = rw e encode-none
+runs-none e = rw e encode-none
+
+-- the next bucket's number fits, where the bucket of a key is within the limit
+pub bucket-fits : {k : Key} {b : Bucket} → DiscardedKept k → b ≡ bucket_in k.pos → b.0 < 4294967296
+bucket-fits {k} h e = rw e (omega (arith, ltb-true (bucket_in k.pos).0 65536 h.below))

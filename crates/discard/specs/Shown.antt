@@ -1,7 +1,9 @@
--- What is shown of alloc keys that are discarded: each offset finds one, and they are within the limit.
+-- What is shown of alloc keys that are discarded: the bucket and the value of each, and how many they are at most.
 use Rattle.std.specs.Prelude.{ℕ, ◌≤◌, ◌<◌, List, length, get_or}
+use Rattle.wire.specs.Keys.{Key}
+use Rattle.reader.specs.Located.{no_key}
 use Rattle.need_discard.specs.Kept.{DiscardedKept}
 
-pub record DiscardShown (s os : List ℕ) : Type 0 where
-  pub at : (i : ℕ) → i < length os → DiscardedKept s (get_or os i 0)
-  pub few : length os ≤ 4096
+pub record DiscardShown (ks : List Key) : Type 0 where
+  pub at : (i : ℕ) → i < length ks → DiscardedKept (get_or ks i no_key)
+  pub few : length ks ≤ 4096

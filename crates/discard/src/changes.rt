@@ -4,7 +4,7 @@ ghost use Rattle.wire.specs.Output.{with_bytes};
 ghost use Rattle.calls.specs.ChangeList.{change_bytes};
 ghost use Rattle.calls.specs.Discard.{discard_batches};
 ghost use Rattle.calls.specs.Answers.{read_volume, answer, outcome};
-ghost use Rattle.reader.specs.KeyHere.{keys_here};
+ghost use Rattle.reader.specs.ListedKeys.{keys_listed};
 ghost use Rattle.reader.specs.Refusals.{made_by};
 ghost use Rattle.discard.specs.Emitted.{changes_from};
 ghost use Rattle.discard.specs.Given.{DiscardGiven};
@@ -15,6 +15,7 @@ use need_discard::discarded;
 use need_discard::waiting::Waiting;
 use reader::answer;
 use reader::answer::Emit;
+use reader::listed_keys::Keys;
 use reader::read_list::ReadList;
 use reader::refusal::Refusal;
 use std::marker::Model;
@@ -23,12 +24,15 @@ use wire::output::Output;
 // The batches, in alloc order. Refusal 20 shows that a batch has a key, here and below.
 pub fn discard_freed(out: &mut Output, size: u32, d: &Discarded)
     requires { 0 < size }
-    ensures { out.new ≡ with_bytes out.old (changes_from d.now.list.now d.now.waiting.now size d.now.offsets.now) }
+    ensures { out.new ≡ with_bytes out.old (changes_from d.now.waiting.now size (keys_listed d.now.keys)) }
 {
-    for offsets in d.offsets.chunks(size as usize) {
+    for places in d.keys.places.chunks(size as usize) {
+        let keys = Keys {
+            list: d.keys.list,
+            places,
+        };
         let part = Discarded {
-            list: d.list,
-            offsets,
+            keys,
             waiting: d.waiting,
         };
         batch::discard_buckets(out, &part);
@@ -37,12 +41,12 @@ pub fn discard_freed(out: &mut Output, size: u32, d: &Discarded)
 
 // The changes of a discard. A clause sees their bytes.
 #[derive(Drop)]
-pub struct Changes<'a> {
+pub struct Changes<'a, 'w> {
     size: u32,
-    discarded: Discarded<'a>,
+    discarded: Discarded<'a, 'w>,
 }
 
-impl<'a> Model for Changes<'a> {
+impl<'a, 'w> Model for Changes<'a, 'w> {
     ghost use Rattle.std.specs.Prelude.{ℕ, List};
 
     ghost Value = { List ℕ };
@@ -54,17 +58,17 @@ impl<'a> Model for Changes<'a> {
     ghost invariant = { IsChanges };
 }
 
-impl<'a> Changes<'a> {
+impl<'a, 'w> Changes<'a, 'w> {
     // The changes in batches of a size.
-    pub fn new(size: u32, d: Discarded<'a>) -> Changes<'a>
+    pub fn new(size: u32, d: Discarded<'a, 'w>) -> Changes<'a, 'w>
         requires { 0 < size }
-        ensures { result ≡ changes_from d.entry.list.now d.entry.waiting.now size d.entry.offsets.now }
+        ensures { result ≡ changes_from d.entry.waiting.now size (keys_listed d.entry.keys) }
     {
         Changes { size, discarded: d }
     }
 }
 
-impl<'a> Emit for Changes<'a> {
+impl<'a, 'w> Emit for Changes<'a, 'w> {
     ghost bytes = { λ c. c };
 
     fn emit(&self, out: &mut Output) {
@@ -72,19 +76,18 @@ impl<'a> Emit for Changes<'a> {
     }
 }
 
-// The answer to a discard, with room for the offsets of N alloc keys. `discard_lists` shows what is required.
+// The answer to a discard, with room for the places of N alloc keys. `discard_lists` shows what is required.
 fn discard_within<const N: usize>(
     read: &ReadList,
     waiting: &Waiting,
     out: &mut [u8],
 ) -> Result<usize, Refusal>
-    requires { DiscardGiven read.now × (waiting.now ≡ keys_here read.now.list.now read.now.need_discard.now) × (length read.now.alloc.now ≤ N) × (N ≤ 4096) }
+    requires { DiscardGiven read.now × (waiting.now ≡ keys_listed read.now.need_discard) × (length read.now.alloc.places.now ≤ N) × (N ≤ 4096) }
     ensures { made_by result out.new ≡ outcome (answer [] (change_bytes (discard_batches (read_volume read.now.list.now))) (length out.old)) out.old }
 {
     let mut room = [0u32; N];
     let d = Discarded {
-        list: read.list,
-        offsets: discarded::discarded_keys(&mut room, read.list, read.alloc, waiting),
+        keys: discarded::discarded_keys(&mut room, read.alloc, waiting),
         waiting,
     };
     answer::written(&Changes::new(read.head.batch, d), out)
@@ -98,11 +101,11 @@ pub fn discard_lists(read: &ReadList, out: &mut [u8]) -> Result<usize, Refusal>
 {
     let few = read.alloc.len() <= 64;
     if few && read.need_discard.len() <= 16 {
-        let waiting = Waiting::searched(read.list, read.need_discard);
+        let waiting = Waiting::searched(read.need_discard);
         return discard_within::<64>(read, &waiting, out);
     }
     let mut table = [0u16; 65536];
-    let waiting = Waiting::tabled(read.list, read.need_discard, &mut table);
+    let waiting = Waiting::tabled(read.need_discard, &mut table);
     if few {
         discard_within::<64>(read, &waiting, out)
     } else {

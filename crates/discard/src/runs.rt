@@ -4,12 +4,12 @@ ghost use Rattle.wire.specs.Encode.{encode_field, key_field};
 ghost use Rattle.wire.specs.Kinds.{bucket_in_range};
 ghost use Rattle.wire.specs.Output.{with_bytes};
 ghost use Rattle.calls.specs.Discard.{joined_runs, run_key};
+ghost use Rattle.reader.specs.ListedKeys.{keys_listed};
 ghost use Rattle.change_fields.specs.FieldBytes.{keys_bytes};
-ghost use Rattle.discard.specs.Emitted.{buckets_at, freed_key, ended_run, with_bucket};
+ghost use Rattle.discard.specs.Emitted.{buckets_of, freed_key, ended_run, with_bucket};
 
 use crate::batch::Discarded;
 use change_fields::new_keys;
-use reader::key;
 use wire::key_types::KeyType;
 use wire::kinds::Bucket;
 use wire::output::Output;
@@ -59,18 +59,19 @@ fn with_bucket(r: FreedRun, b: Bucket) -> FreedRun
 
 // The runs of a batch.
 pub fn put_runs(out: &mut Output, d: &Discarded)
-    ensures { out.new ≡ with_bytes out.old (keys_bytes 11 (map run_key (joined_runs (buckets_at d.now.list.now d.now.offsets.now)))) }
+    ensures { out.new ≡ with_bytes out.old (keys_bytes 11 (map run_key (joined_runs (buckets_of (keys_listed d.now.keys))))) }
 {
-    let Some((first, others)) = d.offsets.split_first() else {
+    let mut others = d.keys.iter();
+    let Some(first) = others.next() else {
         return;
     };
     let mut r = FreedRun {
-        end: kinds::next_bucket(key::bucket_at(d.list, *first as usize)),
+        end: kinds::next_bucket(first.bucket()),
         size: 1,
     };
-    // Not by `chunk_by`: its closure would have to be callable at any two offsets, and only these find keys.
-    for o in others {
-        let b = key::bucket_at(d.list, *o as usize);
+    // Not by `chunk_by`: it takes a slice, as of the places, and its closure would have to be callable at any two places, where only these find keys.
+    for key in others {
+        let b = key.bucket();
         put_ended(out, r, b);
         r = with_bucket(r, b);
     }

@@ -1,14 +1,15 @@
 // Which alloc keys are discarded.
 ghost use Rattle.std.specs.Prelude.{◌≡◌, ◌+◌, ◌≤◌, length, drop};
 ghost use Rattle.wire.specs.Bytes.{All};
-ghost use Rattle.calls.specs.Discard.{gen_taken};
-ghost use Rattle.reader.specs.KeyHere.{key_here, Whole};
+ghost use Rattle.calls.specs.Discard.{gen_taken, is_discarded};
+ghost use Rattle.reader.specs.ListedKeys.{key_listed, keys_listed};
 ghost use Rattle.need_discard.specs.Kept.{AllocKept};
-ghost use Rattle.need_discard.specs.Chosen.{is_value_taken, is_discarded_at, discarded_from};
+ghost use Rattle.need_discard.specs.Chosen.{need_trees, is_value_taken, discarded_from};
 
 use crate::waiting::Waiting;
 use format::alloc;
-use reader::key;
+use reader::key::ListedKey;
+use reader::listed_keys::Keys;
 use wire::key_types::KeyType;
 use wire::positions;
 
@@ -21,46 +22,40 @@ pub fn gen_taken(s: &[u8], at: usize) -> bool
     alloc::generation(s, at) < 16
 }
 
-// Whether the value of the alloc key at a place says that its bucket waits, and has a generation that is taken.
-#[tactic(auto, using(crate::proofs::ChosenLaws::value_ends, crate::proofs::ChosenLaws::type_there, crate::proofs::ChosenLaws::gen_there))]
-fn value_taken(s: &[u8], at: usize) -> bool
-    requires { Whole s.now at }
-    ensures { result ≡ is_value_taken (key_here s.now at).value }
+// Whether an alloc value says that its bucket waits, and has a generation that is taken.
+fn value_taken(value: &[u8]) -> bool
+    ensures { result ≡ is_value_taken value.now }
 {
-    let value = key::value_at(s, at);
-    56 <= key::value_len(s, at) && alloc::data_type(s, value) == 9 && gen_taken(s, value)
+    56 <= value.len() && alloc::data_type(value, 0) == 9 && gen_taken(value, 0)
 }
 
-// Whether the alloc key at an offset is discarded.
+// Whether an alloc key is discarded.
 #[tactic(auto, unfolding(calls::specs::Discard::is_discarded))]
-fn is_discarded(s: &[u8], o: u32, waiting: &Waiting) -> bool
-    requires { AllocKept s.now o }
-    ensures { result ≡ is_discarded_at s.now waiting.now o }
+fn is_discarded(key: &ListedKey, waiting: &Waiting) -> bool
+    requires { AllocKept (key_listed key.now) }
+    ensures { result ≡ is_discarded (need_trees waiting.now) (key_listed key.now) }
 {
-    let at = o as usize;
-    let pos = key::pos_at(s, at);
-    key::type_at(s, at) == KeyType::AllocV4.number()
+    let pos = key.pos();
+    key.key_type() == KeyType::AllocV4.number()
         && pos.inode == 0
-        && value_taken(s, at)
+        && value_taken(key.value())
         && waiting.is_waiting(positions::bucket_in(pos))
 }
 
-// The offsets of the alloc keys that are discarded, in the front of a room for those of all. The limits show the bound.
-pub fn discarded_keys<'r>(
-    room: &'r mut [u32],
-    s: &[u8],
-    alloc: &[u32],
-    waiting: &Waiting,
-) -> &'r [u32]
-    requires { All (AllocKept s.now) alloc.now × (length alloc.now ≤ length room.old) }
-    ensures { result.now ≡ discarded_from s.now waiting.now alloc.now }
+// The alloc keys that are discarded, with their places in the front of a room for those of all. The limits show the bound.
+pub fn discarded_keys<'a>(room: &'a mut [u32], alloc: Keys<'a>, waiting: &Waiting) -> Keys<'a>
+    requires { All AllocKept (keys_listed alloc) × (length alloc.places.now ≤ length room.old) }
+    ensures { keys_listed result ≡ discarded_from waiting.now (keys_listed alloc.entry) }
 {
     let mut n: usize = 0;
-    for o in alloc {
-        if is_discarded(s, *o, waiting) {
-            room[n] = *o;
+    for key in alloc.iter() {
+        if is_discarded(&key, waiting) {
+            room[n] = key.at;
             n += 1;
         }
     }
-    &room[..n]
+    Keys {
+        list: alloc.list,
+        places: &room[..n],
+    }
 }
