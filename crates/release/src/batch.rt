@@ -70,7 +70,7 @@ impl<'a> Emit for ReleaseBatch<'a> {
         need_discards::put_need_discards(out, read.head.journal, self.emptied);
         backpointers::put_backpointers(out, read.list, read.requests);
         gen_records::put_gens(out, read.list, self.records, self.emptied);
-        roots::put_roots(out, count, read.head.roots);
+        roots::put_roots(out, count != 0, read.head.roots);
         released::put_rows(out, count as u64, total, unused.kept, unused.lost);
         batch_end::put_end(out);
     }
