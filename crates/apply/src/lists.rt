@@ -1,5 +1,5 @@
 // The next volume, whole.
-ghost use Rattle.std.specs.Prelude.{◌≡◌, ◌/◌, ◌≤◌, ◌<◌, IfSome, length, get_or};
+ghost use Rattle.std.specs.Prelude.{◌≡◌, ◌+◌, ◌/◌, ◌≤◌, ◌<◌, IfSome, length, get_or};
 ghost use Rattle.reader.specs.Refusals.{made_by};
 ghost use Rattle.calls.specs.Answers.{apply, outcome};
 ghost use Rattle.sorting.specs.Entries.{sections};

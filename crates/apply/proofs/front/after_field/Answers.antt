@@ -1,7 +1,10 @@
 -- A field 70, or another.
-use Rattle.std.proofs.Common.{arith, ◌∙◌, sym}
+use Rattle.std.proofs.Common.{sym, ◌∙◌}
 use Rattle.apply.proofs.RootLaws.{other-field, root-field, no-root}
 use Rattle.apply.proofs.front.after_field.Goals as goal
 
-pub returns-then-field-ne-number : goal.returns-then-field-ne-number
-returns-then-field-ne-number c = other-field _ _ c.if-field-ne-number.true
+pub returns-then-field-number : goal.returns-then-field-number
+returns-then-field-number c = other-field _ _ (rw c.number.ensures at c.if-field-number.true)
+
+pub returns-in-Some : goal.returns-in-Some
+returns-in-Some c = root-field _ _ (rw c.number.ensures at c.if-field-number.false) (sym c.le8.ensures ∙ c.in-Some.ensures) c.with_root.ensures
