@@ -48,6 +48,7 @@ pub fn discarded_keys<'a>(room: &'a mut [u32], alloc: Keys<'a>, waiting: &Waitin
     ensures { keys_listed result ≡ discarded_from waiting.now (keys_listed alloc.entry) }
 {
     let mut n: usize = 0;
+    // A loop: there is no heap to collect what `filter` gives.
     for key in alloc.iter() {
         if is_discarded(&key, waiting) {
             room[n] = key.at;

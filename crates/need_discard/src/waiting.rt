@@ -51,6 +51,7 @@ fn search_key<'a>(keys: &Keys<'a>, b: Bucket) -> Option<ListedKey<'a>>
     ensures { found result ≡ waiting_key (keys_listed keys.now) b }
 {
     let mut last = None;
+    // A loop: what std ensures of `filter(..).last()` is of runs, and no law turns a run of `Keys` into the list of its keys.
     for key in keys.iter() {
         if names_bucket(&key, b) {
             last = Some(key);
