@@ -11,6 +11,7 @@ use reader::head::Head;
 use wire::fields::{Field, Fields};
 use wire::le;
 use wire::output::Output;
+use wire::tags::Tag;
 
 // The bit of a root set. The layout of the change list shows the id, that of the volume the bits.
 fn set_root(roots: u8, id: u8) -> u8
@@ -29,7 +30,7 @@ fn after_field(roots: u8, field: Field) -> u8
     requires { (roots < 8) × NamesRoot (field_in field) }
     ensures { Rooted result (after_field roots (field_in field.entry)) }
 {
-    if field.tag == 70 {
+    if field.tag == Tag::Root.number() {
         set_root(roots, le::le8(field.body, 0))
     } else {
         roots

@@ -19,6 +19,7 @@ use format::alloc;
 use need_discard::waiting as waiting_keys;
 use reader::key;
 use wire::output::Output;
+use wire::tags::Tag;
 use wire::trees::Tree;
 
 // Alloc keys that are discarded: the list that they stand in, their offsets, those of the need-discard keys, and their table.
@@ -77,7 +78,7 @@ fn put_unreserved(out: &mut Output, s: &[u8], offsets: &[u32])
     ensures { out.new ≡ with_bytes out.old (encode (map discarded_field (buckets_at s.now offsets.now))) }
 {
     for o in offsets {
-        out.put_bucket(75, key::bucket_at(s, *o as usize));
+        out.put_bucket(Tag::Unreserved.number(), key::bucket_at(s, *o as usize));
     }
 }
 

@@ -16,7 +16,7 @@ bucket_at-requires c = (all-nth 0 c.requires c.loop-o.o-index (omega arith)).kep
 
 pub loop-o-preserved : goal.loop-o-preserved
 loop-o-preserved c =
-    loop-turn (bytes c.args.s.now) c.args.offsets.now c.loop-o.o-index 0 _ c.loop-o.out c.put_bucket.new.self (omega arith) (encode-next _ _) (rw c.bucket_at.ensures at c.put_bucket.ensures)
+    loop-turn (bytes c.args.s.now) c.args.offsets.now c.loop-o.o-index 0 _ c.loop-o.out c.put_bucket.new.self (omega arith) (encode-next _ _) (rw (c.number.ensures, c.bucket_at.ensures) at c.put_bucket.ensures)
     ∙ c.loop-o.invariant
 
 pub returns : goal.returns
