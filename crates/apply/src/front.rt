@@ -11,8 +11,8 @@ use reader::roots::Root;
 use reader::{head, roots};
 use wire::fields::{Field, Fields};
 use wire::le;
-use wire::tags::Tag;
 use wire::output::Output;
+use wire::tags::Tag;
 
 // What one field of a change list makes of the root bits. The layout of the change list shows what a field 70 holds.
 fn after_field(roots: u8, field: Field) -> u8

@@ -20,6 +20,7 @@ use need_discard::waiting::Waiting;
 use reader::key::ListedKey;
 use reader::listed_keys::Keys;
 use wire::output::Output;
+use wire::tags::Tag;
 use wire::trees::Tree;
 
 // Alloc keys that are discarded, and the need-discard keys. `discarded_keys` and the limits show what is said of the alloc keys.
@@ -73,7 +74,7 @@ fn put_unreserved(out: &mut Output, d: &Discarded)
     ensures { out.new ≡ with_bytes out.old (encode (map discarded_field (buckets_of (keys_listed d.now.keys)))) }
 {
     for key in d.keys.iter() {
-        out.put_bucket(75, key.bucket());
+        out.put_bucket(Tag::Unreserved.number(), key.bucket());
     }
 }
 

@@ -6,6 +6,7 @@ ghost use Rattle.reader.specs.Refusals.{made_by};
 
 use crate::changes;
 use reader::call;
+use reader::call_kinds::Call;
 use reader::read_list::ReadList;
 use reader::refusal::Refusal;
 
@@ -26,7 +27,7 @@ pub fn discard(list: &[u8], out: &mut [u8]) -> Result<usize, Refusal>
 {
     call::with_list(
         list,
-        Some(3),
+        Some(Call::Discard.number()),
         &mut [],
         out,
         |read, _, out| discard_read(read, out),

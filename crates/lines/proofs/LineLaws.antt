@@ -8,7 +8,6 @@ use native.Mathlib.Omega.{arith}
 use lib.Dec.{leb, eqb}
 use lib.ListN.{length, take, drop, length-drop}
 use Rattle.std.proofs.lemmas.List.{take_all}
-use lib.Seq.{take-length}
 use borrow.Author.Tests.{eqb-true, leb-true, le-leb}
 use Rattle.wire.specs.Bytes.{All}
 use Rattle.wire.specs.Numbers.{le, each}

@@ -6,6 +6,7 @@ ghost use Rattle.lines.specs.Program.{answer_by_byte, AnsweredIn, answer_lines, 
 use crate::{change_lines, other_lines};
 use discard::discard as discard_call;
 use place::place as place_call;
+use reader::call_kinds::Call;
 use reader::head;
 use reader::refusal::Refusal;
 use release::release as release_call;
@@ -14,14 +15,17 @@ use wire::output::Output;
 // A longer list is refused.
 const LONGEST_LIST: usize = 32768;
 
-// The answer of the call that a list names, in 65,536 bytes.
+// The answer of the call that a list names, in 65,536 bytes. A list that names none is refused by each call.
 fn answer_to(list: &[u8], change: &mut [u8; 65536]) -> Result<usize, Refusal>
     ensures { AnsweredIn (answer_by_byte list.now) result change.new }
 {
-    match head::call_byte(list) {
-        1 => place_call::place(list, change),
-        2 => release_call::release(list, &mut [0u32; 65536], change),
-        _ => discard_call::discard(list, change),
+    let Some(call) = Call::named(head::call_byte(list)) else {
+        return discard_call::discard(list, change);
+    };
+    match call {
+        Call::Place => place_call::place(list, change),
+        Call::Release => release_call::release(list, &mut [0u32; 65536], change),
+        Call::Discard => discard_call::discard(list, change),
     }
 }
 

@@ -18,6 +18,7 @@ use reader::answer::Emit;
 use reader::roots::Root;
 use wire::kinds::Bucket;
 use wire::output::Output;
+use wire::tags::Tag;
 
 // What a change list is written from: a plan, the dirty counts of its buckets, the runs and how far the walk over them is, the tallies of the pieces, and the write clock.
 #[derive(Clone, Copy, Drop)]
@@ -102,7 +103,7 @@ pub fn put_taken(out: &mut Output, taken: &[Bucket])
     ensures { out.new ≡ with_bytes out.old (encode (map taken_field taken.now)) }
 {
     for b in taken {
-        out.put_bucket(71, *b);
+        out.put_bucket(Tag::Taken.number(), *b);
     }
 }
 
@@ -110,6 +111,6 @@ pub fn put_taken(out: &mut Output, taken: &[Bucket])
 pub fn put_sectors(out: &mut Output, sectors: u64)
     ensures { out.new ≡ with_bytes out.old (encode_field (sectors_field sectors)) }
 {
-    out.put_head(74, 8);
+    out.put_head(Tag::Sectors.number(), 8);
     out.put_u64(sectors);
 }

@@ -15,6 +15,7 @@ use gens::records;
 use place_keys::plan::Plan;
 use place_keys::{clock, dirty, generations};
 use place_tests::refusals;
+use reader::call_kinds::Call;
 use reader::read_list::ReadList;
 use reader::refusal::Refusal;
 use reader::{answer, call};
@@ -69,7 +70,7 @@ pub fn place(list: &[u8], out: &mut [u8]) -> Result<usize, Refusal>
 {
     call::with_list(
         list,
-        Some(1),
+        Some(Call::Place.number()),
         &mut [],
         out,
         |read, _, out| place_read(read, out),

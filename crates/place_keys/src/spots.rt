@@ -10,12 +10,13 @@ ghost use Rattle.place_keys.specs.Plan.{placed_in};
 use crate::placed::Placed;
 use crate::plan::Plan;
 use wire::output::Output;
+use wire::tags::Tag;
 
 // Where a piece is placed: device sector, stored sectors, bucket and generation.
 pub fn put_spot(out: &mut Output, p: Placed)
     ensures { out.new ≡ with_bytes out.old (encode_field (spot_field (spot_at (placed_in p)))) }
 {
-    out.put_head(72, 15);
+    out.put_head(Tag::Spot.number(), 15);
     out.put_sector(p.first);
     out.put_u16(p.piece.stored);
     out.put_bucket_bytes(p.bucket);

@@ -1,14 +1,14 @@
 // Call lists and volumes: refusals 2, 22 and 3. A list in order is judged in one pass; any other has its table sorted.
-ghost use Rattle.std.specs.Prelude.{◌≡◌, ◌<◌, cond, None, unwrap_or, is_none};
+ghost use Rattle.std.specs.Prelude.{◌≡◌, cond, None, unwrap_or, is_none};
 ghost use Rattle.calls.specs.CallList.{none_twice};
 ghost use Rattle.calls.specs.Answers.{read_volume};
 ghost use Rattle.reader.specs.CallFields.{head_within};
 ghost use Rattle.reader.specs.Heads.{head_in};
-ghost use Rattle.reader.specs.Refusals.{number_of, number_in};
+ghost use Rattle.reader.specs.Refusals.{number_of};
 ghost use Rattle.reader.specs.Arranged.{PastAsked};
 ghost use Rattle.reader.specs.Table.{Fits};
-ghost use Rattle.reader.specs.Lending.{AnswersRead};
-ghost use Rattle.reader.specs.Readings.{list_refusal, TableAnswered, refusal_of, ReadAs, ReadAnswered};
+ghost use Rattle.reader.specs.Lending.{TakesRead, RefusedAs, AnsweredAs};
+ghost use Rattle.reader.specs.Readings.{list_refusal, TableAnswered, ReadAnswered};
 
 use crate::head::Head;
 use crate::read_list::ReadList;
@@ -83,16 +83,16 @@ fn answer_by<F: FnOnce(&ReadList, &mut [u32], &mut [u8]) -> Result<usize, Refusa
     answer: F,
 ) -> Result<usize, Refusal>
     requires fits { Fits list.now index.old }
-    requires callable { (r : _) (t : _) (o : _) → ReadAs asked r.now → r.now.list.now ≡ list.now → t.now ≡ scratch.old → o.now ≡ out.old → F.pre answer r t o }
-    ensures refused { 0 < refusal_of asked list.now → (number_in result ≡ refusal_of asked list.now) × (scratch.new ≡ scratch.old) × (out.new ≡ out.old) }
-    ensures answered { 0 ≡ refusal_of asked list.now → AnswersRead F.FnOnce answer asked list.now scratch.old out.old result scratch.new out.new }
+    requires callable { TakesRead F.FnOnce answer asked list.now scratch.old out.old }
+    ensures refused { RefusedAs asked list.now scratch.old out.old result scratch.new out.new }
+    ensures answered { AnsweredAs F.FnOnce answer asked list.now scratch.old out.old result scratch.new out.new }
 {
     let read = read_parts(list, asked, index)?;
     answer(&read, scratch, out)
 }
 
-// Reads a list of the call that is asked for, or a volume: refusal 2, then 22, then 3, else what is answered to it, with the scratch and the output that are lent. A short
-// list has a table of its own, since a long one takes time to clear.
+// Reads a list of the call that is asked for, by its byte, or a volume: refusal 2, then 22, then 3, else what is answered to it, with the scratch and the output that are lent. A short
+// list has a table of its own, since a long one takes time to clear. A byte and no `Call`: sort asks for whatever byte a list has.
 pub fn with_list<F: FnOnce(&ReadList, &mut [u32], &mut [u8]) -> Result<usize, Refusal>>(
     list: &[u8],
     asked: Option<u8>,
@@ -100,9 +100,9 @@ pub fn with_list<F: FnOnce(&ReadList, &mut [u32], &mut [u8]) -> Result<usize, Re
     out: &mut [u8],
     answer: F,
 ) -> Result<usize, Refusal>
-    requires callable { (r : _) (t : _) (o : _) → ReadAs asked r.now → r.now.list.now ≡ list.now → t.now ≡ scratch.old → o.now ≡ out.old → F.pre answer r t o }
-    ensures refused { 0 < refusal_of asked list.now → (number_in result ≡ refusal_of asked list.now) × (scratch.new ≡ scratch.old) × (out.new ≡ out.old) }
-    ensures answered { 0 ≡ refusal_of asked list.now → AnswersRead F.FnOnce answer asked list.now scratch.old out.old result scratch.new out.new }
+    requires callable { TakesRead F.FnOnce answer asked list.now scratch.old out.old }
+    ensures refused { RefusedAs asked list.now scratch.old out.old result scratch.new out.new }
+    ensures answered { AnsweredAs F.FnOnce answer asked list.now scratch.old out.old result scratch.new out.new }
 {
     if list.len() <= 3072 {
         return answer_by(list, asked, &mut [0u32; 1024], scratch, out, answer);

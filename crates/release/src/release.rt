@@ -7,6 +7,7 @@ ghost use Rattle.release_sums.specs.Summing.{Cleared};
 
 use crate::lists;
 use reader::call;
+use reader::call_kinds::Call;
 use reader::read_list::ReadList;
 use reader::refusal::Refusal;
 use release_sums::sums;
@@ -28,5 +29,5 @@ pub fn release(list: &[u8], scratch: &mut [u32], out: &mut [u8]) -> Result<usize
         return Err(Refusal::ShortScratch);
     }
     sums::clear(scratch);
-    call::with_list(list, Some(2), scratch, out, release_read)
+    call::with_list(list, Some(Call::Release.number()), scratch, out, release_read)
 }

@@ -16,7 +16,7 @@ loop-key-init c = rw (c.into_iter-key-iterator.ensures.into_iter_gives, c.iter-k
 
 pub loop-key-preserved : goal.loop-key-preserved
 loop-key-preserved c =
-    walk-turn bytes _ c.loop-key.out c.put_bucket.new.self c.in-Some.ensures.steps.keys (encode-next _ _) (rw c.bucket.ensures at c.put_bucket.ensures)
+    walk-turn bytes _ c.loop-key.out c.put_bucket.new.self c.in-Some.ensures.steps.keys (encode-next _ _) (rw (c.number.ensures, c.bucket.ensures) at c.put_bucket.ensures)
     ∙ c.loop-key.invariant
 
 pub returns : goal.returns

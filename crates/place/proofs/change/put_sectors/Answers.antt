@@ -5,4 +5,4 @@ use Rattle.place.proofs.change.put_sectors.Goals as goal
 
 pub returns : goal.returns
 unfolding encode_field le_bytes
-returns c = simp (c.put_head.ensures, c.put_u64.ensures, with-with)
+returns c = simp (c.number.ensures, c.put_head.ensures, c.put_u64.ensures, with-with)

@@ -7,5 +7,5 @@ use Rattle.place.proofs.place.place.Goals as goal
 pub returns : goal.returns
 returns c =
     let e = c.with_list.ensures in
-    list-answered answers.place (Some 1) c.with_list.result e.refused (place-refused c.args.list.now (length c.args.out.now))
+    list-answered answers.place (Some c.number.result) c.with_list.result e.refused (rw c.number.ensures (place-refused c.args.list.now (length c.args.out.now)))
     (λ z. let m = e.answered z in moved answers.place c.with_list.result m.is_of m.out-shows m.out-leaves (search rules))

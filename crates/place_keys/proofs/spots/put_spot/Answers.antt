@@ -9,4 +9,4 @@ pub returns : goal.returns
 unfolding encode_field spot_body le_bytes
 returns c =
     let g : c.args.p.generation % 256 ≡ c.args.p.generation = omega arith in
-    simp (c.put_head.ensures, c.put_sector.ensures, c.put_u16.ensures, c.put_bucket_bytes.ensures, c.put_u8.ensures, with-with, append_assoc, g)
+    simp (c.number.ensures, c.put_head.ensures, c.put_sector.ensures, c.put_u16.ensures, c.put_bucket_bytes.ensures, c.put_u8.ensures, with-with, append_assoc, g)

@@ -23,14 +23,14 @@ returns c =
     let l : 65536 ≤ length a.scratch.now = omega arith in
     let n = cleared-length a.scratch.now _ l c.clear.ensures in
     let by : List ℕ → ℕ → Answer = λ s room. release s (length a.scratch.now) room in (
-      list-answered by (Some 2) c.with_list.result e.refused (release-refused a.list.now (length a.scratch.now) (length a.out.now) l)
+      list-answered by (Some c.number.result) c.with_list.result e.refused (rw c.number.ensures (release-refused a.list.now (length a.scratch.now) (length a.out.now) l))
           (λ z.
           let m = e.answered z in
           let h : (made_by c.with_list.result m.out-left.now ≡ outcome (release m.list.now.list.now (length m.scratch-shown.now) (length m.out-shown.now)) m.out-shown.now)
           × (m.scratch-left.now ≡ scratch_after m.scratch-shown.now) = search rules in
           let k : length m.scratch-shown.now ≡ length a.scratch.now = ap length m.scratch-shows ∙ n in
           moved by c.with_list.result m.is_of m.out-shows m.out-leaves (rw k at h.0)),
-      refused-or-read (refusal_of (Some 2) a.list.now) (λ p. (e.refused p).1 ∙ c.clear.ensures ∙ sym (scratch-long _ l))
+      refused-or-read (refusal_of (Some c.number.result) a.list.now) (λ p. (e.refused p).1 ∙ c.clear.ensures ∙ sym (scratch-long _ l))
           (λ z.
           let m = e.answered z in
           let h : (made_by c.with_list.result m.out-left.now ≡ outcome (release m.list.now.list.now (length m.scratch-shown.now) (length m.out-shown.now)) m.out-shown.now)
