@@ -35,7 +35,6 @@ use Rattle.merge.specs.Merging.{Done}
 use Rattle.merge.proofs.CountLaws.{within_is}
 use Rattle.apply.specs.Roots.{roots_after, front_bytes}
 use Rattle.apply.specs.NextVolume.{Lists, bytes_after, Ready, section_keys, next_of, QueueReady, VolumeDone}
-use Rattle.apply.proofs.VolumeLaws.{roots-low}
 use Rattle.apply.proofs.NextLaws.{next_bytes, next_within, next-bytes, next-within}
 
 -- the keys of a section that are put are those of the next volume
@@ -59,10 +58,6 @@ queue-ready {list} q p i h d e =
     ap (get_or (map (λ (x : Bor (List ℕ)). x.now) q.parts) i) (sym e) ∙ get_or-map (λ (x : Bor (List ℕ)). x.now) q.parts i d in
     record { kept = rw (← z) x.kept; keys = rw (← z) x.keys }
 
--- what `roots_after` asks
-pub roots-ready : {r : ReadList} {list : List ℕ} → Ready r list → (r.head.roots < 8) × (change_laid_out list ≡ true)
-roots-ready {r} q = (rw (ap (λ x. x.roots) q.read.read.head) (roots-low r.list.now (volume-passed r.list.now q.read.passed).laid), q.change)
-
 module _ {r : ReadList} {list : List ℕ} {roots : ℕ} (q : Ready r list) (b : roots ≡ roots_after list r.head.roots) where
   abbrev lists : Lists
   lists = record { volume = r.list.now; change = list }
@@ -81,13 +76,12 @@ module _ {r : ReadList} {list : List ℕ} {roots : ℕ} (q : Ready r list) (b : 
 
 module _ {n : Lists} {o o' : Output} {within : Bool} {i : ℕ} (c : Sectioning n o o' within i) where
   pub sections-on :
-      {o'' : Output} {count : ℕ} → i < 7 → Done (get_or sections i 0) o' (next_of n.volume n.change (get_or sections i 0)) o'' count
+      {o'' : Output} {t count : ℕ} → i < 7 → t ≡ get_or sections i 0 → Done t o' (next_of n.volume n.change t) o'' count
       → Sectioning n o o'' (within && leb count 4096) (i + 1)
   unfolding next_bytes next_within all_of
-  sections-on {o''} {count} l d =
-      let t : ℕ = get_or sections i 0 in
+  sections-on {o''} {t} {count} l e d =
       let ts : List ℕ = drop (i + 1) sections in
-      let split : drop i sections ≡ t ∷ ts = drop-next 0 sections i l in
+      let split : drop i sections ≡ t ∷ ts = rw e (drop-next 0 sections i l) in
       record {
         wrote =
             ap (λ (x : Output). with_bytes x (each (next_bytes n.volume n.change) ts)) d.wrote

@@ -1,17 +1,15 @@
 -- Root bits: one field 70, and the loop over a change list.
 use mathlib.Core.Path.{◌≡◌, refl, ap, sym, ◌∙◌}
 use mathlib.Core.Bool.{Bool, true, false, cond}
-use mathlib.Core.List.{List, [], ◌∷◌}
-use Prim.Native.Nat.{ℕ, ◌+◌, ◌/◌, ◌%◌, ◌^◌, ◌≤◌, ◌<◌}
+use mathlib.Core.List.{List, [], ◌∷◌, map}
+use Prim.Native.Nat.{ℕ, ◌+◌, ◌≤◌, ◌<◌}
 use native.Mathlib.Nat.{add-zero}
 use native.Mathlib.Omega.{arith}
 use lib.Dec.{eqb}
 use lib.ListN.{length, take, drop, get_or}
-use lib.Bits.{or_add_and}
-use borrow.Author.Tests.{eqb-true, eqb-false, eq-eqb, ne_eqb}
-use Rattle.std.specs.Int.Bits.{bit_or}
-use Rattle.std.proofs.lemmas.Nat.Bits.{and_pow, bit_at-lt}
-use Rattle.wire.specs.Bytes.{All}
+use borrow.Author.Tests.{eqb-true, eq-eqb, ne_eqb}
+use Rattle.std.proofs.Common.{true≢false}
+use Rattle.wire.specs.Bytes.{All, none, more}
 use Rattle.wire.specs.Numbers.{le}
 use Rattle.wire.specs.Fields.{Field, fields, field_at, whole}
 use Rattle.wire.proofs.NumberLaws.{le-byte, body-le, body-length}
@@ -23,66 +21,29 @@ use Rattle.calls.specs.Apply.{set_roots}
 use Rattle.calls.proofs.lists.AllLaws.{first, all_join, all_tail, test-all}
 use Rattle.calls.proofs.lists.BoolLaws.{parts}
 use Rattle.calls.proofs.encoding.Blocks.{shaped_out}
+use Rattle.calls.proofs.encoding.ApplyLaws.{roots-below}
 use Rattle.wire.proofs.FieldLaws.{FieldAt}
-use Rattle.apply.specs.Roots.{with_root_bit, with_root, is_root, roots_in, NamesRoot, after_field, Rooted}
-
--- one bit
-
-or-bit : (k roots : ℕ) → bit_or roots (2 ^ k) ≡ with_root_bit roots (2 ^ k)
-unfolding with_root_bit
-or-bit k roots = go (eqb (roots / 2 ^ k % 2) 0) refl
-  where
-    go : (t : Bool) → eqb (roots / 2 ^ k % 2) 0 ≡ t → bit_or roots (2 ^ k) ≡ cond t (roots + 2 ^ k) roots
-    go true e = let h = rw (eqb-true (roots / 2 ^ k % 2) 0 e) at (and_pow roots k) in omega (arith, h, or_add_and roots (2 ^ k))
-    go false e =
-        let n = eqb-false (roots / 2 ^ k % 2) 0 e in
-        let z : roots / 2 ^ k % 2 ≡ 1 = omega (arith, n, bit_at-lt roots k) in
-        let h = rw z at (and_pow roots k) in
-        omega (arith, h, or_add_and roots (2 ^ k))
-
-bit-low : (roots bit : ℕ) → roots < 8 → (roots / bit % 2 ≡ 0 → roots + bit < 8) → with_root_bit roots bit < 8
-unfolding with_root_bit
-bit-low roots bit l h = go (eqb (roots / bit % 2) 0) refl
-  where
-    go : (b : Bool) → eqb (roots / bit % 2) 0 ≡ b → cond b (roots + bit) roots < 8
-    go true e = h (eqb-true (roots / bit % 2) 0 e)
-    go false e = l
-
--- the three roots
-module _ (roots id : ℕ) (l : roots < 8) where
-  rooted :
-      (n k : ℕ) → id ≡ n → with_root roots n ≡ with_root_bit roots (2 ^ k) → with_root_bit roots (2 ^ k) < 8
-      → Rooted (bit_or roots (2 ^ k)) (with_root roots id)
-  rooted n k e f h = let s = or-bit k roots in record { same = s ∙ sym f ∙ ap (with_root roots) (sym e); low = rw s h }
-
-  pub rooted-10 : id ≡ 10 → Rooted (bit_or roots 1) (with_root roots id)
-  unfolding with_root
-  rooted-10 e = rooted 10 0 e refl (bit-low roots 1 l (λ z. omega arith))
-
-  pub rooted-12 : id ≡ 12 → Rooted (bit_or roots 2) (with_root roots id)
-  unfolding with_root
-  rooted-12 e = rooted 12 1 e refl (bit-low roots 2 l (λ z. omega arith))
-
-  pub rooted-14 : (id ≡ 10 → ⊥) → (id ≡ 12 → ⊥) → is_root id ≡ true → Rooted (bit_or roots 4) (with_root roots id)
-  unfolding with_root is_root
-  rooted-14 a b h =
-      rooted 14 2 (eqb-true id 14 (rw (ne_eqb id 10 a, ne_eqb id 12 b) at h)) refl (bit-low roots 4 l (λ z. omega arith))
+use Rattle.reader.specs.Roots.{with_root_bit, with_root, is_root}
+use Rattle.apply.specs.Roots.{roots_in, roots_after, NamesRoot, after_field}
 
 -- one field
 
 module _ (roots : ℕ) (f : Field) where
-  pub other-field : roots < 8 → (f.tag ≡ 70 → ⊥) → Rooted roots (after_field roots f)
+  pub other-field : (f.tag ≡ 70 → ⊥) → roots ≡ after_field roots f
   unfolding after_field
-  other-field l h = record { same = rw (ne_eqb f.tag 70 h); low = l }
+  other-field h = rw (ne_eqb f.tag 70 h) refl
 
-  pub root-field : {r : ℕ} → f.tag ≡ 70 → Rooted r (with_root roots (le 1 f.body)) → Rooted r (after_field roots f)
+  pub root-field : {q id : ℕ} → f.tag ≡ 70 → le 1 f.body ≡ id → q ≡ with_root roots id → q ≡ after_field roots f
   unfolding after_field
-  root-field e h = rw (eq-eqb f.tag 70 e) h
+  root-field e g h = rw (eq-eqb f.tag 70 e, g) h
+
+  -- a field 70 that names no root, which there is not
+  pub no-root : NamesRoot f → f.tag ≡ 70 → is_root (le 1 f.body) ≡ false → ⊥
+  no-root h e g = true≢false (sym (h e).1 ∙ g)
 
 -- the loop on its way
 
 pub record Rooting (list : List ℕ) (roots at r : ℕ) : Type 0 where
-  pub low : r < 8
   pub rest : set_roots (roots_in (fields (drop at list))) r ≡ set_roots (roots_in (fields list)) roots
   pub named : All NamesRoot (fields (drop at list))
 
@@ -103,12 +64,27 @@ all-named-in list h =
     let c = parts (all_of field_ok fs) _ b.1 in
     all_join named-field (test-all (shaped change_shapes) fs b.0) (test-all field_ok fs c.0)
 
-pub rooting-start : (list : List ℕ) (roots : ℕ) → roots < 8 → change_laid_out list ≡ true → Rooting list roots 0 roots
-rooting-start list roots l h = record { low = l; rest = refl; named = all-named-in list h }
+named-roots : {fs : List Field} → All NamesRoot fs → All (λ id. is_root id ≡ true) (roots_in fs)
+unfolding roots_in bodies those
+named-roots none = none
+named-roots (more {a = f} {s = fs} h hs) = go (eqb f.tag 70) refl (named-roots hs)
+  where
+    go : (t : Bool) → eqb f.tag 70 ≡ t → All (λ id. is_root id ≡ true) (map (le 1) (map (λ g. g.body) (those (λ g. eqb g.tag 70) fs)))
+        → All (λ id. is_root id ≡ true) (map (le 1) (map (λ g. g.body) (cond t (f ∷ those (λ g. eqb g.tag 70) fs) (those (λ g. eqb g.tag 70) fs))))
+    go true e r = more (h (eqb-true f.tag 70 e)).1 r
+    go false e r = r
 
-pub rooting-end : {list : List ℕ} {roots at r : ℕ} → Rooting list roots at r → fields (drop at list) ≡ [] → Rooted r (set_roots (roots_in (fields list)) roots)
+-- the roots of a change list are roots
+pub roots-low : (list : List ℕ) (roots : ℕ) → change_laid_out list ≡ true → roots < 8 → roots_after list roots < 8
+unfolding is_root
+roots-low list roots h l = roots-below roots (named-roots (all-named-in list h)) l
+
+pub rooting-start : (list : List ℕ) (roots : ℕ) → change_laid_out list ≡ true → Rooting list roots 0 roots
+rooting-start list roots h = record { rest = refl; named = all-named-in list h }
+
+pub rooting-end : {list : List ℕ} {roots at r : ℕ} → Rooting list roots at r → fields (drop at list) ≡ [] → r ≡ roots_after list roots
 unfolding roots_in bodies those set_roots
-rooting-end p e = record { same = rw e at p.rest; low = p.low }
+rooting-end p e = rw e at p.rest
 
 module _ {list : List ℕ} {roots at r : ℕ} (p : Rooting list roots at r) {tag b n : ℕ} (h : FieldAt list at tag b n) where
   abbrev f : Field
@@ -120,12 +96,11 @@ module _ {list : List ℕ} {roots at r : ℕ} (p : Rooting list roots at r) {tag
   pub rooting-names : NamesRoot f
   rooting-names = first all_named
 
-  pub rooting-on : {q : ℕ} → Rooted q (after_field r f) → Rooting list roots (b + n) q
+  pub rooting-on : {q : ℕ} → q ≡ after_field r f → Rooting list roots (b + n) q
   unfolding roots_in bodies those set_roots after_field with_root with_root_bit root_missing
   rooting-on {q} k =
       record {
-        low = k.low;
-        rest = ap (set_roots (roots_in (fields (drop (b + n) list)))) k.same ∙ sym passed ∙ p.rest;
+        rest = ap (set_roots (roots_in (fields (drop (b + n) list)))) k ∙ sym passed ∙ p.rest;
         named = all_tail all_named;
       }
     where

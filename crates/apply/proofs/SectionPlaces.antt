@@ -1,12 +1,13 @@
 -- The sections of a volume that was read.
-use mathlib.Core.Path.{◌≡◌, refl, sym}
+use mathlib.Core.Path.{◌≡◌, refl, sym, ap, ◌∙◌}
 use mathlib.Core.Bool.{true}
 use lib.Dec.{leb}
 use Rattle.std.specs.Borrow.{Bor}
 use mathlib.Core.List.{List, [], ◌∷◌, map}
 use Prim.Native.Nat.{ℕ, zero, suc, ◌<◌}
 use native.Mathlib.Omega.{arith}
-use lib.ListN.{length, get_or}
+use lib.ListN.{length, get_or, length-map, get_or-map}
+use Rattle.std.proofs.lemmas.List.{get_or_default}
 use Rattle.wire.specs.Bytes.{All, none, more}
 use Rattle.wire.specs.Fields.{fields}
 use Rattle.calls.specs.Lists.{all_of}
@@ -23,7 +24,7 @@ use Rattle.sorting.specs.Entries.{sections, is_entry, entry_of}
 use Rattle.sorting.specs.EntryPlaces.{size_at, tag_at, entry_from, entries_at, Stands}
 use Rattle.reader.specs.CallFields.{key_fits}
 use Rattle.merge.specs.Counts.{StandsWithin, section_within}
-use Rattle.apply.specs.NextVolume.{Ready, section_keys, SectionReady}
+use Rattle.apply.specs.NextVolume.{Ready, section_keys, SectionReady, SectionsReady}
 use Rattle.apply.proofs.VolumeLaws.{SectionOf, parted}
 use Rattle.apply.proofs.NextLaws.{section-within}
 
@@ -105,7 +106,7 @@ section-ready {vol} {t = t} s w p =
     }
 
 -- section number i of a volume that was read
-pub keys-ready :
+keys-ready :
     {r : ReadList} {list : List ℕ} → Ready r list → (i : ℕ) → i < 7 → (d : Bor (List ℕ))
     → SectionReady (get_or sections i 0) r.list.now (get_or (section_places r) i d).now
 keys-ready {r} q i l d =
@@ -113,3 +114,27 @@ keys-ready {r} q i l d =
     let p = volume-passed vol q.read.passed in
     let k = parted p.laid p.once in
     section-ready (all-nth 0 k i l) (section-within vol p.within i l) (section-at k q.read.read i l d)
+
+-- all of them
+pub sections-ready :
+    {r : ReadList} {list : List ℕ} → Ready r list
+    → SectionsReady r.list.now ((4, r.alloc.places) ∷ (10, r.lru.places) ∷ (11, r.freespace.places) ∷ (12, r.need_discard.places) ∷ (13, r.backpointers.places) ∷ (14, r.gens.places) ∷ (64, r.reserved.places) ∷ [])
+sections-ready {r} q =
+    record {
+      tags = refl;
+      ready =
+          more (keys-ready q 0 (omega arith) r.alloc.places)
+          (more (keys-ready q 1 (omega arith) r.alloc.places)
+          (more (keys-ready q 2 (omega arith) r.alloc.places)
+          (more (keys-ready q 3 (omega arith) r.alloc.places)
+          (more (keys-ready q 4 (omega arith) r.alloc.places) (more (keys-ready q 5 (omega arith) r.alloc.places) (more (keys-ready q 6 (omega arith) r.alloc.places) none))))));
+    }
+
+-- section number i among them
+pub section-ready-at :
+    {vol : List ℕ} {ps : List (ℕ × Bor (List ℕ))} → SectionsReady vol ps → (d : ℕ × Bor (List ℕ)) (i : ℕ) → i < 7
+    → ((get_or ps i d).0 ≡ get_or sections i 0) × SectionReady (get_or ps i d).0 vol (get_or ps i d).1.now
+section-ready-at {ps = ps} s d i l =
+    let n : length ps ≡ 7 = sym (length-map ps (λ p. p.0)) ∙ ap length s.tags in
+    let e : get_or sections i d.0 ≡ (get_or ps i d).0 = ap (λ (ts : List ℕ). get_or ts i d.0) (sym s.tags) ∙ get_or-map (λ p. p.0) ps i d in
+    (sym e ∙ get_or_default sections i d.0 0 (omega arith), all-nth d s.ready i (omega (arith, n)))

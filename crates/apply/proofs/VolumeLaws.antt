@@ -2,21 +2,21 @@
 use mathlib.Core.Path.{◌≡◌, refl, ap, sym, ◌∙◌}
 use mathlib.Core.Bool.{true, cond, and-true}
 use mathlib.Core.List.{List, [], ◌∷◌, map, map-map}
-use Prim.Native.Nat.{ℕ, ◌≤◌, ◌<◌}
+use Prim.Native.Nat.{ℕ, ◌≤◌}
 use native.Mathlib.Omega.{arith}
-use lib.Dec.{leb, eqb}
+use lib.Dec.{eqb}
 use lib.ListN.{length}
-use borrow.Author.Tests.{eq-eqb, ne_eqb, ltb-true}
+use borrow.Author.Tests.{eq-eqb, ne_eqb}
 use Rattle.wire.specs.Bytes.{All, none, more}
-use Rattle.wire.specs.Fields.{Field, fields, whole}
+use Rattle.wire.specs.Fields.{fields}
 use Rattle.wire.specs.Keys.{key_of}
 use Rattle.wire.specs.Kinds.{bucket_read, bucket_below}
 use Rattle.wire.specs.Order.{pos_less}
 use Rattle.wire.specs.Positions.{alloc_at}
 use Rattle.wire.specs.declared.kinds.Bucket.{Bucket}
-use Rattle.calls.specs.Lists.{all_of, in_order}
+use Rattle.calls.specs.Lists.{in_order}
 use Rattle.calls.specs.Sorting.{sorted_by}
-use Rattle.calls.specs.CallList.{bodies, keys_of, key_below, sorted_trees, reserved_of, call_list_of, shaped, volume_shapes, request_shapes, all_trees, keys_ascend, head_ok, laid_out, volume_laid_out, none_twice}
+use Rattle.calls.specs.CallList.{bodies, keys_of, key_below, sorted_trees, reserved_of, call_list_of, volume_shapes, request_shapes, all_trees, keys_ascend, laid_out, volume_laid_out, none_twice}
 use Rattle.calls.specs.Answers.{read_volume}
 use Rattle.calls.proofs.lists.AllLaws.{all-imp}
 use Rattle.calls.proofs.lists.BoolLaws.{parts}
@@ -101,15 +101,3 @@ parted {vol} h o =
     (more (tree-section w 12 refl (omega arith) k.need_discard)
     (more (tree-section w 13 refl (omega arith) k.backpointers)
     (more (tree-section w 14 refl (omega arith) k.gens) (more (bucket-section w p.1) none))))))
-
--- the root bits of a volume that is laid out
-pub roots-low : (vol : List ℕ) → volume_laid_out vol ≡ true → (read_volume vol).head.roots < 8
-unfolding volume_laid_out laid_out head_ok
-roots-low vol h =
-    let fs : List Field = fields vol in
-    let a = parts (whole vol) _ h in
-    let b = parts (all_of (shaped volume_shapes) fs) _ a.1 in
-    let c = parts (eqb (length (bodies 1 fs)) 1) _ b.1 in
-    let d = parts (head_ok (read_volume vol).head) _ c.1 in
-    ltb-true (read_volume vol).head.roots 8
-    (parts (leb (read_volume vol).head.call 3) _ (parts (leb 1 (read_volume vol).head.call) _ d.0).1).1

@@ -1,5 +1,6 @@
 -- What is asked before the next volume is written, and what is promised of each of its sections and of the whole.
 use Rattle.std.specs.Prelude.{◌≡◌, Bool, true, ℕ, None, List, [], ◌∷◌, map}
+use Rattle.std.specs.Borrow.{Bor}
 use Rattle.wire.specs.Bytes.{All}
 use Rattle.wire.specs.Fields.{fields}
 use Rattle.wire.specs.Keys.{Key}
@@ -13,7 +14,7 @@ use Rattle.calls.specs.Answers.{answer, next_volume, apply}
 use Rattle.reader.specs.Readings.{ReadAs}
 use Rattle.reader.specs.Table.{sorted_bodies}
 use Rattle.reader.specs.declared.read_list.ReadList.{ReadList}
-use Rattle.sorting.specs.Entries.{entries, entry_of}
+use Rattle.sorting.specs.Entries.{sections, entries, entry_of}
 use Rattle.sorting.specs.EntryPlaces.{EntryAt, entries_at}
 use Rattle.merge.specs.Queues.{gather, ascending}
 use Rattle.merge.specs.Counts.{StandsWithin}
@@ -45,6 +46,11 @@ pub record SectionReady (t : ℕ) (vol keys : List ℕ) : Type 0 where
   pub stands : All (StandsWithin t vol) keys
   pub up : ascending (entries_at t vol keys) ≡ true
   pub all : entries_at t vol keys ≡ section_keys vol t
+
+-- the sections of a volume, each with the places of its keys
+pub record SectionsReady (vol : List ℕ) (ps : List (ℕ × Bor (List ℕ))) : Type 0 where
+  pub tags : map (λ p. p.0) ps ≡ sections
+  pub ready : All (λ p. SectionReady p.0 vol p.1.now) ps
 
 -- these places of a change list are of its queued keys of section t, the last at each position, in order
 pub record QueueReady (t : ℕ) (list queue : List ℕ) : Type 0 where

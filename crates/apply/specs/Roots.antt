@@ -1,21 +1,11 @@
 -- FORMAT.md, "Apply": 70 sets the bit of a root, and the rest of field 1 is kept.
-use Rattle.std.specs.Prelude.{◌≡◌, Bool, true, ◌||◌, cond, ℕ, ◌+◌, ◌/◌, ◌%◌, ◌^◌, ◌<◌, List, map, length, eqb}
+use Rattle.std.specs.Prelude.{◌≡◌, true, cond, ℕ, List, map, length, eqb}
 use Rattle.wire.specs.Numbers.{le}
 use Rattle.wire.specs.Fields.{Field, fields}
 use Rattle.wire.specs.Encode.{encode_field}
 use Rattle.calls.specs.CallList.{Head, head_body, bodies}
-use Rattle.calls.specs.Apply.{root_bit, set_roots, with_roots}
-
--- a bit set, unless it is
-unfoldable pub with_root_bit : ℕ → ℕ → ℕ
-with_root_bit roots bit = cond (eqb (roots / bit % 2) 0) (roots + bit) roots
-
--- the bit of a root set
-unfoldable pub with_root : ℕ → ℕ → ℕ
-with_root roots id = with_root_bit roots (2 ^ root_bit id)
-
-unfoldable pub is_root : ℕ → Bool
-is_root id = eqb id 10 || (eqb id 12 || eqb id 14)
+use Rattle.calls.specs.Apply.{set_roots, with_roots}
+use Rattle.reader.specs.Roots.{is_root, with_root}
 
 -- the roots that fields 70 name
 unfoldable pub roots_in : List Field → List ℕ
@@ -31,11 +21,6 @@ NamesRoot f = f.tag ≡ 70 → (length f.body ≡ 1) × (is_root (le 1 f.body) �
 
 unfoldable pub after_field : ℕ → Field → ℕ
 after_field roots f = cond (eqb f.tag 70) (with_root roots (le 1 f.body)) roots
-
--- root bits, the rest 0
-pub record Rooted (r is : ℕ) : Type 0 where
-  pub same : r ≡ is
-  pub low : r < 8
 
 -- field 1 of a volume with other root bits
 unfoldable pub front_bytes : Head → ℕ → List ℕ

@@ -4,42 +4,35 @@ ghost use Rattle.wire.specs.Output.{with_bytes};
 ghost use Rattle.calls.specs.ChangeList.{change_laid_out};
 ghost use Rattle.reader.specs.Heads.{head_in};
 ghost use Rattle.wire.specs.FieldsFound.{field_in};
-ghost use Rattle.apply.specs.Roots.{with_root, is_root, roots_after, NamesRoot, Rooted, after_field, front_bytes};
+ghost use Rattle.apply.specs.Roots.{roots_after, NamesRoot, after_field, front_bytes};
 
-use reader::head;
 use reader::head::Head;
+use reader::roots::Root;
+use reader::{head, roots};
 use wire::fields::{Field, Fields};
 use wire::le;
+use wire::tags::Tag;
 use wire::output::Output;
-
-// The bit of a root set. The layout of the change list shows the id, that of the volume the bits.
-fn set_root(roots: u8, id: u8) -> u8
-    requires { (roots < 8) × (is_root id ≡ true) }
-    ensures { Rooted result (with_root roots id) }
-{
-    match id {
-        10 => roots | 1,
-        12 => roots | 2,
-        _ => roots | 4,
-    }
-}
 
 // What one field of a change list makes of the root bits. The layout of the change list shows what a field 70 holds.
 fn after_field(roots: u8, field: Field) -> u8
-    requires { (roots < 8) × NamesRoot (field_in field) }
-    ensures { Rooted result (after_field roots (field_in field.entry)) }
+    requires { NamesRoot (field_in field) }
+    ensures { result ≡ after_field roots (field_in field.entry) }
 {
-    if field.tag == 70 {
-        set_root(roots, le::le8(field.body, 0))
-    } else {
-        roots
+    if field.tag != Tag::Root.number() {
+        return roots;
+    }
+    match Root::of_id(le::le8(field.body, 0)) {
+        Some(root) => roots::with_root(roots, root),
+        None => roots,
     }
 }
 
-// The root bits after a change list, whose layout was tested, as the volume's was.
+// The root bits after a change list, whose layout was tested.
 pub fn roots_after(list: &[u8], roots: u8) -> u8
-    requires { (roots < 8) × (change_laid_out list.now ≡ true) }
-    ensures { Rooted result (roots_after list.now roots) }
+    requires { change_laid_out list.now ≡ true }
+    ensures same { result ≡ roots_after list.now roots }
+    ensures low { roots < 8 → result < 8 }
 {
     let mut r = roots;
     for field in Fields::of(list) {

@@ -1,12 +1,12 @@
 // The next volume, whole.
-ghost use Rattle.std.specs.Prelude.{◌≡◌, ◌/◌, ◌≤◌, ◌<◌, IfSome, length, get_or};
+ghost use Rattle.std.specs.Prelude.{◌≡◌, ◌+◌, ◌/◌, ◌≤◌, ◌<◌, IfSome, length, get_or};
 ghost use Rattle.reader.specs.Refusals.{made_by};
 ghost use Rattle.calls.specs.Answers.{apply, outcome};
 ghost use Rattle.sorting.specs.Entries.{sections};
 ghost use Rattle.merge.specs.Merging.{Done};
 ghost use Rattle.merge.specs.QueueParts.{InParts};
 ghost use Rattle.apply.specs.Roots.{roots_after};
-ghost use Rattle.apply.specs.NextVolume.{Lists, bytes_after, Ready, next_of, SectionReady, QueueReady, VolumeDone};
+ghost use Rattle.apply.specs.NextVolume.{Lists, bytes_after, Ready, next_of, SectionReady, SectionsReady, QueueReady, VolumeDone};
 
 use crate::front;
 use merge::below::Rest;
@@ -17,9 +17,10 @@ use reader::answer;
 use reader::answer::Emit;
 use reader::read_list::ReadList;
 use reader::refusal::Refusal;
-use sorting::entries;
+use sorting::entries::BUCKETS;
 use std::marker::Model;
 use wire::output::Output;
+use wire::trees::Tree;
 
 // What the next volume is made of: a volume that was read, with the root bits of the next; a change list, and the places of its queued keys by section, where the table that is lent
 // held them.
@@ -41,41 +42,36 @@ impl<'a, 'q> Model for NextVolume<'a, 'q> {
 }
 
 impl<'a, 'q> NextVolume<'a, 'q> {
-    // The places of the keys of a section. The loop over the sections shows the bound, here and below.
-    fn keys(&self, i: usize) -> &[u32]
-        requires { i < 7 }
-        ensures { SectionReady (get_or sections i 0) self.now.volume result.now }
+    // The sections of the volume, each with the places of its keys.
+    fn sections(&self) -> [(u8, &[u32]); 7]
+        ensures { SectionsReady self.now.volume result }
     {
         let r = &self.read;
-        let sections = [
-            r.alloc.places,
-            r.lru.places,
-            r.freespace.places,
-            r.need_discard.places,
-            r.backpointers.places,
-            r.gens.places,
-            r.reserved.places,
-        ];
-        sections[i]
+        [
+            (Tree::Alloc.tag(), r.alloc.places),
+            (Tree::Lru.tag(), r.lru.places),
+            (Tree::Freespace.tag(), r.freespace.places),
+            (Tree::NeedDiscard.tag(), r.need_discard.places),
+            (Tree::Backpointers.tag(), r.backpointers.places),
+            (Tree::BucketGens.tag(), r.gens.places),
+            (BUCKETS, r.reserved.places),
+        ]
     }
 
-    // The places of its queued keys, where the table holds them.
+    // The places of the queued keys of a section, where the table holds them. The loop over the sections shows the bound, here and below.
     fn queued(&self, i: usize) -> Option<&[usize]>
         requires { i < 7 }
         ensures { IfSome result (λ q. QueueReady (get_or sections i 0) self.now.change q.now) }
     {
-        match self.queue {
-            Some(queue) => Some(queue.parts[i]),
-            None => None,
-        }
+        Some(self.queue?.parts[i])
     }
 
-    // A section; how many of its keys were written.
-    fn put_section(&self, out: &mut Output, i: usize) -> KeyCount
-        requires { i < 7 }
-        ensures { Done (get_or sections i 0) out.old (next_of self.now.volume self.now.change (get_or sections i 0)) out.new result }
+    // Section number i, whose keys stand at some places; how many keys were written.
+    fn put_section(&self, out: &mut Output, i: usize, section: u8, keys: &[u32]) -> KeyCount
+        requires { (i < 7) × (section ≡ get_or sections i 0) × SectionReady section self.now.volume keys.now }
+        ensures { Done section out.old (next_of self.now.volume self.now.change section) out.new result }
     {
-        let rest = Rest::new(entries::section_at(i), self.read.list, self.keys(i));
+        let rest = Rest::new(section, self.read.list, keys);
         match self.queued(i) {
             Some(queue) => merging::put_section(out, rest, self.list, queue),
             None => merging::put_section_in_chunks(out, rest, self.list),
@@ -88,8 +84,8 @@ impl<'a, 'q> NextVolume<'a, 'q> {
     {
         front::put_front(out, self.read.head, self.roots);
         let mut within = true;
-        for i in 0..7 {
-            within &= self.put_section(out, i).is_within();
+        for (i, (section, keys)) in self.sections().iter().enumerate() {
+            within &= self.put_section(out, i, *section, keys).is_within();
         }
         within
     }
@@ -120,18 +116,18 @@ impl<'a, 'q> Emit for NextVolume<'a, 'q> {
     }
 }
 
-// Apply, with tables that are lent for the change list's queued keys.
-fn apply_with(
+// Apply, with tables of N of the change list's queued keys, and of half as many to sort them in.
+fn apply_within<const N: usize, const HALF: usize>(
     read: &ReadList,
     list: &[u8],
-    table: &mut [usize],
-    spare: &mut [usize],
     out: &mut [u8],
 ) -> Result<usize, Refusal>
-    requires { Ready read.now list.now × (length table.old / 2 ≤ length spare.old) }
+    requires { Ready read.now list.now × (N / 2 ≤ HALF) × (N + HALF ≤ 0xffff) }
     ensures { made_by result out.new ≡ outcome (apply read.now.list.now list.now (length out.old)) out.old }
 {
-    let queue = queue::sort_queue(list, table, spare);
+    let mut table = [0usize; N];
+    let mut spare = [0usize; HALF];
+    let queue = queue::sort_queue(list, &mut table, &mut spare);
     let next = NextVolume {
         read: *read,
         roots: front::roots_after(list, read.head.roots),
@@ -147,11 +143,8 @@ pub fn apply_lists(read: &ReadList, list: &[u8], out: &mut [u8]) -> Result<usize
     ensures { made_by result out.new ≡ outcome (apply read.now.list.now list.now (length out.old)) out.old }
 {
     if list.len() <= 3584 {
-        let mut table = [0usize; 512];
-        let mut spare = [0usize; 256];
-        return apply_with(read, list, &mut table, &mut spare, out);
+        apply_within::<512, 256>(read, list, out)
+    } else {
+        apply_within::<16384, 8192>(read, list, out)
     }
-    let mut table = [0usize; 16384];
-    let mut spare = [0usize; 8192];
-    apply_with(read, list, &mut table, &mut spare, out)
 }

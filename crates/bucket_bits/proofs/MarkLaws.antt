@@ -6,14 +6,15 @@ use mathlib.Core.Option.{some}
 use Prim.Native.Nat.{ℕ, ◌+◌, ◌≤◌, ◌<◌, Ordering}
 use native.Mathlib.Omega.{arith}
 use lib.Dec.{leb, eqb}
-use lib.ListN.{length, get_or, drop, replicate, length-replicate, drop_of_length-le}
+use lib.ListN.{length, get_or, replicate, length-replicate}
 use borrow.Author.Tests.{ltb-true, eqb-true, eq-eqb}
 use Rattle.wire.specs.Keys.{Key}
-use Rattle.wire.specs.Kinds.{bucket_in_range, same_bucket, bucket_read}
+use Rattle.wire.specs.Kinds.{bucket_in_range, same_bucket}
 use Rattle.wire.specs.Order.{cmp}
 use Rattle.wire.specs.Positions.{bucket_in, alloc_at}
 use Rattle.wire.specs.declared.bpos.Bpos.{Bpos}
 use Rattle.wire.specs.declared.kinds.Bucket.{Bucket}
+use Rattle.wire.proofs.NumberLaws.{le-byte}
 use Rattle.wire.proofs.OrderLaws.{pos-cmp, mk-eq, lt≢eq, gt≢eq}
 use Rattle.format.specs.AllocV4.{data_type}
 use Rattle.format.specs.Packing.{get}
@@ -25,21 +26,16 @@ use Rattle.calls.specs.Trees.{on_eq, lookup}
 use Rattle.calls.proofs.lists.BoolLaws.{parts as and-true}
 use Rattle.calls.proofs.trees.SortedLaws.{Chain, Sorted, chain-weak, chain-sorted}
 use Rattle.calls.proofs.trees.SortedLaws.{NoSnapshots}
-use Rattle.calls.specs.Answers.{read_volume}
-use Rattle.calls.proofs.lists.AllOfLaws.{all-of-drop, all-of-first}
-use Rattle.reader.specs.Checked.{Checked, in_range}
-use Rattle.reader.specs.KeyHere.{Whole, value_at, key_here}
-use Rattle.reader.specs.Located.{KeysAt, BucketsAt}
-use Rattle.reader.proofs.CheckedLaws.{reserved-range, range_at, alloc-range}
-use Rattle.reader.proofs.KeyHereLaws.{byte-here, keys-next}
-use Rattle.reader.proofs.NextLaws.{buckets-next}
+use Rattle.reader.specs.Checked.{in_range}
+use Rattle.reader.proofs.CheckedLaws.{range_at}
 use Rattle.bucket_bits.specs.declared.marks.BucketBits.{BucketBits}
 use Rattle.bucket_bits.specs.Bits.{marked, with_mark, in_use, used_mark, Marks}
 use Rattle.bucket_bits.proofs.BitLaws.{mark-told, mark-length, mark-none}
 
--- the marks so far, with those that the rest of a list is to make, are those that all of it makes
-pub record Marking {A : Type 0} (is : A → Bucket → Bool) (all rest : List A) (bits : BucketBits) : Type 0 where
+-- the marks so far, with those that the rest of a list is to make, are those that all of it makes; of each that is left a test holds
+pub record Marking {A : Type 0} (is : A → Bucket → Bool) (ok : A → Bool) (all rest : List A) (bits : BucketBits) : Type 0 where
   pub size : length bits.bytes ≡ 8192
+  pub range : all_of ok rest ≡ true
   pub told : (b : Bucket) → bucket_in_range b ≡ true → (marked bits b || any_of (λ a. is a b) rest) ≡ any_of (λ a. is a b) all
 
 or-none : (t : Bool) → t ≡ t || false
@@ -52,43 +48,47 @@ or_swap true false c = refl
 or_swap false true c = refl
 or_swap false false c = refl
 
-module _ {A : Type 0} (is : A → Bucket → Bool) (all : List A) where
-  pub marking-start : (bits : BucketBits) → bits.bytes ≡ replicate 8192 0 → Marking is all all bits
-  marking-start bits e =
+module _ {A : Type 0} (is : A → Bucket → Bool) (ok : A → Bool) (all : List A) where
+  pub marking-start : (bits : BucketBits) → bits.bytes ≡ replicate 8192 0 → all_of ok all ≡ true → Marking is ok all all bits
+  marking-start bits e r =
       record {
         size = ap length e ∙ length-replicate {A = ℕ} 8192 0;
+        range = r;
         told = λ b h. ap (λ (t : Bool). t || any_of (λ a. is a b) all) (mark-none bits 8192 b e (omega (arith, ltb-true b.0 65536 h)));
       }
 
   -- one element more: its buckets are marked
-  pub marking-on :
-      {rest xs : List A} {x : A} {bits next : BucketBits} → Marking is all rest bits → rest ≡ x ∷ xs → length next.bytes ≡ length bits.bytes
-      → ((b : Bucket) → bucket_in_range b ≡ true → marked next b ≡ is x b || marked bits b)
-      → Marking is all xs next
-  unfolding any_of
-  marking-on {rest} {xs} {x} {bits} {next} m e l n =
-      record {
-        size = l ∙ m.size;
-        told =
-            λ b h.
-            ap (λ (t : Bool). t || any_of (λ a. is a b) xs) (n b h) ∙ or_swap (is x b) (marked bits b) (any_of (λ a. is a b) xs)
-            ∙ ap (λ (r : List A). marked bits b || any_of (λ a. is a b) r) (sym e)
-            ∙ m.told b h;
-      }
+  module _ {rest xs : List A} {x : A} {bits : BucketBits} (m : Marking is ok all rest bits) (e : rest ≡ x ∷ xs) where
+    ranges : (ok x ≡ true) × (all_of ok xs ≡ true)
+    unfolding all_of
+    ranges = and-true (ok x) (all_of ok xs) (ap (all_of ok) (sym e) ∙ m.range)
 
-  pub marking-end : {bits : BucketBits} (i : ℕ) → length all ≤ i → Marking is all (drop i all) bits → Marks bits (λ b. any_of (λ a. is a b) all)
-  unfolding any_of
-  marking-end {bits} i h m =
-      record {
-        told =
-            λ b l.
-            or-none (marked bits b) ∙ ap (λ (r : List A). marked bits b || any_of (λ a. is a b) r) (sym (drop_of_length-le all h))
-            ∙ m.told b l;
-      }
+    pub first-ranged : ok x ≡ true
+    first-ranged = ranges.0
 
--- the data type in the value of the key at a place
-pub type-here : (s : List ℕ) (at : ℕ) → Whole s at → 16 ≤ length (key_here s at).value → get data_type (drop (value_at at) s) ≡ get_or (key_here s at).value 14 0
-type-here s at w h = get_at data_type s (value_at at) ∙ byte-here s at w 14 (omega arith)
+    pub marking-on :
+        {next : BucketBits} → length next.bytes ≡ length bits.bytes → ((b : Bucket) → bucket_in_range b ≡ true → marked next b ≡ is x b || marked bits b)
+        → Marking is ok all xs next
+    unfolding any_of
+    marking-on {next} l n =
+        record {
+          size = l ∙ m.size;
+          range = ranges.1;
+          told =
+              λ b h.
+              ap (λ (t : Bool). t || any_of (λ a. is a b) xs) (n b h) ∙ or_swap (is x b) (marked bits b) (any_of (λ a. is a b) xs)
+              ∙ ap (λ (r : List A). marked bits b || any_of (λ a. is a b) r) (sym e)
+              ∙ m.told b h;
+        }
+
+  pub marking-end : {rest : List A} {bits : BucketBits} → Marking is ok all rest bits → rest ≡ [] → Marks bits (λ b. any_of (λ a. is a b) all)
+  unfolding any_of
+  marking-end {bits = bits} m e =
+      record { told = λ b l. or-none (marked bits b) ∙ ap (λ (r : List A). marked bits b || any_of (λ a. is a b) r) (sym e) ∙ m.told b l }
+
+-- the data type in a value
+pub type-in : (v : List ℕ) → get data_type v ≡ get_or v 14 0
+type-in v = get_at data_type v 0 ∙ le-byte v 14
 
 -- the buckets in use, by the keys of which one is
 abbrev pub uses_bucket : Key → Bucket → Bool
@@ -173,31 +173,15 @@ unfolding in_use
 used-inode-0 k h = eqb-true k.pos.inode 0 (and-true (at_inode0 k) _ h).0
 
 -- one reserved bucket more
-module _ {s reserved : List ℕ} (t : Checked s) (f : BucketsAt s reserved (read_volume s).reserved) (i : ℕ) (h : i < length reserved) where
-  abbrev pub reserved_here : Bucket
-  reserved_here = bucket_read (drop (get_or reserved i 0) s)
-
-  pub reserved-small : bucket_in_range reserved_here ≡ true
-  reserved-small = all-of-first bucket_in_range (all-of-drop bucket_in_range _ i (reserved-range t)) (buckets-next f i h)
-
-  pub reserved-more :
-      {bits : BucketBits} → Marking (λ a b. same_bucket a b) (read_volume s).reserved (drop i (read_volume s).reserved) bits
-      → Marking (λ a b. same_bucket a b) (read_volume s).reserved (drop (i + 1) (read_volume s).reserved) (with_mark bits reserved_here)
-  reserved-more {bits} m =
-      marking-on (λ a b. same_bucket a b) _ m (buckets-next f i h) (mark-length bits reserved_here)
-      (λ b _. mark-told bits reserved_here b (omega (arith, m.size, ltb-true reserved_here.0 65536 reserved-small)))
+module _ {all rest xs : List Bucket} {x : Bucket} {bits : BucketBits} (m : Marking (λ a b. same_bucket a b) bucket_in_range all rest bits) (e : rest ≡ x ∷ xs) where
+  pub reserved-more : Marking (λ a b. same_bucket a b) bucket_in_range all xs (with_mark bits x)
+  reserved-more =
+      marking-on (λ a b. same_bucket a b) bucket_in_range all m e (mark-length bits x)
+      (λ b _. mark-told bits x b (omega (arith, m.size, ltb-true x.0 65536 (first-ranged (λ a b. same_bucket a b) bucket_in_range all m e))))
 
 -- one key more
-module _ {s places : List ℕ} (t : Checked s) (f : KeysAt s places (read_volume s).trees.alloc) (i : ℕ) (h : i < length places) where
-  abbrev alloc_here : Key
-  alloc_here = key_here s (get_or places i 0)
-
-  pub used-ranged : in_range alloc_here ≡ true
-  used-ranged = all-of-first in_range (all-of-drop in_range _ i (alloc-range t)) (keys-next f i h)
-
-  pub used-more :
-      {bits : BucketBits} → Marking uses_bucket (read_volume s).trees.alloc (drop i (read_volume s).trees.alloc) bits
-      → Marking uses_bucket (read_volume s).trees.alloc (drop (i + 1) (read_volume s).trees.alloc) (used_mark alloc_here bits)
-  used-more {bits} m =
-      marking-on uses_bucket _ m (keys-next f i h) (used-length alloc_here bits)
-      (λ b _. used-told alloc_here bits b m.size (λ u. range_at alloc_here used-ranged (used-inode-0 alloc_here u)))
+module _ {all rest xs : List Key} {x : Key} {bits : BucketBits} (m : Marking uses_bucket in_range all rest bits) (e : rest ≡ x ∷ xs) where
+  pub used-more : Marking uses_bucket in_range all xs (used_mark x bits)
+  used-more =
+      marking-on uses_bucket in_range all m e (used-length x bits)
+      (λ b _. used-told x bits b m.size (λ u. range_at x (first-ranged uses_bucket in_range all m e) (used-inode-0 x u)))

@@ -6,7 +6,9 @@ use Rattle.wire.specs.Positions.{bucket_in}
 use Rattle.wire.specs.declared.kinds.Bucket.{Bucket}
 use Rattle.calls.specs.Limits.{at_inode0}
 use Rattle.calls.specs.Freespace.{is_in, is_used}
-use Rattle.calls.specs.Answers.{read_volume}
+use Rattle.reader.specs.ListedKeys.{keys_listed}
+use Rattle.reader.specs.ListedBuckets.{buckets_listed}
+use Rattle.reader.specs.declared.read_list.ReadList.{ReadList}
 use Rattle.bucket_bits.specs.declared.marks.BucketBits.{BucketBits}
 
 -- a bit of a byte
@@ -44,7 +46,7 @@ used_mark k bits = cond (in_use k) (with_mark bits (bucket_in k.pos)) bits
 pub record Marks (bits : BucketBits) (is : Bucket → Bool) : Type 0 where
   pub told : (b : Bucket) → bucket_in_range b ≡ true → marked bits b ≡ is b
 
--- the tables of the reserved buckets and of those in use
-pub record Tables (s : List ℕ) (reserved used : BucketBits) : Type 0 where
-  pub reserved-told : Marks reserved (is_in (read_volume s).reserved)
-  pub used-told : Marks used (is_used (read_volume s).trees.alloc)
+-- the tables of a list's reserved buckets and of those in use
+pub record Tables (r : ReadList) (reserved used : BucketBits) : Type 0 where
+  pub reserved-told : Marks reserved (is_in (buckets_listed r.reserved))
+  pub used-told : Marks used (is_used (keys_listed r.alloc))

@@ -1,16 +1,16 @@
 // A table of 65,536 bits, one for each bucket: bucket b in bit b mod 8 of byte b div 8.
 ghost use Rattle.std.specs.Prelude.{◌≡◌, true, ◌<◌, replicate};
 ghost use Rattle.wire.specs.Kinds.{bucket_in_range};
-ghost use Rattle.calls.specs.Answers.{read_volume};
 ghost use Rattle.calls.specs.Freespace.{is_in, is_used};
-ghost use Rattle.reader.specs.KeyHere.{Whole, key_here};
-ghost use Rattle.reader.specs.Located.{KeysAt, BucketsAt};
-ghost use Rattle.reader.specs.Checked.{Checked, in_range};
+ghost use Rattle.reader.specs.ListedKeys.{key_listed, keys_listed};
+ghost use Rattle.reader.specs.ListedBuckets.{buckets_listed};
+ghost use Rattle.reader.specs.Checked.{AllocChecked, ReservedChecked, in_range};
 ghost use Rattle.bucket_bits.specs.Bits.{has_bit, with_bit, marked, with_mark, holds_data, in_use, used_mark, Marks};
 
 use format::alloc;
-use reader::key;
-use wire::kinds;
+use reader::key::ListedKey;
+use reader::listed_keys::Keys;
+use reader::reserved_buckets::ReservedBuckets;
 use wire::kinds::Bucket;
 
 // Which buckets are marked.
@@ -35,21 +35,20 @@ fn with_bit(x: u8, k: usize) -> u8
     x | 1 << k
 }
 
-// Whether the value of the key at a place is long enough and has a data type other than free. The reader shows that a key stands there, here and below.
-fn holds_data(s: &[u8], at: usize) -> bool
-    requires { Whole s.now at }
-    ensures { result ≡ holds_data (key_here s.now at).value }
+// Whether a key's value is long enough and has a data type other than free.
+fn holds_data(key: ListedKey) -> bool
+    ensures { result ≡ holds_data (key_listed key.entry).value }
 {
-    key::value_len(s, at) >= 16 && alloc::data_type(s, key::value_at(s, at)) != 0
+    let value = key.value();
+    value.len() >= 16 && alloc::data_type(value, 0) != 0
 }
 
 // Whether it is an alloc key at inode 0 whose bucket is in use.
 #[tactic(auto, unfolding(crate::specs::Bits::in_use))]
-fn in_use(s: &[u8], at: usize) -> bool
-    requires { Whole s.now at }
-    ensures { result ≡ in_use (key_here s.now at) }
+fn in_use(key: ListedKey) -> bool
+    ensures { result ≡ in_use (key_listed key.entry) }
 {
-    key::pos_at(s, at).inode == 0 && holds_data(s, at)
+    key.pos().inode == 0 && holds_data(key)
 }
 
 impl BucketBits {
@@ -81,35 +80,35 @@ impl BucketBits {
     }
 
     // Marks the bucket of an alloc key, if it is in use.
-    fn mark_key(&mut self, s: &[u8], at: usize)
-        requires { Whole s.now at × (in_range (key_here s.now at) ≡ true) }
-        ensures { self.new ≡ used_mark (key_here s.now at) self.old }
+    fn mark_key(&mut self, key: ListedKey)
+        requires { in_range (key_listed key) ≡ true }
+        ensures { self.new ≡ used_mark (key_listed key.entry) self.old }
     {
-        if in_use(s, at) {
-            self.mark(key::bucket_at(s, at));
+        if in_use(key) {
+            self.mark(key.bucket());
         }
     }
 
     // The reserved buckets are marked.
-    pub fn of_reserved(s: &[u8], reserved: &[u32]) -> BucketBits
-        requires { Checked s.now × BucketsAt s.now reserved.now (read_volume s.now).reserved }
-        ensures { Marks result (is_in (read_volume s.now).reserved) }
+    pub fn of_reserved(reserved: ReservedBuckets) -> BucketBits
+        requires { ReservedChecked (buckets_listed reserved) }
+        ensures { Marks result (is_in (buckets_listed reserved.entry)) }
     {
         let mut bits = BucketBits::new();
-        for at in reserved {
-            bits.mark(kinds::read_bucket(s, *at as usize));
+        for b in reserved.iter() {
+            bits.mark(b);
         }
         bits
     }
 
     // The buckets in use are marked.
-    pub fn of_used(s: &[u8], alloc: &[u32]) -> BucketBits
-        requires { Checked s.now × KeysAt s.now alloc.now (read_volume s.now).trees.alloc }
-        ensures { Marks result (is_used (read_volume s.now).trees.alloc) }
+    pub fn of_used(alloc: Keys) -> BucketBits
+        requires { AllocChecked (keys_listed alloc) }
+        ensures { Marks result (is_used (keys_listed alloc.entry)) }
     {
         let mut bits = BucketBits::new();
-        for at in alloc {
-            bits.mark_key(s, *at as usize);
+        for key in alloc.iter() {
+            bits.mark_key(key);
         }
         bits
     }

@@ -1,17 +1,28 @@
 // Field 70.
-ghost use Rattle.std.specs.Prelude.{◌≡◌};
+ghost use Rattle.std.specs.Prelude.{◌≡◌, [], ◌∷◌};
 ghost use Rattle.wire.specs.Output.{with_bytes};
-ghost use Rattle.calls.specs.Place.{roots_if};
+ghost use Rattle.calls.specs.Place.{root_missing, roots_if};
+ghost use Rattle.calls.specs.Apply.{root_bit};
+ghost use Rattle.reader.specs.Roots.{root_id};
 ghost use Rattle.change_fields.specs.FieldBytes.{roots_bytes};
 
+use reader::roots;
+use reader::roots::Root;
 use wire::output::Output;
 
-// A root, by its tree, if it is wanted.
-pub fn put_root(out: &mut Output, wanted: bool, id: u8)
-    ensures { out.new ≡ with_bytes out.old (roots_bytes (roots_if wanted id)) }
+// A root, by its id.
+pub fn put_root(out: &mut Output, id: u8)
+    ensures { out.new ≡ with_bytes out.old (roots_bytes (id ∷ [])) }
 {
-    if wanted {
-        out.put_head(70, 1);
-        out.put_u8(id);
+    out.put_head(70, 1);
+    out.put_u8(id);
+}
+
+// A root, where it is missing.
+pub fn put_missing(out: &mut Output, roots: u8, root: Root)
+    ensures { out.new ≡ with_bytes out.old (roots_bytes (roots_if (root_missing roots (root_bit (root_id root))) (root_id root))) }
+{
+    if roots::is_missing(roots, root) {
+        put_root(out, root.id());
     }
 }

@@ -1,16 +1,19 @@
 -- What the emitters of a batch write, put together.
 use Prim.Native.Nat.{ℕ}
-use mathlib.Core.Path.{◌≡◌, refl, sym, ap, ◌∙◌}
-use mathlib.Core.List.{List, [], ◌∷◌, ◌++◌, map, flat_map, map-map, append-nil, append_assoc}
+use mathlib.Core.Path.{◌≡◌, refl, sym, ap, ◌∙◌, subst}
+use mathlib.Core.List.{List, [], ◌∷◌, ◌++◌, map, flat_map, append-nil, append_assoc}
 use mathlib.Core.Option.{Option, none, some}
 use native.Mathlib.Omega.{arith}
 use lib.IntN.{pos, neg_ℤ}
-use lib.ListN.{length, length-map}
+use lib.ListN.{length}
+use Rattle.wire.specs.Bytes.{All}
 use Rattle.wire.specs.Keys.{Key}
+use Rattle.wire.specs.Output.{with_bytes}
+use Rattle.wire.specs.declared.output.Output.{Output}
 use Rattle.wire.specs.Encode.{encode_field, encode, key_field}
-use Rattle.wire.specs.Positions.{bucket_in}
 use Rattle.wire.specs.declared.bpos.Bpos.{Bpos}
 use Rattle.wire.specs.declared.kinds.Bucket.{Bucket}
+use Rattle.wire.proofs.AppendLaws.{with-none, with-with}
 use Rattle.wire.proofs.EncodeLaws.{encode-append, encode_one}
 use Rattle.calls.specs.Lists.{from_option}
 use Rattle.calls.specs.CallList.{tree_fields}
@@ -18,10 +21,15 @@ use Rattle.calls.specs.Accounting.{buckets_row}
 use Rattle.calls.specs.ChangeList.{batch_fields, discarded_field, end_field}
 use Rattle.calls.specs.Discard.{joined_runs, run_key, waiting_key, waiting_deletions, discard_batch}
 use Rattle.calls.specs.Trees.{deletion}
-use Rattle.reader.specs.KeyHere.{key_here, keys_here}
-use Rattle.need_discard.specs.Kept.{bucket_here}
+use Rattle.calls.proofs.lists.AllLaws.{first, all_tail}
+use Rattle.reader.specs.ListedKeys.{keys_listed}
+use Rattle.reader.specs.Located.{no_key}
+use Rattle.reader.specs.declared.listed_keys.Keys.{Keys}
+use Rattle.reader.proofs.SkipLaws.{all-indexed}
+use Rattle.need_discard.specs.Kept.{DiscardedKept}
 use Rattle.need_discard.specs.Table.{waits_of}
-use Rattle.discard.specs.Emitted.{discarded_key, buckets_at, batch_bytes}
+use Rattle.discard.specs.Emitted.{discarded_key, buckets_of, batch_bytes}
+use Rattle.discard.specs.Shown.{DiscardShown}
 use Rattle.accounting.specs.RowBytes.{rows_bytes}
 use Rattle.change_fields.specs.FieldBytes.{keys_bytes}
 use Rattle.change_fields.proofs.FieldLists.{fields-none}
@@ -46,27 +54,43 @@ module _ (needs : List Key) (b : Bucket) where
       go (some k) p q = let e : k.pos ≡ x = cc in rw e
 
 -- a batch, tree by tree
-module _ (s needs os : List ℕ) where
-  buckets-are : map (λ (k : Key). bucket_in k.pos) (keys_here s os) ≡ buckets_at s os
-  buckets-are = map-map (λ (k : Key). bucket_in k.pos) (key_here s) os
+pub batch-is : (needs ks : List Key) {n : ℕ} → n ≡ length ks
+    → keys_bytes 4 (map discarded_key ks)
+    ++ (keys_bytes 11 (map run_key (joined_runs (buckets_of ks)))
+    ++ (keys_bytes 12 (flat_map (waiting_deletions needs) (buckets_of ks))
+    ++ (rows_bytes (buckets_row 0 (pos n) (pos 0) (pos 0) ∷ buckets_row 9 (neg_ℤ (pos n)) (pos 0) (pos 0) ∷ [])
+    ++ (encode (map discarded_field (buckets_of ks)) ++ encode_field end_field))))
+    ≡ batch_bytes needs ks
+unfolding batch_fields discard_batch tree_fields
+batch-is needs ks e = sym (simp (append-nil, append_assoc, encode-append, encode_one, e))
 
-  pub batch-is :
-      keys_bytes 4 (map discarded_key (keys_here s os))
-      ++ (keys_bytes 11 (map run_key (joined_runs (buckets_at s os)))
-      ++ (keys_bytes 12 (flat_map (waiting_deletions (keys_here s needs)) (buckets_at s os))
-      ++ (rows_bytes (buckets_row 0 (pos (length os)) (pos 0) (pos 0) ∷ buckets_row 9 (neg_ℤ (pos (length os))) (pos 0) (pos 0) ∷ [])
-      ++ (encode (map discarded_field (buckets_at s os)) ++ encode_field end_field))))
-      ≡ batch_bytes s needs os
-  unfolding batch_fields discard_batch tree_fields
-  batch-is = sym (simp (append-nil, append_assoc, encode-append, encode_one, buckets-are, length-map))
+module _ (needs : List Key) (b : Bucket) where
+  pub no-deletion : {r : std.Option Bpos} → r ≡ waits_of (waiting_key needs b) → r ≡ std.None → keys_bytes 12 (waiting_deletions needs b) ≡ []
+  no-deletion p q = fields-none (key_field 12) (none-waits needs b p q)
 
-module _ (s needs : List ℕ) (o : ℕ) where
-  abbrev deletions : List Key
-  deletions = waiting_deletions (keys_here s needs) (bucket_here s o)
+  pub one-deletion : {r : std.Option Bpos} {x : Bpos} → r ≡ waits_of (waiting_key needs b) → r ≡ std.Some x
+      → encode_field (key_field 12 (deletion x)) ≡ keys_bytes 12 (waiting_deletions needs b)
+  one-deletion {x = x} p q = sym (ap (keys_bytes 12) (one-waits needs b p q) ∙ encode_one (key_field 12 (deletion x)))
 
-  pub no-deletion : {r : std.Option Bpos} → r ≡ waits_of (waiting_key (keys_here s needs) (bucket_here s o)) → r ≡ std.None → keys_bytes 12 deletions ≡ []
-  no-deletion p q = fields-none (key_field 12) (none-waits (keys_here s needs) (bucket_here s o) p q)
+-- a walk along the keys of a discard: what is put of each, and what is shown of those that are left
+module _ (B : List Key → List ℕ) where
+  pub walk-turn : {ks rest : List Key} {k : Key} (bs : List ℕ) (p r : Output) → ks ≡ k ∷ rest → B (k ∷ rest) ≡ bs ++ B rest → r ≡ with_bytes p bs
+      → with_bytes r (B rest) ≡ with_bytes p (B ks)
+  walk-turn {rest = rest} bs p r s e w = rw (w, with-with p bs (B rest), s, e)
 
-  pub one-deletion : {r : std.Option Bpos} {x : Bpos} → r ≡ waits_of (waiting_key (keys_here s needs) (bucket_here s o)) → r ≡ std.Some x
-      → encode_field (key_field 12 (deletion x)) ≡ keys_bytes 12 deletions
-  one-deletion {x = x} p q = sym (ap (keys_bytes 12) (one-waits (keys_here s needs) (bucket_here s o) p q) ∙ encode_one (key_field 12 (deletion x)))
+  pub walk-end : {ks : List Key} (p : Output) → ks ≡ [] → B [] ≡ [] → p ≡ with_bytes p (B ks)
+  walk-end p s e = rw (s, e) (sym (with-none p))
+
+pub shown-all : {ks : List Key} → DiscardShown ks → All DiscardedKept ks
+shown-all {ks} h = all-indexed no_key ks h.at
+
+module _ {ks rest : List Key} {k : Key} (s : ks ≡ k ∷ rest) (h : All DiscardedKept ks) where
+  pub shown-here : DiscardedKept k
+  shown-here = first (subst (All DiscardedKept) s h)
+
+  pub shown-left : All DiscardedKept rest
+  shown-left = all_tail (subst (All DiscardedKept) s h)
+
+-- what a walk begins with
+pub first-of : {keys start : Keys} {ks : List Key} → start ≡ keys → keys_listed start ≡ ks → keys_listed keys ≡ ks
+first-of e h = rw e at h

@@ -1,14 +1,14 @@
--- The answer to a discard: the offsets that the reader gives find the keys of the definition, and its tests in their order.
-use Prim.Native.Nat.{ℕ, zero, suc, ◌≤◌, ◌<◌}
-use mathlib.Core.Path.{◌≡◌, refl, sym, ap, ◌∙◌}
-use mathlib.Core.Bool.{Bool, true, not, ◌||◌}
+-- The answer to a discard: the keys that the reader gives are those of the definition, and its tests in their order.
+use Prim.Native.Nat.{ℕ, ◌≤◌, ◌<◌}
+use mathlib.Core.Path.{◌≡◌, refl, sym, ap, ◌∙◌, subst}
+use mathlib.Core.Bool.{true, not, ◌||◌}
 use Rattle.std.proofs.Common.{Some}
-use mathlib.Core.List.{List, [], ◌∷◌, map, map-map}
+use mathlib.Core.List.{List, [], ◌∷◌, map}
 use native.Mathlib.Omega.{arith}
 use lib.Dec.{eqb}
-use lib.ListN.{length, drop, length-map}
+use lib.ListN.{length, length-map}
 use borrow.Author.Tests.{eq-eqb, ne_eqb, leb-true}
-use Rattle.wire.specs.Bytes.{All, none, more}
+use Rattle.wire.specs.Bytes.{All}
 use Rattle.wire.specs.Keys.{Key}
 use Rattle.wire.specs.Kinds.{bucket_in_range}
 use Rattle.wire.specs.Positions.{bucket_in}
@@ -23,52 +23,35 @@ use Rattle.calls.proofs.lists.BoolLaws.{parts, or-then}
 use Rattle.calls.proofs.answers.AnswerLaws.{discard-is}
 use Rattle.calls.proofs.answers.OutcomeLaws.{answer-next, answer-stops}
 use Rattle.calls.proofs.encoding.KeyFitsLaws.{list-within}
-use Rattle.calls.proofs.lists.MapLaws.{map-take, map-drop}
-use Rattle.calls.proofs.lists.ThoseLaws.{those-map}
-use Rattle.reader.specs.Located.{KeyAt, KeysAt}
+use Rattle.calls.proofs.lists.AllLaws.{all-nth, all-imp, test-all}
+use Rattle.reader.specs.Located.{no_key}
+use Rattle.reader.specs.ListedKeys.{keys_listed}
 use Rattle.reader.specs.Readings.{call_refusal, ReadAs}
 use Rattle.reader.specs.declared.read_list.ReadList.{ReadList}
-use Rattle.reader.proofs.KeyHereLaws.{keys-tail, keys-here}
-use Rattle.reader.proofs.PartsLaws.{passed, read-on, read-refused, located}
-use Rattle.reader.specs.KeyHere.{key_here, keys_here}
-use Rattle.need_discard.specs.Kept.{AllocKept, NeedKept}
+use Rattle.reader.proofs.PartsLaws.{passed, read-on, read-refused}
+use Rattle.reader.specs.KeyHere.{key_here}
+use Rattle.need_discard.specs.Kept.{AllocKept, NeedKept, DiscardedKept}
 use Rattle.need_discard.specs.Chosen.{need_trees, discarded_from}
 use Rattle.discard.specs.Emitted.{batches_from, changes_from}
+use Rattle.need_discard.proofs.ChosenLaws.{discarded-kept, discarded-few}
 use Rattle.discard.specs.Given.{DiscardGiven}
+use Rattle.discard.specs.Shown.{DiscardShown}
 
--- what the offsets have of a test that each key passes
-found : {P : ℕ → Type 0} {s os : List ℕ} {ks : List Key} (t : Key → Bool) → ((o : ℕ) (k : Key) → KeyAt s o k → t k ≡ true → P o)
-    → KeysAt s os ks → all_of t ks ≡ true → All P os
-unfolding all_of
-found {os = []} {ks = []} t f q h = none
-found {os = []} {ks = k ∷ ks} t f q h = absurd (omega (arith, q.count))
-found {os = o ∷ os} {ks = []} t f q h = absurd (omega (arith, q.count))
-found {os = o ∷ os} {ks = k ∷ ks} t f q h =
-    let p = parts (t k) (all_of t ks) h in
-    more (f o k (q.at 0 (omega arith)) p.0) (found t f (keys-tail q) p.1)
+-- what the limits show of keys
+alloc-kept : (ks : List Key) → all_of (λ k. not (at_inode0 k) || bucket_in_range (bucket_in k.pos)) ks ≡ true → All AllocKept ks
+alloc-kept ks h = all-imp (λ k t. record { below = λ z. or-then (at_inode0 k) _ t (eq-eqb _ 0 z) }) (test-all _ ks h)
 
-pub alloc-kept : {s os : List ℕ} {ks : List Key} → KeysAt s os ks → all_of (λ k. not (at_inode0 k) || bucket_in_range (bucket_in k.pos)) ks ≡ true
-    → All (AllocKept s) os
-alloc-kept q h =
-    found _
-    (λ o k r t. record { kept = r.whole; below = λ z. rw r.is (or-then (at_inode0 k) _ t (eq-eqb _ 0 (rw r.is at z))) })
-    q h
-
-pub needs-kept : {s os : List ℕ} {ks : List Key} → KeysAt s os ks → all_of (λ k. not (is_set k) || bucket_in_range (bucket_in k.pos)) ks ≡ true
-    → All (NeedKept s) os
-needs-kept q h =
-    found _
-    (λ o k r t. record { kept = r.whole; below = λ z. rw r.is (or-then (is_set k) _ t (eq-eqb _ 25 (rw r.is at z))) })
-    q h
+needs-kept : (ks : List Key) → all_of (λ k. not (is_set k) || bucket_in_range (bucket_in k.pos)) ks ≡ true → All NeedKept ks
+needs-kept ks h = all-imp (λ k t. record { below = λ z. or-then (is_set k) _ t (eq-eqb _ 25 z) }) (test-all _ ks h)
 
 -- what the reader shows, as the parts of a discard want it
-pub record Found (s alloc needs : List ℕ) : Type 0 where
-  pub allocs : All (AllocKept s) alloc
-  pub waits : All (NeedKept s) needs
-  pub few_allocs : length alloc ≤ 4096
-  pub few_waits : length needs ≤ 4096
+pub record Found (r : ReadList) : Type 0 where
+  pub allocs : All AllocKept (keys_listed r.alloc)
+  pub waits : All NeedKept (keys_listed r.need_discard)
+  pub few_allocs : length r.alloc.places.now ≤ 4096
+  pub few_waits : length r.need_discard.places.now ≤ 4096
 
-pub ready-found : {r : ReadList} → DiscardGiven r → Found r.list.now r.alloc.places.now r.need_discard.places.now
+pub ready-found : {r : ReadList} → DiscardGiven r → Found r
 unfolding volume_within counts_ok few_keys buckets_ok
 ready-found {r} q =
     let v = read_volume r.list.now in
@@ -81,54 +64,40 @@ ready-found {r} q =
     let f = parts (few_keys t.lru) _ e.1 in
     let g = parts (few_keys t.freespace) _ f.1 in
     let h = parts (few_keys t.need_discard) _ g.1 in
+    let m : length (keys_listed r.alloc) ≡ length r.alloc.places.now = length-map r.alloc.places.now (key_here r.alloc.list.now) in
+    let n : length (keys_listed r.need_discard) ≡ length r.need_discard.places.now = length-map r.need_discard.places.now (key_here r.need_discard.list.now) in
     record {
-      allocs = alloc-kept q.alloc_at c.0;
-      waits = needs-kept q.needs_at d.0;
-      few_allocs = omega (arith, q.alloc_at.count, leb-true (length t.alloc) 4096 e.0);
-      few_waits = omega (arith, q.needs_at.count, leb-true (length t.need_discard) 4096 h.0);
+      allocs = rw q.allocs (alloc-kept t.alloc c.0);
+      waits = rw q.needs (needs-kept t.need_discard d.0);
+      few_allocs = omega (arith, m, ap length q.allocs, leb-true (length t.alloc) 4096 e.0);
+      few_waits = omega (arith, n, ap length q.needs, leb-true (length t.need_discard) 4096 h.0);
     }
 
--- the batches of the offsets are those of the definition
-
-chunks-map : {A B : Type 0} (f : A → B) (m size : ℕ) (xs : List A) → chunks m size (map f xs) ≡ map (map f) (chunks m size xs)
-unfolding chunks
-chunks-map f zero size xs = refl
-chunks-map f (suc m) size [] = refl
-chunks-map f (suc m) size (x ∷ xs) =
-    let d = map-drop f size (x ∷ xs) in
-    let t = map-take f size (x ∷ xs) in
-    let r = ap (chunks m size) d ∙ chunks-map f m size (drop size (x ∷ xs)) in
-    λ i. t i ∷ r i
-
 -- trees with the same need-discard keys discard the same
-module _ (t : Trees) (s needs : List ℕ) (e : t.need_discard ≡ keys_here s needs) where
-  same-choice : is_discarded t ≡ is_discarded (need_trees s needs)
+module _ (t : Trees) (needs : List Key) (e : t.need_discard ≡ needs) where
+  same-choice : is_discarded t ≡ is_discarded (need_trees needs)
   unfolding is_discarded
-  same-choice = let p : (k : Key) → is_discarded t k ≡ is_discarded (need_trees s needs) k = λ k. rw e in λ i k. p k i
+  same-choice = let p : (k : Key) → is_discarded t k ≡ is_discarded (need_trees needs) k = λ k. rw e in λ i k. p k i
 
-  same-batch : discard_batch t ≡ discard_batch (need_trees s needs)
+  same-batch : discard_batch t ≡ discard_batch (need_trees needs)
   unfolding discard_batch
-  same-batch = let p : (ks : List Key) → discard_batch t ks ≡ discard_batch (need_trees s needs) ks = λ ks. rw e in λ i ks. p ks i
+  same-batch = let p : (ks : List Key) → discard_batch t ks ≡ discard_batch (need_trees needs) ks = λ ks. rw e in λ i ks. p ks i
 
-  keys-chosen : (alloc : List ℕ) → t.alloc ≡ keys_here s alloc → discarded_keys t ≡ keys_here s (discarded_from s needs alloc)
+  keys-chosen : (alloc : List Key) → t.alloc ≡ alloc → discarded_keys t ≡ discarded_from needs alloc
   unfolding discarded_keys
-  keys-chosen alloc f = rw (same-choice, f) (those-map (is_discarded (need_trees s needs)) (key_here s) alloc)
+  keys-chosen alloc f = rw (same-choice, f) refl
 
-  batches-are : (alloc : List ℕ) (size : ℕ) → t.alloc ≡ keys_here s alloc
-      → map (discard_batch t) (chunks (length (discarded_keys t)) size (discarded_keys t)) ≡ batches_from s needs size (discarded_from s needs alloc)
-  batches-are alloc size f =
-      let os = discarded_from s needs alloc in
-      rw (keys-chosen alloc f, same-batch, length-map os (key_here s), chunks-map (key_here s) (length os) size os)
-      (map-map (discard_batch (need_trees s needs)) (map (key_here s)) (chunks (length os) size os))
+  batches-are : (alloc : List Key) (size : ℕ) → t.alloc ≡ alloc
+      → map (discard_batch t) (chunks (length (discarded_keys t)) size (discarded_keys t)) ≡ batches_from needs size (discarded_from needs alloc)
+  batches-are alloc size f = rw (keys-chosen alloc f, same-batch) refl
 
 pub changes-are : {r : ReadList} → DiscardGiven r
-    → changes_from r.list.now r.need_discard.places.now r.head.batch (discarded_from r.list.now r.need_discard.places.now r.alloc.places.now)
-    ≡ change_bytes (discard_batches (read_volume r.list.now))
+    → changes_from (keys_listed r.need_discard) r.head.batch (discarded_from (keys_listed r.need_discard) (keys_listed r.alloc)) ≡ change_bytes (discard_batches (read_volume r.list.now))
 unfolding discard_batches
 changes-are {r} q =
     let v = read_volume r.list.now in
     let b : r.head.batch ≡ v.head.batch = ap (λ h. h.batch) q.headed in
-    ap change_bytes (rw b (sym (batches-are v.trees r.list.now r.need_discard.places.now (keys-here q.needs_at) r.alloc.places.now v.head.batch (keys-here q.alloc_at))))
+    ap change_bytes (rw b (sym (batches-are v.trees (keys_listed r.need_discard) (sym q.needs) (keys_listed r.alloc) v.head.batch (sym q.allocs))))
 
 -- the answer of the definition: the tests of the reader, then 20, then 21
 module _ (s : List ℕ) (room : ℕ) where
@@ -157,8 +126,18 @@ read-ready {r} q b =
     let s = r.list.now in
     record {
       headed = q.read.head;
-      alloc_at = (located q).alloc;
-      needs_at = (located q).need_discard;
+      allocs = q.read.alloc.are;
+      needs = q.read.need_discard.are;
       within = (list-within (read_call s) (passed 3 s q.passed).within).0;
       batched = b;
+    }
+
+-- what is chosen is shown to be discarded
+pub chosen-shown : {r : ReadList} {ks : List Key} → DiscardGiven r → ks ≡ discarded_from (keys_listed r.need_discard) (keys_listed r.alloc) → DiscardShown ks
+chosen-shown {r} q e =
+    let f = ready-found q in
+    let needs = keys_listed r.need_discard in
+    record {
+      at = all-nth no_key (subst (All DiscardedKept) (sym e) (discarded-kept needs f.allocs));
+      few = discarded-few needs (keys_listed r.alloc) e (omega (arith, f.few_allocs, length-map r.alloc.places.now (key_here r.alloc.list.now)));
     }

@@ -1,34 +1,30 @@
 -- Runs as they are made, bucket by bucket, are those of the definition.
-use Prim.Native.Nat.{ℕ, suc, ◌+◌, ◌≤◌, ◌<◌}
+use Prim.Native.Nat.{suc, ◌+◌, ◌≤◌, ◌<◌}
 use mathlib.Core.Path.{◌≡◌, refl, sym, ap, ◌∙◌}
 use mathlib.Core.Bool.{Bool, true, false, cond}
 use mathlib.Core.List.{List, [], ◌∷◌, ◌++◌, map}
 use native.Mathlib.Omega.{arith}
-use borrow.Author.Tests.{ne_eqb, eq-eqb}
-use lib.ListN.{length, get_or, drop, drop_of_length-le}
+use borrow.Author.Tests.{ltb-true}
+use Rattle.need_discard.specs.Kept.{DiscardedKept}
 use Rattle.wire.specs.Encode.{encode_field, key_field}
 use Rattle.wire.specs.Output.{with_bytes}
 use Rattle.wire.specs.declared.output.Output.{Output}
-use Rattle.wire.specs.Positions.{run_at}
-use Rattle.wire.specs.declared.bpos.Bpos.{Bpos}
-use Rattle.wire.proofs.OutputLaws.{drop-next}
 use Rattle.wire.proofs.AppendLaws.{with-with}
 use Rattle.wire.proofs.EncodeLaws.{encode-none, encode_one}
-use Rattle.calls.specs.Trees.{new_key}
-use Rattle.need_discard.specs.Kept.{bucket_here}
 use Rattle.change_fields.specs.FieldBytes.{keys_bytes}
 use Rattle.change_fields.proofs.FieldLists.{fields-append}
 use Rattle.wire.specs.Keys.{Key}
 use Rattle.wire.specs.Kinds.{same_bucket, next_bucket}
+use Rattle.wire.specs.Positions.{bucket_in}
 use Rattle.wire.specs.declared.kinds.Bucket.{Bucket}
 use Rattle.calls.specs.Discard.{join_run, joined_runs, run_key}
 use Rattle.calls.specs.Discard as calls
-use Rattle.discard.specs.Emitted.{buckets_at, shown_run, ended_run, with_bucket}
-use Rattle.discard.specs.declared.runs.Run.{Run}
+use Rattle.discard.specs.Emitted.{buckets_of, freed_key, ended_run, with_bucket}
+use Rattle.discard.specs.declared.runs.FreedRun.{FreedRun}
 
 -- the runs of some buckets after a run that is not ended
-unfoldable pub open_runs : Run → List Bucket → List Key
-open_runs r [] = shown_run r
+unfoldable pub open_runs : FreedRun → List Bucket → List Key
+open_runs r [] = freed_key r ∷ []
 open_runs r (b ∷ bs) = ended_run r b ++ open_runs (with_bucket r b) bs
 
 -- a run before some runs: joined to the first where it stands next to it
@@ -74,70 +70,67 @@ module _ (q : calls.Run) (b : Bucket) where
       go false = rw e
 
 -- as the code has it
-abbrev opened : calls.Run → Run
+abbrev opened : calls.Run → FreedRun
 opened q = record { end = q.end; size = q.size }
 
-shown : (q : calls.Run) → 0 < q.size → shown_run (opened q) ≡ run_key q ∷ []
-shown q h = rw (ne_eqb q.size 0 (λ z. omega arith))
-
-open-glued : (bs : List Bucket) (q : calls.Run) → 0 < q.size → open_runs (opened q) bs ≡ map run_key (glue q (joined_runs bs))
+open-glued : (bs : List Bucket) (q : calls.Run) → open_runs (opened q) bs ≡ map run_key (glue q (joined_runs bs))
 unfolding open_runs joined_runs glue
-open-glued [] q h = shown q h
-open-glued (b ∷ bs) q h =
-    rw (join_is b (joined_runs bs))
-    (go (same_bucket q.end b) refl (open-glued bs (longer q b) (omega arith)) (open-glued bs (single b) (omega arith)))
+open-glued [] q = refl
+open-glued (b ∷ bs) q =
+    rw (join_is b (joined_runs bs)) (go (same_bucket q.end b) refl (open-glued bs (longer q b)) (open-glued bs (single b)))
   where
     go : (t : Bool) → same_bucket q.end b ≡ t → open_runs (opened (longer q b)) bs ≡ map run_key (glue (longer q b) (joined_runs bs))
         → open_runs (opened (single b)) bs ≡ map run_key (glue (single b) (joined_runs bs))
-        → cond t [] (shown_run (opened q)) ++ open_runs (record { end = next_bucket b; size = cond t (q.size + 1) 1 }) bs
+        → cond t [] (freed_key (opened q) ∷ []) ++ open_runs (record { end = next_bucket b; size = cond t (q.size + 1) 1 }) bs
         ≡ map run_key (glue q (glue (single b) (joined_runs bs)))
     go true e f g = f ∙ ap (map run_key) (sym (glue-joined q b e (joined_runs bs)))
-    go false e f g = rw (shown q h, g) (ap (map run_key) (sym (glue-apart q b e (joined_runs bs))))
+    go false e f g = rw g (ap (map run_key) (sym (glue-apart q b e (joined_runs bs))))
 
--- from no run on
-pub open_none : (e : Bucket) (bs : List Bucket) → open_runs (record { end = e; size = 0 }) bs ≡ map run_key (joined_runs bs)
-unfolding open_runs joined_runs
-open_none e [] = refl
-open_none e (b ∷ bs) = rw (join_is b (joined_runs bs)) (go (same_bucket e b))
-  where
-    go : (t : Bool)
-        → cond t [] (shown_run (record { end = e; size = 0 })) ++ open_runs (record { end = next_bucket b; size = cond t 1 1 }) bs
-        ≡ map run_key (glue (single b) (joined_runs bs))
-    go true = open-glued bs (single b) (omega arith)
-    go false = open-glued bs (single b) (omega arith)
+-- from the first key on
+pub runs-start : {ks rest : List Key} {k : Key} {x : Bucket} → ks ≡ k ∷ rest → x ≡ next_bucket (bucket_in k.pos)
+    → open_runs (record { end = x; size = 1 }) (buckets_of rest) ≡ map run_key (joined_runs (buckets_of ks))
+unfolding joined_runs
+runs-start {rest = rest} {k = k} e p =
+    let b = bucket_in k.pos in
+    let bs = buckets_of rest in
+    rw (e, p) (open-glued bs (single b) ∙ ap (map run_key) (sym (join_is b (joined_runs bs))))
 
-pub with_size : (r : Run) (b : Bucket) → (with_bucket r b).size ≤ r.size + 1
+pub with_size : (r : FreedRun) (b : Bucket) → (with_bucket r b).size ≤ r.size + 1
 with_size r b = go (same_bucket r.end b)
   where
     go : (t : Bool) → cond t (r.size + 1) 1 ≤ r.size + 1
     go true = omega arith
     go false = omega arith
 
--- a turn of the loop over offsets: of the runs that are left after a run that is not ended, what the next bucket ends is put
+-- a turn of the loop over keys: of the runs that are left after a run that is not ended, what the next bucket ends is put
 pub run-turn :
-    (s os : List ℕ) (i : ℕ) (r : Run) (b : Bucket) (o q : Output) → i < length os → b ≡ bucket_here s (get_or os i 0)
-    → q ≡ with_bytes o (keys_bytes 11 (ended_run r b))
-    → with_bytes q (keys_bytes 11 (open_runs (with_bucket r b) (buckets_at s (drop (i + 1) os))))
-    ≡ with_bytes o (keys_bytes 11 (open_runs r (buckets_at s (drop i os))))
+    {ks rest : List Key} {k : Key} (r : FreedRun) (o q : Output) → ks ≡ k ∷ rest → q ≡ with_bytes o (keys_bytes 11 (ended_run r (bucket_in k.pos)))
+    → with_bytes q (keys_bytes 11 (open_runs (with_bucket r (bucket_in k.pos)) (buckets_of rest))) ≡ with_bytes o (keys_bytes 11 (open_runs r (buckets_of ks)))
 unfolding open_runs
-run-turn s os i r b o q h e w =
-    let rest = open_runs (with_bucket r b) (buckets_at s (drop (i + 1) os)) in
-    rw (drop-next 0 os i h, ← e, w, with-with o (keys_bytes 11 (ended_run r b)) (keys_bytes 11 rest), fields-append (key_field 11) (ended_run r b) rest)
+run-turn {rest = rest} {k = k} r o q s w =
+    let b = bucket_in k.pos in
+    let later = open_runs (with_bucket r b) (buckets_of rest) in
+    rw (w, s, with-with o (keys_bytes 11 (ended_run r b)) (keys_bytes 11 later), fields-append (key_field 11) (ended_run r b) later) refl
 
 -- the end: the last run is put
 pub run-end :
-    (s os : List ℕ) (i : ℕ) (r : Run) (o q : Output) → length os ≤ i → q ≡ with_bytes o (keys_bytes 11 (shown_run r))
-    → q ≡ with_bytes o (keys_bytes 11 (open_runs r (buckets_at s (drop i os))))
+    {ks : List Key} (r : FreedRun) (o q : Output) → ks ≡ [] → q ≡ with_bytes o (encode_field (key_field 11 (freed_key r)))
+    → q ≡ with_bytes o (keys_bytes 11 (open_runs r (buckets_of ks)))
 unfolding open_runs
-run-end s os i r o q h w = rw (drop_of_length-le os h) w
+run-end r o q s w = rw (s, encode_one) w
 
--- what the emitters of a run write
-
-pub no_run : (r : Run) → r.size ≡ 0 → keys_bytes 11 (shown_run r) ≡ []
-no_run r e = rw (eq-eqb r.size 0 e) encode-none
-
-pub one-run : (r : Run) {x : Bpos} → (r.size ≡ 0 → ⊥) → x ≡ run_at r.end → encode_field (key_field 11 (new_key 25 r.size x [])) ≡ keys_bytes 11 (shown_run r)
-one-run r e p = rw (ne_eqb r.size 0 e, p) (sym (encode_one _))
-
-pub joined-run : (r : Run) (b : Bucket) → same_bucket r.end b ≡ true → keys_bytes 11 (ended_run r b) ≡ []
+-- a run that a bucket joins is not put, and another is
+pub joined-run : (r : FreedRun) (b : Bucket) → same_bucket r.end b ≡ true → keys_bytes 11 (ended_run r b) ≡ []
 joined-run r b e = rw e encode-none
+
+pub ended-alone : (r : FreedRun) (b : Bucket) → same_bucket r.end b ≡ false → encode_field (key_field 11 (freed_key r)) ≡ keys_bytes 11 (ended_run r b)
+ended-alone r b e = rw e (sym (encode_one _))
+
+-- of no key there is no run
+pub runs-none : {ks : List Key} → ks ≡ [] → keys_bytes 11 (map run_key (joined_runs (buckets_of ks))) ≡ []
+unfolding joined_runs
+runs-none e = rw e encode-none
+
+-- the next bucket's number fits, where the bucket of a key is within the limit
+pub bucket-fits : {k : Key} {b : Bucket} → DiscardedKept k → b ≡ bucket_in k.pos → b.0 < 4294967296
+bucket-fits {k} h e = rw e (omega (arith, ltb-true (bucket_in k.pos).0 65536 h.below))

@@ -1,3 +1,4 @@
 pub mod Emitted
+pub mod Shown
 pub mod Given
 pub mod ChangesView

@@ -4,39 +4,49 @@ ghost use Rattle.wire.specs.Output.{with_bytes};
 ghost use Rattle.calls.specs.ChangeList.{change_bytes};
 ghost use Rattle.calls.specs.Discard.{discard_batches};
 ghost use Rattle.calls.specs.Answers.{read_volume, answer, outcome};
+ghost use Rattle.reader.specs.ListedKeys.{keys_listed};
 ghost use Rattle.reader.specs.Refusals.{made_by};
-ghost use Rattle.need_discard.specs.Table.{WaitingTable};
 ghost use Rattle.discard.specs.Emitted.{changes_from};
-ghost use Rattle.discard.specs.Given.{DiscardGiven, DiscardShown};
+ghost use Rattle.discard.specs.Given.{DiscardGiven};
 
 use crate::batch;
 use crate::batch::Discarded;
-use need_discard::{discarded, waiting as waiting_keys};
+use need_discard::discarded;
+use need_discard::waiting::Waiting;
 use reader::answer;
 use reader::answer::Emit;
+use reader::listed_keys::Keys;
 use reader::read_list::ReadList;
 use reader::refusal::Refusal;
 use std::marker::Model;
 use wire::output::Output;
 
-// The batches, in alloc order. Refusal 20 shows that a batch has a key, `discarded_keys`, `discard_lists` and the limits the rest.
+// The batches, in alloc order. Refusal 20 shows that a batch has a key, here and below.
 pub fn discard_freed(out: &mut Output, size: u32, d: &Discarded)
-    requires { (0 < size) × DiscardShown d.now }
-    ensures { out.new ≡ with_bytes out.old (changes_from d.now.list.now d.now.needs.now size d.now.offsets.now) }
+    requires { 0 < size }
+    ensures { out.new ≡ with_bytes out.old (changes_from d.now.waiting.now size (keys_listed d.now.keys)) }
 {
-    for offsets in d.offsets.chunks(size as usize) {
-        batch::discard_buckets(out, &Discarded { offsets, ..*d });
+    for places in d.keys.places.chunks(size as usize) {
+        let keys = Keys {
+            list: d.keys.list,
+            places,
+        };
+        let part = Discarded {
+            keys,
+            waiting: d.waiting,
+        };
+        batch::discard_buckets(out, &part);
     }
 }
 
 // The changes of a discard. A clause sees their bytes.
 #[derive(Drop)]
-pub struct Changes<'a> {
+pub struct Changes<'a, 'w> {
     size: u32,
-    discarded: Discarded<'a>,
+    discarded: Discarded<'a, 'w>,
 }
 
-impl<'a> Model for Changes<'a> {
+impl<'a, 'w> Model for Changes<'a, 'w> {
     ghost use Rattle.std.specs.Prelude.{ℕ, List};
 
     ghost Value = { List ℕ };
@@ -48,17 +58,17 @@ impl<'a> Model for Changes<'a> {
     ghost invariant = { IsChanges };
 }
 
-impl<'a> Changes<'a> {
-    // The changes in batches of a size. Refusal 20 shows that a batch has a key, `discarded_keys`, `discard_lists` and the limits the rest.
-    pub fn new(size: u32, d: Discarded<'a>) -> Changes<'a>
-        requires { (0 < size) × DiscardShown d }
-        ensures { result ≡ changes_from d.entry.list.now d.entry.needs.now size d.entry.offsets.now }
+impl<'a, 'w> Changes<'a, 'w> {
+    // The changes in batches of a size.
+    pub fn new(size: u32, d: Discarded<'a, 'w>) -> Changes<'a, 'w>
+        requires { 0 < size }
+        ensures { result ≡ changes_from d.entry.waiting.now size (keys_listed d.entry.keys) }
     {
         Changes { size, discarded: d }
     }
 }
 
-impl<'a> Emit for Changes<'a> {
+impl<'a, 'w> Emit for Changes<'a, 'w> {
     ghost bytes = { λ c. c };
 
     fn emit(&self, out: &mut Output) {
@@ -66,56 +76,39 @@ impl<'a> Emit for Changes<'a> {
     }
 }
 
-// The answer to a discard, with room for the offsets of its alloc keys. `discard_lists` shows what is required, here and below.
-fn discard_into(
-    room: &mut [u32],
+// The answer to a discard, with room for the places of N alloc keys. `discard_lists` shows what is required.
+fn discard_within<const N: usize>(
     read: &ReadList,
-    table: &[u16],
+    waiting: &Waiting,
     out: &mut [u8],
 ) -> Result<usize, Refusal>
-    requires { DiscardGiven read.now × WaitingTable read.now.list.now read.now.need_discard.places.now table.now × (length read.now.alloc.places.now ≤ length room.old) }
+    requires { DiscardGiven read.now × (waiting.now ≡ keys_listed read.now.need_discard) × (length read.now.alloc.places.now ≤ N) × (N ≤ 4096) }
     ensures { made_by result out.new ≡ outcome (answer [] (change_bytes (discard_batches (read_volume read.now.list.now))) (length out.old)) out.old }
 {
-    let n = discarded::discarded_keys(room, read.list, read.alloc.places, read.need_discard.places, table);
+    let mut room = [0u32; N];
     let d = Discarded {
-        list: read.list,
-        offsets: &room[..n],
-        needs: read.need_discard.places,
-        table,
+        keys: discarded::discarded_keys(&mut room, read.alloc, waiting),
+        waiting,
     };
     answer::written(&Changes::new(read.head.batch, d), out)
 }
 
-// The answer to a discard, with its table: little room is cleared where the alloc keys are few.
-fn discard_tabled(read: &ReadList, table: &[u16], out: &mut [u8]) -> Result<usize, Refusal>
-    requires { DiscardGiven read.now × WaitingTable read.now.list.now read.now.need_discard.places.now table.now }
-    ensures { made_by result out.new ≡ outcome (answer [] (change_bytes (discard_batches (read_volume read.now.list.now))) (length out.old)) out.old }
-{
-    if read.alloc.places.len() <= 64 {
-        discard_into(&mut [0u32; 64], read, table, out)
-    } else {
-        discard_into(&mut [0u32; 4096], read, table, out)
-    }
-}
-
-// The answer to a discard, with a filled table.
-fn discard_many(read: &ReadList, out: &mut [u8]) -> Result<usize, Refusal>
-    requires { DiscardGiven read.now }
-    ensures { made_by result out.new ≡ outcome (answer [] (change_bytes (discard_batches (read_volume read.now.list.now))) (length out.old)) out.old }
-{
-    let mut table = [0u16; 65536];
-    waiting_keys::note_waiting(&mut table, read.list, read.need_discard.places);
-    discard_tabled(read, &table, out)
-}
-
-// The answer to a discard whose list passed refusals 2, 22, 3 and 20, which the reader and its caller show. A table of one entry stands for none.
+// The answer to a discard whose list passed refusals 2, 22, 3 and 20, which the reader and its caller show. Where the alloc keys are few, little room is
+// cleared, and no table where the need-discard keys are few as well.
 pub fn discard_lists(read: &ReadList, out: &mut [u8]) -> Result<usize, Refusal>
     requires { DiscardGiven read.now }
     ensures { made_by result out.new ≡ outcome (answer [] (change_bytes (discard_batches (read_volume read.now.list.now))) (length out.old)) out.old }
 {
-    if read.alloc.places.len() > 64 || read.need_discard.places.len() > 16 {
-        discard_many(read, out)
+    let few = read.alloc.len() <= 64;
+    if few && read.need_discard.len() <= 16 {
+        let waiting = Waiting::searched(read.need_discard);
+        return discard_within::<64>(read, &waiting, out);
+    }
+    let mut table = [0u16; 65536];
+    let waiting = Waiting::tabled(read.need_discard, &mut table);
+    if few {
+        discard_within::<64>(read, &waiting, out)
     } else {
-        discard_tabled(read, &[0u16], out)
+        discard_within::<4096>(read, &waiting, out)
     }
 }

@@ -1,15 +1,15 @@
 // The runs of neighbouring buckets that a batch makes free: tree 11.
-ghost use Rattle.std.specs.Prelude.{◌≡◌, true, map, ◌≤◌, ◌<◌, length};
-ghost use Rattle.wire.specs.Bytes.{All};
+ghost use Rattle.std.specs.Prelude.{◌≡◌, true, map, ◌<◌};
+ghost use Rattle.wire.specs.Encode.{encode_field, key_field};
 ghost use Rattle.wire.specs.Kinds.{bucket_in_range};
 ghost use Rattle.wire.specs.Output.{with_bytes};
 ghost use Rattle.calls.specs.Discard.{joined_runs, run_key};
+ghost use Rattle.reader.specs.ListedKeys.{keys_listed};
 ghost use Rattle.change_fields.specs.FieldBytes.{keys_bytes};
-ghost use Rattle.need_discard.specs.Kept.{DiscardedKept};
-ghost use Rattle.discard.specs.Emitted.{buckets_at, shown_run, ended_run, with_bucket};
+ghost use Rattle.discard.specs.Emitted.{buckets_of, freed_key, ended_run, with_bucket};
 
+use crate::batch::Discarded;
 use change_fields::new_keys;
-use reader::key;
 use wire::key_types::KeyType;
 use wire::kinds::Bucket;
 use wire::output::Output;
@@ -18,28 +18,26 @@ use wire::{kinds, positions};
 
 // A run that is not ended yet: its end, which is left out, and how many buckets it has.
 #[derive(Clone, Copy, Drop)]
-pub struct Run {
+pub struct FreedRun {
     pub end: Bucket,
     pub size: u32,
 }
 
-// A run, if it has a bucket.
-fn put_run(out: &mut Output, r: Run)
-    ensures { out.new ≡ with_bytes out.old (keys_bytes 11 (shown_run r)) }
+// A run.
+fn put_run(out: &mut Output, r: FreedRun)
+    ensures { out.new ≡ with_bytes out.old (encode_field (key_field 11 (freed_key r))) }
 {
-    if r.size != 0 {
-        new_keys::put_new_key(
-            out,
-            Tree::Freespace.tag(),
-            KeyType::Set.number(),
-            r.size,
-            positions::run_at(r.end),
-        );
-    }
+    new_keys::put_new_key(
+        out,
+        Tree::Freespace.tag(),
+        KeyType::Set.number(),
+        r.size,
+        positions::run_at(r.end),
+    );
 }
 
 // The run before a bucket, unless the bucket joins it.
-fn put_ended(out: &mut Output, r: Run, b: Bucket)
+fn put_ended(out: &mut Output, r: FreedRun, b: Bucket)
     ensures { out.new ≡ with_bytes out.old (keys_bytes 11 (ended_run r b)) }
 {
     if r.end != b {
@@ -48,28 +46,32 @@ fn put_ended(out: &mut Output, r: Run, b: Bucket)
 }
 
 // The run that a bucket joins, or begins. The limits show the bounds.
-fn with_bucket(r: Run, b: Bucket) -> Run
+fn with_bucket(r: FreedRun, b: Bucket) -> FreedRun
     requires { (bucket_in_range b ≡ true) × (r.size < 4096) }
     ensures { result ≡ with_bucket r b }
 {
     let size = if r.end == b { r.size + 1 } else { 1 };
-    Run {
+    FreedRun {
         end: kinds::next_bucket(b),
         size,
     }
 }
 
-// The runs of a batch. `discarded_keys` and the limits show what is required.
-pub fn put_runs(out: &mut Output, s: &[u8], offsets: &[u32])
-    requires { All (DiscardedKept s.now) offsets.now × (length offsets.now ≤ 4096) }
-    ensures { out.new ≡ with_bytes out.old (keys_bytes 11 (map run_key (joined_runs (buckets_at s.now offsets.now)))) }
+// The runs of a batch.
+pub fn put_runs(out: &mut Output, d: &Discarded)
+    ensures { out.new ≡ with_bytes out.old (keys_bytes 11 (map run_key (joined_runs (buckets_of (keys_listed d.now.keys))))) }
 {
-    let mut r = Run {
-        end: Bucket(0),
-        size: 0,
+    let mut others = d.keys.iter();
+    let Some(first) = others.next() else {
+        return;
     };
-    for o in offsets {
-        let b = key::bucket_at(s, *o as usize);
+    let mut r = FreedRun {
+        end: kinds::next_bucket(first.bucket()),
+        size: 1,
+    };
+    // Not by `chunk_by`: it takes a slice, as of the places, and its closure would have to be callable at any two places, where only these find keys.
+    for key in others {
+        let b = key.bucket();
         put_ended(out, r, b);
         r = with_bucket(r, b);
     }

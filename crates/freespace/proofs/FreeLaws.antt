@@ -6,29 +6,22 @@ use Prim.Native.Nat.{ℕ, zero, suc, ◌+◌, ◌-◌, ◌≤◌, ◌<◌}
 use native.Mathlib.Nat.{add-zero}
 use native.Mathlib.Omega.{arith}
 use lib.Dec.{eqb}
-use lib.ListN.{length, get_or, drop, drop_of_length-le}
+use lib.ListN.{length, drop}
 use borrow.Author.Tests.{lt-ltb, le-ltb, ltb-true, ltb-false, eqb-true, eqb-false, ne_eqb}
 use Rattle.std.specs.Prelude.{Option, None, Some}
 use Rattle.std.specs.List.{prefix_len}
-use Rattle.wire.specs.Bytes.{All}
 use Rattle.wire.specs.Keys.{Key}
-use Rattle.wire.specs.Kinds.{bucket_below, same_bucket, next_bucket, buckets_from, buckets_up_to, no_bucket, bucket_read}
+use Rattle.wire.specs.Kinds.{bucket_below, same_bucket, next_bucket, buckets_from, buckets_up_to, no_bucket}
 use Rattle.wire.specs.declared.kinds.Bucket.{Bucket}
-use Rattle.wire.proofs.NumberLaws.{le-take}
-use Rattle.calls.specs.Lists.{any_of, those, total, one as ind}
+use Rattle.calls.specs.Lists.{all_of, any_of, those, total, one as ind}
 use Rattle.calls.specs.Limits.{is_run}
 use Rattle.calls.specs.Freespace.{is_in, runs_of, buckets_of, free_count}
-use Rattle.calls.specs.Answers.{read_volume}
-use Rattle.calls.proofs.lists.AllOfLaws.{all-of-drop, all-of-first}
-use Rattle.reader.specs.Checked.{Checked, end_in_range}
-use Rattle.reader.specs.KeyHere.{key_here}
-use Rattle.reader.specs.Located.{KeysAt, BucketsAt}
-use Rattle.reader.proofs.CheckedLaws.{run-range}
-use Rattle.reader.proofs.KeyHereLaws.{keys-next}
-use Rattle.reader.proofs.SkipLaws.{walk-on, prefix-alike, all-indexed}
+use Rattle.calls.proofs.lists.BoolLaws.{parts as and-true}
+use Rattle.reader.specs.Checked.{end_in_range}
+use Rattle.reader.proofs.SkipLaws.{walk-on}
 use Rattle.freespace.specs.Runs.{run_in, count_below}
 use Rattle.freespace.specs.declared.runs.Run.{Run}
-use Rattle.freespace.proofs.RunLaws.{Rising, rising, meets, run-here, run_end, run_buckets, run-buckets, run_none}
+use Rattle.freespace.proofs.RunLaws.{Rising, meets, run-here, run_end, run_buckets, run-buckets, run_none}
 
 length-those : {A : Type 0} (t : A → Bool) (x : A) (xs : List A) → length (those t (x ∷ xs)) ≡ ind (t x) + length (those t xs)
 unfolding those
@@ -87,18 +80,13 @@ below-prefix m b (c ∷ cs) r = go (bucket_below c b) refl (below-prefix (suc c.
     go true e h = omega (arith, count-cons b c cs, ap ind e, h)
     go false e h = omega (arith, count_none c.0 b (c ∷ cs) (omega arith, r.1) (ltb-false c.0 b.0 e))
 
--- the walk over their places
-module _ {s places : List ℕ} {bs : List Bucket} (f : BucketsAt s places bs) where
-  pub places-within : All (λ at. at + 4 ≤ length s) places
-  places-within = all-indexed 0 places (λ i h. (f.at i h).within)
-
-  pub below-walked : (b : Bucket) {from r : ℕ} → Rising 0 bs → from ≤ count_below b bs
-      → r ≡ from + prefix_len (λ at. bucket_below (bucket_read (drop at s)) b) (drop from places) → r ≡ count_below b bs
-  below-walked b {from = from} w h e =
-      let here : (i : ℕ) → i < length places → bucket_below (bucket_read (drop (get_or places i 0) s)) b ≡ bucket_below (get_or bs i no_bucket) b
-      = λ i l. ap (λ (c : Bucket). bucket_below c b) (rw (← le-take 4 4 (drop (get_or places i 0) s) (omega arith)) (f.at i l).is) in
-      let same = prefix-alike (λ at. bucket_below (bucket_read (drop at s)) b) (λ c. bucket_below c b) 0 no_bucket places bs f.count here ∙ below-prefix 0 b bs w in
-      e ∙ walk-on (λ at. bucket_below (bucket_read (drop at s)) b) places from (omega (arith, same, h)) ∙ same
+-- the walk along them
+pub below-walked :
+    (b : Bucket) (bs : List Bucket) {from r : ℕ} → Rising 0 bs → from ≤ count_below b bs → r ≡ from + prefix_len (λ c. bucket_below c b) (drop from bs)
+    → r ≡ count_below b bs
+below-walked b bs {from} w h e =
+    let same = below-prefix 0 b bs w in
+    e ∙ walk-on (λ c. bucket_below c b) bs from (omega (arith, same, h)) ∙ same
 
 -- the next bucket has one more below it, if it is in the list
 in-none : (m : ℕ) (b : Bucket) (bs : List Bucket) → Rising m bs → b.0 < m → is_in bs b ≡ false
@@ -177,17 +165,18 @@ free-cons bs k ks = go (is_run k) refl
     go true e = rw (run-buckets k e)
     go false e = rw (run_none k e) (omega arith)
 
--- the count so far: with the free buckets of the keys from an index on, it is all; and those keys start no run below `last`
-pub record FreeCounting (ks : List Key) (bs : List Bucket) (free j i : ℕ) : Type 0 where
+-- the count so far: with the free buckets of the keys that are left, it is all; and those keys are within the limits and start no run below `last`
+pub record FreeCounting (ks : List Key) (bs : List Bucket) (free j : ℕ) (rest : List Key) : Type 0 where
   pub last : Bucket
   pub small : last.0 ≤ 65536
   pub most : free ≤ last.0
   pub below : j ≡ count_below last bs
-  pub apart : meets last (drop i ks) ≡ false
-  pub sum : free + free_count (is_in bs) (runs_of (drop i ks)) ≡ free_count (is_in bs) (runs_of ks)
+  pub range : all_of end_in_range rest ≡ true
+  pub apart : meets last rest ≡ false
+  pub sum : free + free_count (is_in bs) (runs_of rest) ≡ free_count (is_in bs) (runs_of ks)
 
 -- what a run adds to the count
-pub record RunCounted (ks : List Key) (bs : List Bucket) (free j i : ℕ) (r : Run) : Type 0 where
+pub record RunCounted (ks : List Key) (bs : List Bucket) (free j : ℕ) (rest : List Key) (r : Run) : Type 0 where
   pub order : r.start.0 ≤ r.end.0
   pub small : r.end.0 ≤ 65536
   pub start : j ≤ count_below r.start bs
@@ -198,26 +187,30 @@ pub record RunCounted (ks : List Key) (bs : List Bucket) (free j i : ℕ) (r : R
   pub on :
       (free' j' : ℕ) → free' ≡ free + ((r.end.0 - r.start.0) - (count_below r.end bs - count_below r.start bs))
       → j' ≡ count_below r.end bs
-      → FreeCounting ks bs free' j' (i + 1)
+      → FreeCounting ks bs free' j' rest
 
-pub counting-start : (ks : List Key) (bs : List Bucket) → meets no_bucket ks ≡ false → FreeCounting ks bs 0 0 0
-counting-start ks bs e =
-    record { last = no_bucket; small = omega arith; most = omega arith; below = sym (count-zero bs); apart = e; sum = omega arith }
+pub counting-start : (ks : List Key) (bs : List Bucket) → all_of end_in_range ks ≡ true → meets no_bucket ks ≡ false → FreeCounting ks bs 0 0 ks
+counting-start ks bs l e =
+    record { last = no_bucket; small = omega arith; most = omega arith; below = sym (count-zero bs); range = l; apart = e; sum = omega arith }
 
-module _ {ks : List Key} {bs : List Bucket} {free j i : ℕ} (c : FreeCounting ks bs free j i) (r : Rising 0 bs) where
-  pub counting-end : length ks ≤ i → free ≡ free_count (is_in bs) (runs_of ks)
+module _ {ks : List Key} {bs : List Bucket} {free j : ℕ} {rest : List Key} (c : FreeCounting ks bs free j rest) where
+  pub counting-end : rest ≡ [] → free ≡ free_count (is_in bs) (runs_of ks)
   unfolding free_count runs_of those total
-  counting-end h = omega (arith, ap (λ (l : List Key). free_count (is_in bs) (runs_of l)) (drop_of_length-le ks h), c.sum)
+  counting-end h = omega (arith, ap (λ (l : List Key). free_count (is_in bs) (runs_of l)) h, c.sum)
 
-  module _ (k : Key) (f : drop i ks ≡ k ∷ drop (i + 1) ks) where
-    here : free_count (is_in bs) (runs_of (drop i ks)) ≡ free_in bs (run_in k) + free_count (is_in bs) (runs_of (drop (i + 1) ks))
-    here = ap (λ (l : List Key). free_count (is_in bs) (runs_of l)) f ∙ free-cons bs k (drop (i + 1) ks)
+  module _ {k : Key} {after : List Key} (f : rest ≡ k ∷ after) where
+    here : free_count (is_in bs) (runs_of rest) ≡ free_in bs (run_in k) + free_count (is_in bs) (runs_of after)
+    here = ap (λ (l : List Key). free_count (is_in bs) (runs_of l)) f ∙ free-cons bs k after
 
-    met : meets c.last (k ∷ drop (i + 1) ks) ≡ false
+    met : meets c.last (k ∷ after) ≡ false
     met = ap (meets c.last) (sym f) ∙ c.apart
 
+    ranges : (end_in_range k ≡ true) × (all_of end_in_range after ≡ true)
+    unfolding all_of
+    ranges = and-true (end_in_range k) (all_of end_in_range after) (ap (all_of end_in_range) (sym f) ∙ c.range)
+
     -- a key that covers nothing
-    pub counting-past : run_in k ≡ None → FreeCounting ks bs free j (i + 1)
+    pub counting-past : run_in k ≡ None → FreeCounting ks bs free j after
     unfolding meets those
     counting-past e =
         record {
@@ -225,13 +218,14 @@ module _ {ks : List Key} {bs : List Bucket} {free j i : ℕ} (c : FreeCounting k
           small = c.small;
           most = c.most;
           below = c.below;
+          range = ranges.1;
           apart = rw e at met;
           sum = omega (arith, c.sum, rw e at here);
         }
 
     -- a run, with the reserved buckets below its start and its end
-    module _ {x : Run} (e : run_in k ≡ Some x) where
-      parted : (bucket_below x.start c.last ≡ false) × (meets x.end (drop (i + 1) ks) ≡ false)
+    module _ (r : Rising 0 bs) {x : Run} (e : run_in k ≡ Some x) where
+      parted : (bucket_below x.start c.last ≡ false) × (meets x.end after ≡ false)
       unfolding meets
       parted = or-both (bucket_below x.start c.last) (rw e at met)
         where
@@ -242,12 +236,12 @@ module _ {ks : List Key} {bs : List Bucket} {free j i : ℕ} (c : FreeCounting k
       ordered : (c.last.0 ≤ x.start.0) × (x.start.0 < x.end.0)
       ordered = (ltb-false x.start.0 c.last.0 parted.0, (run-here k x e).some)
 
-      pub counting-on : (end_in_range k ≡ true) → RunCounted ks bs free j i x
-      counting-on l =
+      pub counting-on : RunCounted ks bs free j after x
+      counting-on =
           let h = ordered in
           let w = free-run bs r x.start x.end (omega arith) in
           let m = count-mono x.start x.end bs (omega arith) in
-          let small = run_end k x e l in
+          let small = run_end k x e ranges.0 in
           record {
             order = omega arith;
             small = small;
@@ -262,22 +256,8 @@ module _ {ks : List Key} {bs : List Bucket} {free j i : ℕ} (c : FreeCounting k
                   small = small;
                   most = omega (arith, c.most);
                   below = q;
+                  range = ranges.1;
                   apart = parted.1;
                   sum = omega (arith, c.sum, rw e at here);
                 };
           }
-
--- the run of a turn
-module _
-    {s runs : List ℕ} (t : Checked s) (f : KeysAt s runs (read_volume s).trees.freespace) (i : ℕ) (h : i < length runs) {free j : ℕ}
-    (c : FreeCounting (read_volume s).trees.freespace (read_volume s).reserved free j i) where
-  abbrev run_here : Option Run
-  run_here = run_in (key_here s (get_or runs i 0))
-
-  pub turn-past : run_here ≡ None → FreeCounting (read_volume s).trees.freespace (read_volume s).reserved free j (i + 1)
-  turn-past e = counting-past c (rising _ t.reserved) _ (keys-next f i h) e
-
-  pub turn-on : {x : Run} → run_here ≡ Some x → RunCounted (read_volume s).trees.freespace (read_volume s).reserved free j i x
-  turn-on e =
-      counting-on c (rising _ t.reserved) _ (keys-next f i h) e
-      (all-of-first end_in_range (all-of-drop end_in_range _ i (run-range t)) (keys-next f i h))

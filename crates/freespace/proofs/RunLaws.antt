@@ -6,7 +6,6 @@ use Prim.Native.Nat.{Ordering}
 use Prim.Native.Nat.{ℕ, suc, ◌≤◌, ◌<◌}
 use native.Mathlib.Omega.{arith}
 use lib.Dec.{ltb, eqb}
-use lib.ListN.{length, drop, drop_of_length-le}
 use borrow.Author.Tests.{leb-true, lt-ltb, le-ltb, ltb-true, ltb-false, eqb-true, eqb-false}
 use Rattle.wire.specs.Keys.{Key}
 use Rattle.wire.specs.Order.{cmp, pos_less}
@@ -205,9 +204,9 @@ module _ (last : Bucket) {k : Key} {ks rest : List Key} (f : ks ≡ k ∷ rest) 
     unfolding meets
     meets_on h = sym (ap (meets last) f ∙ rw (e, le-ltb x.start.0 last.0 h))
 
-pub meets-none : (last : Bucket) (ks : List Key) (i : ℕ) → length ks ≤ i → meets last (drop i ks) ≡ false
+pub meets-none : (last : Bucket) {ks : List Key} → ks ≡ [] → meets last ks ≡ false
 unfolding meets
-meets-none last ks i h = ap (meets last) (drop_of_length-le ks h)
+meets-none last e = ap (meets last) e
 
 -- the run that a key is
 pub record RunHere (k : Key) (x : Run) : Type 0 where

@@ -5,8 +5,8 @@ use mathlib.Core.List.{List, [], ◌∷◌, ◌++◌, append-nil, append_assoc}
 use Prim.Native.Nat.{ℕ, zero, suc, ◌+◌, ◌-◌, ◌≤◌, ◌<◌}
 use native.Mathlib.Numerals.{add-one}
 use native.Mathlib.Omega.{arith}
-use lib.ListN.{length, take, drop, length-append, length-drop, drop_of_length-le}
-use lib.Seq.{length-take-le}
+use lib.ListN.{length, take, drop, length-append, length-drop}
+use lib.Seq.{length-take-le, drop-drop}
 use Rattle.std.specs.Prelude.{Option, None, Some, Result, Ok, Err}
 use Rattle.std.proofs.lemmas.Result.{IfOk-weaker}
 use Rattle.wire.specs.Keys.{Key}
@@ -264,6 +264,14 @@ module _ (R U : Bucket → Bool) where
         short = λ h. refl;
       }
 
+-- what is left of a list after the first of what was left
+module _ {A : Type 0} (i : ℕ) (l : List A) {x : A} {rest after : List A} (e : drop i l ≡ rest) (f : rest ≡ x ∷ after) where
+  pub drop-after : drop (i + 1) l ≡ after
+  drop-after = sym (drop-drop 1 i l) ∙ ap (drop 1) (e ∙ f)
+
+  pub drop-rest : drop i l ≡ x ∷ drop (i + 1) l
+  drop-rest = e ∙ f ∙ ap (λ r. x ∷ r) (sym drop-after)
+
 module _ {R U : Bucket → Bool} {ks : List Key} {w : calls.Walked} {n : ℕ} {before table : List Bucket} {r : Walked} (g : RunWalking R U ks w n before table r) where
   abbrev here : calls.Walked
   here = walk R U (n - r.count) (runs_of (drop r.passed ks))
@@ -291,9 +299,9 @@ module _ {R U : Bucket → Bool} {ks : List Key} {w : calls.Walked} {n : ℕ} {b
       let z : n - r.count ≡ 0 = omega arith in
       walking-done (ap (λ (m : ℕ). walk R U m (runs_of (drop r.passed ks))) z ∙ walk-full R U (runs_of (drop r.passed ks)))
 
-  pub walking-end : length ks ≤ r.passed → WalkIs n (λ x. take x.passed ks) w unwalked before table (Ok r)
+  pub walking-end : drop r.passed ks ≡ [] → WalkIs n (λ x. take x.passed ks) w unwalked before table (Ok r)
   unfolding runs_of those
-  walking-end h = walking-done (ap (λ (l : List Key). walk R U (n - r.count) (runs_of l)) (drop_of_length-le ks h) ∙ walk_none R U (n - r.count))
+  walking-end h = walking-done (ap (λ (l : List Key). walk R U (n - r.count) (runs_of l)) h ∙ walk_none R U (n - r.count))
 
   -- the next key
   module _ {k : Key} (f : drop r.passed ks ≡ k ∷ drop (r.passed + 1) ks) (h : r.count < n) where

@@ -6,16 +6,16 @@ use Prim.Native.Nat.{ℕ, zero, suc, ◌+◌, ◌-◌, ◌≤◌, ◌<◌}
 use native.Mathlib.Numerals.{add-one}
 use native.Mathlib.Omega.{arith}
 use lib.ListN.{length, take, set, length-set}
-use Rattle.std.proofs.Math.Bool.{or_assoc}
 use lib.Seq.{take-suc-set, append_snoc}
 use Rattle.wire.specs.Kinds.{bucket_in_range, buckets_from, buckets_up_to, next_bucket}
 use Rattle.wire.specs.declared.kinds.Bucket.{Bucket}
 use lib.Dec.{leb}
 use borrow.Author.Tests.{lt-ltb, leb-true, leb-false}
 use Rattle.calls.specs.Freespace.{Passed, pass}
-use Rattle.freespace.specs.Walks.{WalkEnded}
+use Rattle.reader.specs.declared.refusal.Refusal.TheVariants.{BucketInUse}
+use Rattle.freespace.specs.Walks.{thirteen, WalkEnded}
 use Rattle.freespace.specs.declared.take.Walked.{Walked}
-use Rattle.std.specs.Prelude.{Ok}
+use Rattle.std.specs.Prelude.{Ok, Err}
 
 -- the buckets of a run from one on
 pub up-to-next : (b end : Bucket) → b.0 < end.0 → buckets_up_to b end ≡ b ∷ buckets_up_to (next_bucket b) end
@@ -100,21 +100,21 @@ module _ (R U S W : Bucket → Bool) (r : (b : Bucket) → bucket_in_range b ≡
           let l = leb-false start.0 end.0 e in
           rw (up-to-none start end (omega arith)) (pass-none R U need ∙ sym (pass-none S W need))
 
--- the walk of one run, with the buckets from one on still to come: all that the run makes is what was made so far and what those make
-pub record Ahead (R U : Bucket → Bool) (p : Passed) (n : ℕ) (from : Walked) (before : List Bucket) (end b : Bucket) (count : ℕ) (met : Bool) (table : List Bucket) : Type 0 where
+-- the walk of one run, with the buckets from one on still to come: all that the run makes is what was made so far, with no used bucket, and what those make
+pub record Ahead (R U : Bucket → Bool) (p : Passed) (n : ℕ) (from : Walked) (before : List Bucket) (end b : Bucket) (count : ℕ) (table : List Bucket) : Type 0 where
   pub most : count ≤ n
   pub size : length table ≡ length before
   pub taken : take count table ++ (pass R U (n - count) (buckets_up_to b end)).taken ≡ take from.count before ++ p.taken
   pub many : count + length (pass R U (n - count) (buckets_up_to b end)).taken ≡ from.count + length p.taken
   pub left : (pass R U (n - count) (buckets_up_to b end)).left ≡ p.left
-  pub used : met || (pass R U (n - count) (buckets_up_to b end)).used ≡ p.used
+  pub used : (pass R U (n - count) (buckets_up_to b end)).used ≡ p.used
 
-module _ (R U : Bucket → Bool) {p : Passed} {n : ℕ} {from : Walked} {before : List Bucket} {end b : Bucket} {count : ℕ} {met : Bool} {table : List Bucket} (a : Ahead R U p n from before end b count met table) where
+module _ (R U : Bucket → Bool) {p : Passed} {n : ℕ} {from : Walked} {before : List Bucket} {end b : Bucket} {count : ℕ} {table : List Bucket} (a : Ahead R U p n from before end b count table) where
   abbrev rest : Passed
   rest = pass R U (n - count) (buckets_up_to b end)
 
   -- a reserved bucket is passed
-  pub ahead-skip : count < n → b.0 < end.0 → R b ≡ true → Ahead R U p n from before end (next_bucket b) count met table
+  pub ahead-skip : count < n → b.0 < end.0 → R b ≡ true → Ahead R U p n from before end (next_bucket b) count table
   ahead-skip h l e =
       let q : pass R U (n - count) (buckets_up_to (next_bucket b) end) ≡ rest = sym (ap (pass R U (n - count)) (up-to-next b end l) ∙ pass-skip R U (n - count) b (buckets_up_to (next_bucket b) end) (omega arith) e) in
       record {
@@ -123,54 +123,68 @@ module _ (R U : Bucket → Bool) {p : Passed} {n : ℕ} {from : Walked} {before 
         taken = ap (λ (r : Passed). take count table ++ r.taken) q ∙ a.taken;
         many = ap (λ (r : Passed). count + length r.taken) q ∙ a.many;
         left = ap (λ (r : Passed). r.left) q ∙ a.left;
-        used = ap (λ (r : Passed). met || r.used) q ∙ a.used;
+        used = ap (λ (r : Passed). r.used) q ∙ a.used;
       }
 
-  -- another is taken
-  pub ahead-take :
-      (next : Bool) → count < n → n ≤ length before → b.0 < end.0 → R b ≡ false → next ≡ met || U b
-      → Ahead R U p n from before end (next_bucket b) (count + 1) next (set table count b)
-  ahead-take next h z l e f =
-      let m : n - count ≡ suc (n - (count + 1)) = omega arith in
-      let r : Passed = pass R U (n - (count + 1)) (buckets_up_to (next_bucket b) end) in
-      let q : rest ≡ record { taken = b ∷ r.taken; left = r.left; need = r.need; used = U b || r.used } =
-      ap (pass R U (n - count)) (up-to-next b end l) ∙ ap (λ (k : ℕ). pass R U k (b ∷ buckets_up_to (next_bucket b) end)) m
-      ∙ pass-take R U (n - (count + 1)) b (buckets_up_to (next_bucket b) end) e in
-      let w : take (count + 1) (set table count b) ≡ take count table ++ (b ∷ []) = rw add-one (take-suc-set table count b (omega (arith, a.size))) in
-      record {
-        most = omega arith;
-        size = length-set table count b ∙ a.size;
-        taken =
-            ap (λ (x : List Bucket). x ++ r.taken) w
-            ∙ append_snoc (take count table) b r.taken
-            ∙ ap (λ (x : Passed). take count table ++ x.taken) (sym q)
-            ∙ a.taken;
-        many = omega (arith, a.many, ap (λ (x : Passed). length x.taken) q);
-        left = ap (λ (x : Passed). x.left) (sym q) ∙ a.left;
-        used =
-            ap (λ (t : Bool). t || r.used) f ∙ or_assoc met (U b) r.used ∙ ap (λ (x : Passed). met || x.used) (sym q) ∙ a.used;
-      }
+  -- another bucket
+  module _ (h : count < n) (l : b.0 < end.0) (e : R b ≡ false) where
+    after : Passed
+    after = pass R U (n - (count + 1)) (buckets_up_to (next_bucket b) end)
 
-  -- where the rest makes nothing more and no used bucket was met, what the walk leaves
-  ended : (left : ℕ) → met ≡ false → rest ≡ record { taken = []; left = left; need = n - count; used = false }
-      → WalkEnded p from before table (Ok (record { count = count; passed = from.passed + 1; left = left }))
-  ended left f e =
+    rest-is : rest ≡ record { taken = b ∷ after.taken; left = after.left; need = after.need; used = U b || after.used }
+    unfolding after
+    rest-is =
+        let m : n - count ≡ suc (n - (count + 1)) = omega arith in
+        ap (pass R U (n - count)) (up-to-next b end l) ∙ ap (λ (k : ℕ). pass R U k (b ∷ buckets_up_to (next_bucket b) end)) m
+        ∙ pass-take R U (n - (count + 1)) b (buckets_up_to (next_bucket b) end) e
+
+    -- is taken
+    pub ahead-take : n ≤ length before → U b ≡ false → Ahead R U p n from before end (next_bucket b) (count + 1) (set table count b)
+    unfolding after
+    ahead-take z f =
+        let q = rest-is in
+        let w : take (count + 1) (set table count b) ≡ take count table ++ (b ∷ []) = rw add-one (take-suc-set table count b (omega (arith, a.size))) in
+        record {
+          most = omega arith;
+          size = length-set table count b ∙ a.size;
+          taken =
+              ap (λ (x : List Bucket). x ++ after.taken) w
+              ∙ append_snoc (take count table) b after.taken
+              ∙ ap (λ (x : Passed). take count table ++ x.taken) (sym q)
+              ∙ a.taken;
+          many = omega (arith, a.many, ap (λ (x : Passed). length x.taken) q);
+          left = ap (λ (x : Passed). x.left) (sym q) ∙ a.left;
+          used = ap (λ (t : Bool). t || after.used) (sym f) ∙ ap (λ (x : Passed). x.used) (sym q) ∙ a.used;
+        }
+
+    -- is used
+    pub ahead-used : U b ≡ true → WalkEnded p from before table (Err BucketInUse)
+    ahead-used f =
+        let u : true ≡ p.used = ap (λ (t : Bool). t || after.used) (sym f) ∙ ap (λ (x : Passed). x.used) (sym rest-is) ∙ a.used in
+        record { used = ap (λ (t : Bool). thirteen t 0) u; took = tt }
+
+-- where the rest makes nothing more, what the walk leaves
+module _
+    (R U : Bucket → Bool) {p : Passed} {n : ℕ} {from : Walked} {before : List Bucket} {end b : Bucket} {table : List Bucket} {w : Walked}
+    (a : Ahead R U p n from before end b w.count table) (f : w.passed ≡ from.passed + 1) where
+  ended : pass R U (n - w.count) (buckets_up_to b end) ≡ record { taken = []; left = w.left; need = n - w.count; used = false } → WalkEnded p from before table (Ok w)
+  ended e =
       record {
-        used = rw (sym a.used, f, e) refl;
+        used = rw (sym a.used, e) refl;
         took =
             record {
-              taken = sym (append-nil (take count table)) ∙ ap (λ (x : Passed). take count table ++ x.taken) (sym e) ∙ a.taken;
+              taken = sym (append-nil (take w.count table)) ∙ ap (λ (x : Passed). take w.count table ++ x.taken) (sym e) ∙ a.taken;
               many = omega (arith, a.many, ap (λ (x : Passed). length x.taken) e);
-              passed = refl;
+              passed = f;
               rest = ap (λ (x : Passed). x.left) (sym e) ∙ a.left;
             };
       }
 
-  pub ahead-full : {left : ℕ} → met ≡ false → count ≡ n → left ≡ length (buckets_up_to b end)
-      → WalkEnded p from before table (Ok (record { count = count; passed = from.passed + 1; left = left }))
-  ahead-full {left} m e f =
-      let z : n - count ≡ 0 = omega arith in
-      ended left m (ap (λ (k : ℕ). pass R U k (buckets_up_to b end)) z ∙ pass-full R U (buckets_up_to b end) ∙ (λ i. record { taken = []; left = (sym f) i; need = (sym z) i; used = false }))
+  pub ahead-full : w.count ≡ n → w.left ≡ length (buckets_up_to b end) → WalkEnded p from before table (Ok w)
+  ahead-full e l =
+      let z : n - w.count ≡ 0 = omega arith in
+      ended (ap (λ (k : ℕ). pass R U k (buckets_up_to b end)) z ∙ pass-full R U (buckets_up_to b end) ∙ (λ i. record { taken = []; left = (sym l) i; need = (sym z) i; used = false }))
 
-  pub ahead-done : met ≡ false → end.0 ≤ b.0 → WalkEnded p from before table (Ok (record { count = count; passed = from.passed + 1; left = 0 }))
-  ahead-done m h = ended 0 m (ap (pass R U (n - count)) (up-to-none b end h) ∙ pass-none R U (n - count))
+  pub ahead-done : end.0 ≤ b.0 → w.left ≡ 0 → WalkEnded p from before table (Ok w)
+  ahead-done h l =
+      ended (ap (pass R U (n - w.count)) (up-to-none b end h) ∙ pass-none R U (n - w.count) ∙ (λ i. record { taken = []; left = (sym l) i; need = n - w.count; used = false }))

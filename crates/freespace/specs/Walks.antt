@@ -6,7 +6,6 @@ use Rattle.wire.specs.declared.kinds.Bucket.{Bucket}
 use Rattle.calls.specs.Limits.{is_run}
 use Rattle.calls.specs.Freespace as calls
 use Rattle.calls.specs.Freespace.{end_of, buckets_of, pass, shortened}
-use Rattle.reader.specs.KeyHere.{Whole, key_here}
 use Rattle.reader.specs.Checked.{end_in_range}
 use Rattle.reader.specs.Refusals.{number_in}
 use Rattle.reader.specs.declared.refusal.Refusal.{Refusal}
@@ -16,10 +15,13 @@ use Rattle.freespace.specs.declared.take.Walked.{Walked}
 abbrev pub unwalked : Walked
 unwalked = record { count = 0; passed = 0; left = 0 }
 
--- What the walk of a key asks: a key at its place within the limits, and room for the buckets.
-pub record Walkable (s : List ℕ) (at : ℕ) (n : ℕ) (from : Walked) (table : List Bucket) : Type 0 where
-  pub key : Whole s at
-  pub end : end_in_range (key_here s at) ≡ true
+-- one key more is passed, and all its buckets
+abbrev pub past_key : Walked → Walked
+past_key w = record { count = w.count; passed = w.passed + 1; left = 0 }
+
+-- What the walk of a key asks: a key within the limits, and room for the buckets.
+pub record Walkable (k : Key) (n : ℕ) (from : Walked) (table : List Bucket) : Type 0 where
+  pub end : end_in_range k ≡ true
   pub most : from.count ≤ n
   pub room : n ≤ length table
   pub few : from.passed < 2 ^ 63

@@ -1,17 +1,18 @@
 // The walk over the runs of free buckets: refusals 12 and 13, the buckets taken and the keys queued.
-ghost use Rattle.std.specs.Prelude.{◌≡◌, [], ◌∷◌, ◌+◌, ◌-◌, ◌≤◌, ◌<◌, ◌^◌, length, take};
+ghost use Rattle.std.specs.Prelude.{◌≡◌, [], ◌∷◌, ◌-◌, ◌≤◌, ◌<◌, ◌^◌, length, take};
 ghost use Rattle.wire.specs.Kinds.{buckets_up_to};
-ghost use Rattle.calls.specs.Answers.{read_volume};
 ghost use Rattle.calls.specs.Freespace.{is_in, is_used, runs_of, pass, walk};
-ghost use Rattle.reader.specs.KeyHere.{key_here};
-ghost use Rattle.reader.specs.Located.{KeysAt, BucketsAt};
+ghost use Rattle.reader.specs.ListedKeys.{key_listed, keys_listed};
+ghost use Rattle.reader.specs.ListedBuckets.{buckets_listed};
 ghost use Rattle.bucket_bits.specs.Bits.{marked, Tables};
-ghost use Rattle.reader.specs.Checked.{Checked};
-ghost use Rattle.freespace.specs.Walks.{Walkable, key_walk, unwalked, WalkEnded, WalkIs};
+ghost use Rattle.reader.specs.Checked.{AllocChecked, RunsChecked, ReservedChecked};
+ghost use Rattle.freespace.specs.Walks.{Walkable, past_key, key_walk, unwalked, WalkEnded, WalkIs};
 
 use crate::runs;
 use crate::runs::Run;
 use bucket_bits::marks::BucketBits;
+use reader::key::ListedKey;
+use reader::read_list::ReadList;
 use reader::refusal::Refusal;
 use wire::kinds;
 use wire::kinds::Bucket;
@@ -27,14 +28,28 @@ pub struct Walked {
     pub left: u32,
 }
 
-// What the walk goes by: a list, the bits of its reserved buckets and of those in use, and how many buckets are wanted.
+// What the walk goes by: a list that was read, the bits of its reserved buckets and of those in use, and how many buckets are wanted.
 #[derive(Clone, Copy, Drop)]
 pub struct Walker<'a> {
-    pub list: &'a [u8],
+    pub read: &'a ReadList<'a>,
     pub reserved: &'a BucketBits,
     pub used: &'a BucketBits,
     pub wanted: usize,
-    pub ghost tables: { Tables list.now reserved.now used.now },
+    pub ghost tables: { Tables read.now reserved.now used.now },
+}
+
+impl Walked {
+    // One key more is passed, and all its buckets. `walk_key` shows the bound.
+    fn past_key(self) -> Walked
+        requires { self.passed < 2 ^ 63 }
+        ensures { result ≡ past_key self }
+    {
+        Walked {
+            passed: self.passed + 1,
+            left: 0,
+            ..self
+        }
+    }
 }
 
 impl<'a> Walker<'a> {
@@ -43,88 +58,76 @@ impl<'a> Walker<'a> {
         requires { (run.end.0 ≤ 65536) × (from.count ≤ self.now.wanted) × (self.now.wanted ≤ length taken.old) × (from.passed < 2 ^ 63) }
         ensures { WalkEnded (pass (marked self.now.reserved.now) (marked self.now.used.now) (self.now.wanted - from.count) (buckets_up_to run.start run.end)) from taken.old taken.new result }
     {
-        let mut count = from.count;
-        let mut left: u32 = 0;
-        let mut met_used = false;
+        let mut walked = from.past_key();
         for number in run.start.0..run.end.0 {
             let b = Bucket(number);
-            if count == self.wanted {
-                left = kinds::buckets_between(b, run.end);
-                break;
+            if walked.count == self.wanted {
+                walked.left = kinds::buckets_between(b, run.end);
+                return Ok(walked);
             }
-            if !self.reserved.is_marked(b) {
-                met_used |= self.used.is_marked(b);
-                taken[count] = b;
-                count += 1;
+            if self.reserved.is_marked(b) {
+                continue;
             }
+            if self.used.is_marked(b) {
+                return Err(Refusal::BucketInUse);
+            }
+            taken[walked.count] = b;
+            walked.count += 1;
         }
-        if met_used {
-            return Err(Refusal::BucketInUse);
-        }
-        Ok(Walked {
-            count,
-            passed: from.passed + 1,
-            left,
-        })
+        Ok(walked)
     }
 
     // Walks one key, if it is a run. `take_buckets` shows what is asked.
-    fn walk_key(&self, at: usize, from: Walked, taken: &mut [Bucket]) -> Result<Walked, Refusal>
-        requires { Walkable self.now.list.now at self.now.wanted from taken.old }
-        ensures { WalkIs self.now.wanted (λ w. key_here self.now.list.now at ∷ []) (key_walk (is_in (read_volume self.now.list.now).reserved) (is_used (read_volume self.now.list.now).trees.alloc) (self.now.wanted - from.count) (key_here self.now.list.now at)) from taken.old taken.new result }
+    fn walk_key(
+        &self,
+        key: ListedKey,
+        from: Walked,
+        taken: &mut [Bucket],
+    ) -> Result<Walked, Refusal>
+        requires { Walkable (key_listed key) self.now.wanted from taken.old }
+        ensures { WalkIs self.now.wanted (λ w. key_listed key.entry ∷ []) (key_walk (is_in (buckets_listed self.now.read.now.reserved)) (is_used (keys_listed self.now.read.now.alloc)) (self.now.wanted - from.count) (key_listed key.entry)) from taken.old taken.new result }
     {
-        if runs::began_early(self.list, at) {
+        if runs::began_early(key) {
             return Err(Refusal::RunBeforeBuckets);
         }
-        match runs::run_of(self.list, at) {
+        match runs::run_of(key) {
             Some(run) => self.walk_run(run, from, taken),
-            None => Ok(Walked {
-                count: from.count,
-                passed: from.passed + 1,
-                left: 0,
-            }),
+            None => Ok(from.past_key()),
         }
     }
 
-    // Takes the buckets that are wanted from the runs, in their order. Refusals 2 and 3, the reader and the lent table show what is asked.
-    pub fn take_buckets(&self, runs: &[u32], taken: &mut [Bucket]) -> Result<Walked, Refusal>
-        requires { Checked self.now.list.now × KeysAt self.now.list.now runs.now (read_volume self.now.list.now).trees.freespace × (self.now.wanted ≤ length taken.old) }
-        ensures { WalkIs self.now.wanted (λ w. take w.passed (read_volume self.now.list.now).trees.freespace) (walk (is_in (read_volume self.now.list.now).reserved) (is_used (read_volume self.now.list.now).trees.alloc) self.now.wanted (runs_of (read_volume self.now.list.now).trees.freespace)) unwalked taken.old taken.new result }
+    // Takes the buckets that are wanted from the runs, in their order. Refusals 2, 22 and 3 and the lent table show what is asked, here and below.
+    pub fn take_buckets(&self, taken: &mut [Bucket]) -> Result<Walked, Refusal>
+        requires { RunsChecked (keys_listed self.now.read.now.freespace) × (self.now.wanted ≤ length taken.old) }
+        ensures { WalkIs self.now.wanted (λ w. take w.passed (keys_listed self.now.read.now.freespace)) (walk (is_in (buckets_listed self.now.read.now.reserved)) (is_used (keys_listed self.now.read.now.alloc)) self.now.wanted (runs_of (keys_listed self.now.read.now.freespace))) unwalked taken.old taken.new result }
     {
         let mut w = Walked {
             count: 0,
             passed: 0,
             left: 0,
         };
-        for at in runs {
+        for key in self.read.freespace.iter() {
             if w.count == self.wanted {
                 return Ok(w);
             }
-            w = self.walk_key(*at as usize, w, taken)?;
+            w = self.walk_key(key, w, taken)?;
         }
         Ok(w)
     }
 }
 
-// The walk, with its tables filled. Refusals 2 and 3, the reader and the lent table show what is asked.
-pub fn walk_runs(
-    s: &[u8],
-    alloc: &[u32],
-    runs: &[u32],
-    reserved: &[u32],
-    n: usize,
-    taken: &mut [Bucket],
-) -> Result<Walked, Refusal>
-    requires { Checked s.now × KeysAt s.now alloc.now (read_volume s.now).trees.alloc × KeysAt s.now runs.now (read_volume s.now).trees.freespace × BucketsAt s.now reserved.now (read_volume s.now).reserved × (n ≤ length taken.old) }
-    ensures { WalkIs n (λ w. take w.passed (read_volume s.now).trees.freespace) (walk (is_in (read_volume s.now).reserved) (is_used (read_volume s.now).trees.alloc) n (runs_of (read_volume s.now).trees.freespace)) unwalked taken.old taken.new result }
+// The walk, with its tables filled.
+pub fn walk_runs(read: &ReadList, n: usize, taken: &mut [Bucket]) -> Result<Walked, Refusal>
+    requires { AllocChecked (keys_listed read.now.alloc) × RunsChecked (keys_listed read.now.freespace) × ReservedChecked (buckets_listed read.now.reserved) × (n ≤ length taken.old) }
+    ensures { WalkIs n (λ w. take w.passed (keys_listed read.now.freespace)) (walk (is_in (buckets_listed read.now.reserved)) (is_used (keys_listed read.now.alloc)) n (runs_of (keys_listed read.now.freespace))) unwalked taken.old taken.new result }
 {
-    let reserved = BucketBits::of_reserved(s, reserved);
-    let used = BucketBits::of_used(s, alloc);
+    let reserved = BucketBits::of_reserved(read.reserved);
+    let used = BucketBits::of_used(read.alloc);
     let walker = Walker {
-        list: s,
+        read,
         reserved: &reserved,
         used: &used,
         wanted: n,
     };
-    walker.take_buckets(runs, taken)
+    walker.take_buckets(taken)
 }

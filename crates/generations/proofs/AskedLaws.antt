@@ -2,11 +2,16 @@
 use mathlib.Core.Path.{◌≡◌, refl, ap, sym, ◌∙◌}
 use mathlib.Core.Bool.{Bool, true, false, ◌&&◌, and-true, and-false}
 use mathlib.Core.List.{List, [], ◌∷◌}
-use Prim.Native.Nat.{ℕ, zero, suc, ◌≤◌, ◌<◌}
+use Prim.Native.Nat.{ℕ, zero, suc, ◌-◌, ◌≤◌, ◌<◌}
 use native.Mathlib.Omega.{arith}
 use lib.Dec.{ltb}
 use lib.ListN.{length, get_or}
 use borrow.Author.Tests.{lt-ltb, ltb-true, le-leb, lt-leb}
+use Rattle.std.specs.Prelude.{Option, None, Some, unwrap_or}
+use Rattle.std.specs.Borrow.{Bor}
+use Rattle.std.specs.Option.{option_copied, option_map}
+use Rattle.std.specs.List.{slice_get}
+use Rattle.std.proofs.lemmas.Option.{slice_get-get_or, slice_get_within}
 use Rattle.wire.specs.Kinds.{bucket_below, buckets_in, bucket_in_range, no_bucket}
 use Rattle.wire.specs.declared.kinds.Bucket.{Bucket}
 use Rattle.wire.proofs.BucketTables.{table-length, table_at}
@@ -50,3 +55,27 @@ module _ (ns : List ℕ) where
       sym (ap (λ (t : Bool). t && all_of bucket_in_range (buckets_in ns)) (le-leb (length (buckets_in ns)) 1024 (omega (arith, table-length ns)))
       ∙ last-range 0 (buckets_in ns) i (order-up (buckets_in ns) o) (omega (arith, table-length ns))
       ∙ ap bucket_in_range (table_at ns i))
+
+  -- the last, if there is one
+  abbrev last : ℕ
+  last = length ns - 1
+
+  none-last : None ≡ slice_get ns last → length ns ≡ 0
+  none-last e = go (length ns) refl
+    where
+      go : (n : ℕ) → length ns ≡ n → length ns ≡ 0
+      go zero f = f
+      go (suc n) f =
+          let g : ◌≡◌ {A = Option ℕ} None (Some (get_or ns last 0)) = e ∙ slice_get-get_or ns last 0 (omega arith) in
+          let w : ◌≡◌ {A = ℕ} 0 1 = ap (λ (o : Option ℕ). unwrap_or (option_map (λ x. 1) o) 0) g in
+          absurd (omega arith)
+
+  -- what is said of the last decides, where there is one
+  pub by-last :
+      (r : Option (Bor ℕ)) (b : Bool) → option_copied r ≡ slice_get ns last → in_order bucket_below (buckets_in ns) ≡ true → length ns ≤ 1024
+      → (r ≡ None → b ≡ true) → ((x : Bor ℕ) → r ≡ Some x → b ≡ ltb x.now 65536) → b ≡ buckets_within (buckets_in ns)
+  by-last None b e o l none some = none refl ∙ none-asked (none-last e)
+  by-last (Some x) b e o l none some =
+      let i = slice_get_within ns last x.now (sym e) in
+      let at : x.now ≡ get_or ns last 0 = ap (λ (o : Option ℕ). unwrap_or o 0) (e ∙ slice_get-get_or ns last 0 i) in
+      some x refl ∙ ap (λ (n : ℕ). ltb n 65536) at ∙ last-decides last o l (omega arith)

@@ -5,7 +5,7 @@ ghost use Rattle.calls.specs.Limits.{buckets_within};
 ghost use Rattle.calls.specs.Lists.{in_order};
 
 // How many may be asked for.
-const MOST: usize = 1024;
+const MOST_BUCKETS: usize = 1024;
 
 // Whether they ascend strictly.
 pub fn ascend(buckets: &[u32]) -> bool
@@ -19,11 +19,8 @@ pub fn within(buckets: &[u32]) -> bool
     requires { in_order bucket_below (buckets_in buckets.now) ≡ true }
     ensures { result ≡ buckets_within (buckets_in buckets.now) }
 {
-    if MOST < buckets.len() {
+    if MOST_BUCKETS < buckets.len() {
         return false;
     }
-    match buckets.last() {
-        Some(last) => *last < 65536,
-        None => true,
-    }
+    buckets.last().is_none_or(|last| *last < 65536)
 }

@@ -3,12 +3,11 @@ use mathlib.Core.Path.{◌≡◌, refl, ap, sym, ◌∙◌}
 use mathlib.Core.Bool.{Bool, true, false, cond, not, ◌&&◌}
 use mathlib.Core.List.{List, [], ◌∷◌}
 use mathlib.Core.Option.{none, some}
-use Rattle.std.proofs.Common.{Some, None}
 use Prim.Native.Nat.{ℕ, zero, suc, ◌+◌, ◌-◌, ◌≤◌, ◌<◌, Ordering}
 use native.Mathlib.Omega.{arith}
 use lib.Dec.{compare_is_eq, eqb}
-use lib.ListN.{length, get_or, take, drop, length-take}
-use lib.Seq.{get_or-take}
+use lib.ListN.{length, get_or, take, drop}
+use lib.Seq.{length-take-le, get_or-take}
 use Rattle.std.specs.List.{prefix_len}
 use Rattle.wire.specs.Keys.{Key}
 use Rattle.wire.specs.Order.{cmp, pos_less, pos_same}
@@ -23,11 +22,13 @@ use Rattle.calls.specs.JointLookup.{up_to_past}
 use Rattle.calls.proofs.lists.BoolLaws.{clash}
 use Rattle.calls.proofs.trees.SortedLaws.{Sorted, chain-weak, chain-sorted, lookup-chain, order-sorted}
 use Rattle.calls.proofs.trees.JointLookupLaws.{before-past}
-use Rattle.reader.specs.KeyHere.{Whole, key_here, keys_here}
-use Rattle.reader.specs.Located.{no_key, KeysAt}
-use Rattle.reader.proofs.SkipLaws.{walk-on, prefix-alike}
+use Rattle.reader.specs.ListedKeys.{key_listed, keys_listed, KeyOf}
+use Rattle.reader.specs.declared.key.ListedKey.{ListedKey}
+use Rattle.reader.specs.declared.listed_keys.Keys.{Keys}
+use Rattle.reader.specs.Located.{no_key}
+use Rattle.reader.proofs.ListedKeyLaws.{key-of}
+use Rattle.reader.proofs.SkipLaws.{walk-on}
 use Rattle.gens.specs.Joint.{keys_up_to}
-use Rattle.gens.specs.Records.{RecordIs}
 
 -- ---- how many keys are not past a position
 module _ (p : Bpos) (d : Key) where
@@ -51,19 +52,12 @@ module _ (p : Bpos) (d : Key) where
       go true h = refl
       go false h = omega (arith, h)
 
--- the key at a place is not past a position
-abbrev pub up_to : Bpos → List ℕ → ℕ → Bool
-up_to p s at = not (pos_less p (key_here s at).pos)
-
--- the walk over the places
-module _ {s places : List ℕ} {ks : List Key} (f : KeysAt s places ks) (p : Bpos) where
-  pub up-to-places : {known : ℕ} → known ≤ keys_up_to p ks → known ≤ length places
-  up-to-places h = omega (arith, up-to-within p no_key ks, f.count)
-
-  pub up-to-walked : {known r : ℕ} → known ≤ keys_up_to p ks → r ≡ known + prefix_len (up_to p s) (drop known places) → r ≡ keys_up_to p ks
-  up-to-walked {known = known} h e =
-      let same = prefix-alike (up_to p s) (λ k. not (pos_less p k.pos)) 0 no_key places ks f.count (λ i l. ap (λ (k : Key). not (pos_less p k.pos)) (f.at i l).is) ∙ up-to-prefix p no_key ks in
-      e ∙ walk-on (up_to p s) places known (omega (arith, same, h)) ∙ same
+-- the walk along them
+pub up-to-walked :
+    (p : Bpos) (ks : List Key) {known r : ℕ} → known ≤ keys_up_to p ks → r ≡ known + prefix_len (λ k. not (pos_less p k.pos)) (drop known ks) → r ≡ keys_up_to p ks
+up-to-walked p ks {known} h e =
+    let same = up-to-prefix p no_key ks in
+    e ∙ walk-on (λ k. not (pos_less p k.pos)) ks known (omega (arith, same, h)) ∙ same
 
 -- a later position has no fewer up to it
 pub up-to-later : (p q : Bpos) → pos_less q p ≡ false → (ks : List Key) → keys_up_to p ks ≤ keys_up_to q ks
@@ -148,60 +142,50 @@ module _ (p : Bpos) (d : Key) where
       go false z ih = rest n (omega arith) ih
 
 -- ---- a bucket's record, by the last of the keys up to it
-module _ (s places : List ℕ) (f : KeysAt s places (keys_here s places)) (a : keys_ascend (keys_here s places) ≡ true) (b : Bucket) where
-  abbrev ks : List Key
-  ks = keys_here s places
+module _ (ks : List Key) (a : keys_ascend ks ≡ true) (b : Bucket) {k : ℕ} (e : k ≡ keys_up_to (gens_at b) ks) where
+  -- no key stands up to it
+  pub no_record_lem : k ≡ 0 → none ≡ gen_record ks b
+  unfolding gen_record
+  no_record_lem n =
+      let z : keys_up_to (gens_at b) ks ≡ 0 = omega arith in
+      rw (lookup-none (gens_at b) no_key ks (order-sorted ks a) z)
 
-  module _ (k : ℕ) (e : k ≡ keys_up_to (gens_at b) ks) where
-    pub last-within : k ≤ length places
-    last-within = up-to-places f (gens_at b) (omega arith)
+  -- the last of those up to it
+  module _ (some-up-to : 0 < k) (x : Key) (x-is : x ≡ get_or ks (k - 1) no_key) where
+    found-there : lookup (gens_at b) ks ≡ on_eq (cmp (gens_at b) x.pos) (some x) none
+    found-there =
+        let one-before : keys_up_to (gens_at b) ks ≡ suc (k - 1) = omega arith in
+        lookup-last (gens_at b) no_key ks (k - 1) (order-sorted ks a) one-before
+        ∙ ap (λ (x : Key). on_eq (cmp (gens_at b) x.pos) (some x) none) (sym x-is)
 
-    -- no key stands up to it
-    pub no_record_lem : length (take k places) ≤ 0 → RecordIs s ks b None
-    unfolding gen_record
-    no_record_lem n =
-        let z : keys_up_to (gens_at b) ks ≡ 0 = omega (arith, last-within, simp (length-take) at n) in
-        record { stands = tt; is = rw (lookup-none (gens_at b) no_key ks (order-sorted ks a) z) }
+    -- whether it is the bucket's record
+    abbrev its : Bool
+    its = pos_same (gens_at b) x.pos && eqb x.type 30
 
-    -- the last of the places up to it
-    module _ (at : ℕ) (n : 0 < length (take k places)) (last : at ≡ get_or (take k places) (length (take k places) - 1) 0) where
-      some-up-to : 0 < k
-      some-up-to = omega (arith, simp (length-take) at n)
+    last-record : gen_record ks b ≡ cond its (some x) none
+    unfolding gen_record pos_same
+    last-record = rw found-there (go (cmp (gens_at b) x.pos))
+      where
+        go : (o : Ordering) → of_type30 (on_eq o (some x) none) ≡ cond (compare_is_eq o && eqb x.type 30) (some x) none
+        go Ordering.lt = refl
+        go Ordering.eq = refl
+        go Ordering.gt = refl
 
-      last-below : k - 1 < length places
-      last-below = omega (arith, last-within, some-up-to)
+    pub record-there : true ≡ its → some x ≡ gen_record ks b
+    record-there h = sym (last-record ∙ ap (λ (t : Bool). cond t (some x) none) (sym h))
 
-      last-is : at ≡ get_or places (k - 1) 0
-      last-is =
-          let q : length (take k places) ≡ k = omega (arith, length-take k places, last-within) in
-          last ∙ ap (λ (m : ℕ). get_or (take k places) (m - 1) 0) q ∙ get_or-take k places (k - 1) 0 (omega (arith, some-up-to))
+    pub record_missing : false ≡ its → none ≡ gen_record ks b
+    record_missing h = sym (last-record ∙ ap (λ (t : Bool). cond t (some x) none) (sym h))
 
-      pub stands-there : Whole s at
-      stands-there = rw last-is (f.at (k - 1) last-below).whole
-
-      found-there : lookup (gens_at b) ks ≡ on_eq (cmp (gens_at b) (key_here s at).pos) (some (key_here s at)) none
-      found-there =
-          let i = ap (key_here s) last-is ∙ (f.at (k - 1) last-below).is in
-          let one-before : keys_up_to (gens_at b) ks ≡ suc (k - 1) = omega (arith, some-up-to) in
-          lookup-last (gens_at b) no_key ks (k - 1) (order-sorted ks a) one-before
-          ∙ ap (λ (x : Key). on_eq (cmp (gens_at b) x.pos) (some x) none) (sym i)
-
-      -- whether the key there is the bucket's record
-      abbrev its : Bool
-      its = pos_same (gens_at b) (key_here s at).pos && eqb (key_here s at).type 30
-
-      last-record : gen_record ks b ≡ cond its (some (key_here s at)) none
-      unfolding gen_record pos_same
-      last-record = rw found-there (go (cmp (gens_at b) (key_here s at).pos))
-        where
-          go : (o : Ordering) → of_type30 (on_eq o (some (key_here s at)) none) ≡ cond (compare_is_eq o && eqb (key_here s at).type 30) (some (key_here s at)) none
-          go Ordering.lt = refl
-          go Ordering.eq = refl
-          go Ordering.gt = refl
-
-      pub record-there : true ≡ its → RecordIs s ks b (Some at)
-      record-there h =
-          record { stands = stands-there; is = sym (last-record ∙ ap (λ (t : Bool). cond t (some (key_here s at)) none) (sym h)) }
-
-      pub record_missing : false ≡ its → RecordIs s ks b None
-      record_missing h = record { stands = tt; is = sym (last-record ∙ ap (λ (t : Bool). cond t (some (key_here s at)) none) (sym h)) }
+-- the last of the first k keys
+pub last-key :
+    (gens : Keys) {part : Keys} {k : ℕ} {x : ListedKey} → k ≤ length gens.places.now → (part.list.now ≡ gens.list.now) × (part.places.now ≡ take k gens.places.now)
+    → (0 < length part.places.now) × KeyOf part (length part.places.now - 1) x
+    → (0 < k) × (key_listed x ≡ get_or (keys_listed gens) (k - 1) no_key)
+last-key gens {part} {k} {x} h p q =
+    let ps = gens.places.now in
+    let n : length part.places.now ≡ k = ap length p.1 ∙ length-take-le k ps h in
+    let l : 0 < k = omega (arith, n, q.0) in
+    let at : x.at ≡ get_or ps (k - 1) 0 =
+    q.1.at ∙ ap (λ (m : ℕ). get_or part.places.now (m - 1) 0) n ∙ ap (λ (os : List ℕ). get_or os (k - 1) 0) p.1 ∙ get_or-take k ps (k - 1) 0 (omega arith) in
+    (l, key-of {ks = gens} {i = k - 1} {k = x} (omega arith) (record { list = q.1.list ∙ p.0; at = at }))

@@ -7,8 +7,8 @@ use Prim.Native.Nat.{ℕ, ◌/◌, ◌<◌, Ordering}
 use native.Mathlib.Omega.{arith}
 use lib.Dec.{ltb, eqb}
 use lib.ListN.{length, get_or, set, replicate, length-set, length-replicate, get_or-replicate}
-use lib.Seq.{get_or-set_same, get_or-set_other, get_or-append_seam}
-use Rattle.std.proofs.Common.{◌++◌, append_assoc, length-append}
+use lib.Seq.{get_or-set_same, get_or-set_other}
+use Rattle.std.proofs.Common.{◌++◌, append_assoc}
 use Rattle.std.specs.List.{push}
 use borrow.Author.Tests.{eqb-true, eqb-false, ne_eqb, ltb-true, ltb-false}
 use Rattle.wire.specs.Keys.{Key}
@@ -20,10 +20,8 @@ use Rattle.wire.proofs.OrderLaws.{pos-cmp, mk-eq}
 use Rattle.calls.specs.Trees.{on_eq, lookup}
 use Rattle.calls.specs.Generations.{of_type30, gen_record}
 use Rattle.reader.specs.KeyHere.{key_here, Whole}
-use Rattle.reader.specs.Located.{KeysAt}
-use Rattle.reader.proofs.KeyHereLaws.{whole-at}
 use Rattle.wire.specs.Kinds.{bucket_in_range}
-use Rattle.gens.specs.Records.{record_noted, record_at, record_place, RecordStands, RecordsFound}
+use Rattle.gens.specs.Records.{record_noted, record_at, record_place, RecordsFound}
 
 -- no key yet
 pub noting-start : (s table : List ℕ) → table ≡ replicate 256 0 → RecordsFound s [] table
@@ -31,7 +29,7 @@ unfolding gen_record lookup
 noting-start s table e =
     let z : (o : ℕ) → o < 256 → get_or table o 0 ≡ 0 = λ o h. ap (λ (t : List ℕ). get_or t o 0) e ∙ get_or-replicate {A = ℕ} 256 o 0 0 h in
     record {
-      stand = record { count = ap length e ∙ length-replicate {A = ℕ} 256 0; whole = λ o h. rw (z o h) tt };
+      stand = record { count = ap length e ∙ length-replicate {A = ℕ} 256 0; whole = λ o h l. absurd (omega (arith, l, z o h)) };
       is = λ b h. ap (λ (n : ℕ). record_at s (record_place n)) (z (b.0 / 256) (omega (arith, ltb-true b.0 65536 h)));
     }
 
@@ -70,12 +68,12 @@ module _ (s : List ℕ) (at : ℕ) (w : Whole s at) (ks : List Key) (table : Lis
       go true = rw (ne_eqb at 0 (λ z. omega (arith, w.after)))
       go false = refl
 
-  entry_whole : RecordStands s (record_place entry)
+  entry_whole : 0 < entry → Whole s entry
   entry_whole = go (eqb k.type 30)
     where
-      go : (t : Bool) → RecordStands s (record_place (cond t at 0))
-      go true = rw (ne_eqb at 0 (λ z. omega (arith, w.after))) w
-      go false = tt
+      go : (t : Bool) → 0 < cond t at 0 → Whole s (cond t at 0)
+      go true l = w
+      go false l = absurd (omega arith)
 
   kept : ((b : Bucket) → bucket_in_range b ≡ true → cmp (gens_at b) k.pos ≡ Ordering.eq → ⊥) → RecordsFound s (k ∷ ks) table
   kept h =
@@ -99,7 +97,7 @@ module _ (s : List ℕ) (at : ℕ) (w : Whole s at) (ks : List Key) (table : Lis
       same = get_or-set_same table k.pos.offset entry 0 inside
 
       at-index : (j : ℕ) → j < 256 → (t : Bool) → eqb j k.pos.offset ≡ t
-          → RecordStands s (record_place (get_or (set table k.pos.offset entry) j 0))
+          → 0 < get_or (set table k.pos.offset entry) j 0 → Whole s (get_or (set table k.pos.offset entry) j 0)
       at-index j h true e = rw (eqb-true j k.pos.offset e, same) entry_whole
       at-index j h false e =
           rw (get_or-set_other table k.pos.offset j entry 0 (eqb-false j k.pos.offset e)) (n.stand.whole j h)
@@ -130,9 +128,3 @@ module _ (s : List ℕ) (at : ℕ) (w : Whole s at) (ks : List Key) (table : Lis
 -- the last of the places that are left
 pub last-left : (left noted : List ℕ) (at : ℕ) {rest places : List ℕ} → rest ≡ push left at → rest ++ noted ≡ places → left ++ (at ∷ noted) ≡ places
 last-left left noted at e h = sym (append_assoc left (at ∷ []) noted) ∙ ap (λ (r : List ℕ). r ++ noted) (sym e) ∙ h
-
-pub last-whole : (left noted : List ℕ) (at : ℕ) {s places : List ℕ} {ks : List Key} → KeysAt s places ks → left ++ (at ∷ noted) ≡ places → Whole s at
-last-whole left noted at {s} {places} f h =
-    let n : length left < length places = omega (arith, length-append left (at ∷ noted), ap length h) in
-    let e : get_or places (length left) 0 ≡ at = ap (λ (p : List ℕ). get_or p (length left) 0) (sym h) ∙ get_or-append_seam left at noted 0 in
-    rw e at (whole-at f (length left) n)

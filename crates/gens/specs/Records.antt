@@ -6,6 +6,8 @@ use Rattle.wire.specs.Kinds.{bucket_in_range}
 use Rattle.wire.specs.declared.kinds.Bucket.{Bucket}
 use Rattle.calls.specs.Generations.{gen_record}
 use Rattle.reader.specs.KeyHere.{key_here, Whole}
+use Rattle.reader.specs.ListedKeys.{key_listed}
+use Rattle.reader.specs.declared.key.ListedKey.{ListedKey}
 
 -- the table after the key at an offset: a record is noted, another key at a record's place takes it out
 unfoldable pub record_noted : ℕ → Key → List ℕ → List ℕ
@@ -22,6 +24,11 @@ abbrev pub record_at : List ℕ → Maybe ℕ → Option Key
 record_at s None = none
 record_at s (Some at) = some (key_here s at)
 
+-- the key that was found, or none
+abbrev pub record_listed : Maybe ListedKey → Option Key
+record_listed None = none
+record_listed (Some k) = some (key_listed k)
+
 -- where there is a place, a key stands there
 abbrev pub RecordStands : List ℕ → Maybe ℕ → Type 0
 RecordStands s None = Unit {0}
@@ -32,10 +39,10 @@ pub record RecordIs (s : List ℕ) (gens : List Key) (b : Bucket) (at : Maybe �
   pub stands : RecordStands s at
   pub is : record_at s at ≡ gen_record gens b
 
--- each entry of a table stands for a key, or for none
+-- each entry of a table is the place of a whole key, or 0
 pub record RecordsStand (s table : List ℕ) : Type 0 where
   pub count : length table ≡ 256
-  pub whole : (o : ℕ) → o < 256 → RecordStands s (record_place (get_or table o 0))
+  pub whole : (o : ℕ) → o < 256 → 0 < get_or table o 0 → Whole s (get_or table o 0)
 
 -- the place of a bucket's record
 abbrev pub record_entry : List ℕ → Bucket → Maybe ℕ

@@ -6,14 +6,14 @@ ghost use Rattle.wire.specs.declared.kinds.Bucket.{Bucket};
 ghost use Rattle.wire.specs.Positions.{gens_at};
 ghost use Rattle.calls.specs.CallList.{keys_ascend};
 ghost use Rattle.calls.specs.Lists.{in_order};
-ghost use Rattle.reader.specs.KeyHere.{key_here, keys_here, Whole};
-ghost use Rattle.reader.specs.Located.{KeysAt};
+ghost use Rattle.calls.specs.Generations.{gen_record};
+ghost use Rattle.reader.specs.ListedKeys.{key_listed, keys_listed};
 ghost use Rattle.gens.specs.Joint.{keys_up_to, Looked, each_named, each_itself};
-ghost use Rattle.gens.specs.Records.{RecordIs};
+ghost use Rattle.gens.specs.Records.{record_listed};
 
-use crate::lookup;
-use reader::{key, skip};
-use wire::key_types::KeyType;
+use crate::{lookup, records};
+use reader::key::ListedKey;
+use reader::listed_keys::Keys;
 use wire::kinds::Bucket;
 use wire::{bpos, positions};
 
@@ -54,49 +54,52 @@ impl BucketNumber for Bucket {
     }
 }
 
-// How many keys stand up to a bucket's record, where so many are known to. The reader shows where the keys stand, here and below.
-fn keys_up_to(s: &[u8], gens: &[u32], known: usize, b: Bucket) -> usize
-    requires { KeysAt s.now gens.now (keys_here s.now gens.now) × (known ≤ keys_up_to (gens_at b) (keys_here s.now gens.now)) }
-    ensures { result ≡ keys_up_to (gens_at b) (keys_here s.now gens.now) }
+// How many keys stand up to a bucket's record, where so many are known to.
+fn keys_up_to(gens: Keys, known: usize, b: Bucket) -> usize
+    requires { known ≤ keys_up_to (gens_at b) (keys_listed gens) }
+    ensures { result ≡ keys_up_to (gens_at b) (keys_listed gens.entry) }
 {
     let p = positions::gens_at(b);
-    let is_up_to = |at: u32| !bpos::pos_less(p, key::pos_at(s, at as usize));
-    skip::skip_while(gens, known, is_up_to)
+    gens.skip_while(known, |key| !bpos::pos_less(p, key.pos()))
 }
 
-// Whether the key at a place is a bucket's record.
-fn is_record(s: &[u8], at: usize, b: Bucket) -> bool
-    requires { Whole s.now at }
-    ensures { result ≡ (pos_same (gens_at b) (key_here s.now at).pos && eqb (key_here s.now at).type 30) }
+// Whether a key is a bucket's record.
+fn is_record_of(key: ListedKey, b: Bucket) -> bool
+    ensures { result ≡ (pos_same (gens_at b) (key_listed key.entry).pos && eqb (key_listed key.entry).type 30) }
 {
-    bpos::pos_same(positions::gens_at(b), key::pos_at(s, at))
-        && key::type_at(s, at) == KeyType::BucketGens.number()
+    bpos::pos_same(positions::gens_at(b), key.pos()) && records::is_record(key)
 }
 
-// The place of a bucket's record, which is the last of the keys up to it, if there is one. Refusal 22 shows that keys ascend, here and below.
-fn record_up_to(s: &[u8], gens: &[u32], k: usize, b: Bucket) -> Option<usize>
-    requires { KeysAt s.now gens.now (keys_here s.now gens.now) × (keys_ascend (keys_here s.now gens.now) ≡ true) × (k ≡ keys_up_to (gens_at b) (keys_here s.now gens.now)) }
-    ensures { RecordIs s.now (keys_here s.now gens.now) b result }
+// A bucket's record, which is the last of the keys up to it, if there is one. Refusal 22 shows that keys ascend, here and below.
+fn record_up_to(gens: Keys, k: usize, b: Bucket) -> Option<ListedKey>
+    requires { (keys_ascend (keys_listed gens) ≡ true) × (k ≡ keys_up_to (gens_at b) (keys_listed gens)) }
+    ensures { record_listed result ≡ gen_record (keys_listed gens.entry) b }
 {
-    let at = *gens[..k].last()? as usize;
-    if is_record(s, at, b) { Some(at) } else { None }
+    let key = gens.up_to(k).last()?;
+    if is_record_of(key, b) {
+        Some(key)
+    } else {
+        None
+    }
 }
 
 // Fills in the generation of each bucket, and tells how many keys are visited: up to and with the first past the last bucket's record.
-pub fn bucket_gens<N: BucketNumber>(out: &mut [u8], s: &[u8], gens: &[u32], buckets: &[N]) -> usize
-    requires keys_at { KeysAt s.now gens.now (keys_here s.now gens.now) × (keys_ascend (keys_here s.now gens.now) ≡ true) }
+pub fn bucket_gens<N: BucketNumber>(out: &mut [u8], gens: Keys, buckets: &[N]) -> usize
+    requires keys_value { keys_ascend (keys_listed gens) ≡ true }
     requires buckets_value { (in_order bucket_below (N.buckets_in buckets.now) ≡ true) × (length buckets.now ≤ length out.old) }
-    ensures { Looked (keys_here s.now gens.now) (N.buckets_in buckets.now) out.old out.new result }
+    ensures { Looked (keys_listed gens.entry) (N.buckets_in buckets.now) out.old out.new result }
 {
     let mut k: usize = 0;
     // By index: nothing is known of what a slice holds after `iter_mut().zip(..)`.
     for (i, n) in buckets.iter().enumerate() {
         let b = n.bucket();
-        k = keys_up_to(s, gens, k, b);
-        out[i] = lookup::record_gen(s, record_up_to(s, gens, k, b), b);
+        k = keys_up_to(gens, k, b);
+        out[i] = lookup::record_gen(record_up_to(gens, k, b), b);
     }
+    // A case of its own, as in FORMAT.md: for no buckets no key is visited, not even the first.
     if buckets.is_empty() {
-        return 0;
+        0
+    } else {
+        gens.len().min(k + 1)
     }
-    gens.len().min(k + 1)
 }

@@ -4,10 +4,12 @@ ghost use Rattle.wire.specs.Keys.{Key};
 ghost use Rattle.wire.specs.Kinds.{bucket_in_range};
 ghost use Rattle.calls.specs.Generations.{found_in, or_zero, gen_lookup, gen_of, gen_short};
 ghost use Rattle.gens.specs.Lookups.{lookup_is};
-ghost use Rattle.gens.specs.Records.{record_at, RecordStands, Recorded, RecordsFound};
+ghost use Rattle.gens.specs.Records.{record_at, record_listed, RecordStands, Recorded, RecordsFound};
 
 use crate::records;
+use crate::records::Records;
 use reader::key;
+use reader::key::ListedKey;
 use wire::kinds::Bucket;
 use wire::{le, positions};
 
@@ -20,7 +22,7 @@ pub enum NoGeneration {
     TooShort,
 }
 
-// Looks a bucket up in the record at a place, if there is one. Whoever finds the place shows that a record stands there, as for `record_gen`.
+// Looks a bucket up in the record at a place, if there is one. Whoever finds the place shows that a record stands there, here and below.
 #[tactic(auto, unfolding(format::specs::Gens::gen_in))]
 fn gen_at(s: &[u8], place: Option<usize>, b: Bucket) -> Result<u8, NoGeneration>
     requires { RecordStands s.now place }
@@ -32,14 +34,6 @@ fn gen_at(s: &[u8], place: Option<usize>, b: Bucket) -> Result<u8, NoGeneration>
         return Err(NoGeneration::TooShort);
     }
     Ok(le::le8(s, key::value_at(s, at) + i))
-}
-
-// The generation of a bucket in the record at a place, and 0 where none is found.
-pub fn record_gen(s: &[u8], place: Option<usize>, b: Bucket) -> u8
-    requires { RecordStands s.now place }
-    ensures { result ≡ or_zero (found_in b (record_at s.now place)) }
-{
-    gen_at(s, place, b).unwrap_or(0)
 }
 
 // Looks a bucket up. `find_records` makes the table, and the limits show the bound, here and below.
@@ -66,4 +60,52 @@ pub fn gen_short(s: &[u8], table: &[u32], b: Bucket) -> bool
     ensures { (gens : List Key) → RecordsFound s.now gens table.now → result ≡ gen_short gens b }
 {
     matches!(find_gen(s, table, b), Err(NoGeneration::TooShort))
+}
+
+// Looks a bucket up in its record, if there is one.
+#[tactic(auto, unfolding(format::specs::Gens::gen_in))]
+fn gen_in(found: Option<ListedKey>, b: Bucket) -> Result<u8, NoGeneration>
+    ensures { lookup_is result ≡ found_in b (record_listed found.entry) }
+{
+    let key = found.ok_or(NoGeneration::NoRecord)?;
+    let i = positions::gens_byte(b);
+    key.value().get(i).copied().ok_or(NoGeneration::TooShort)
+}
+
+// The generation of a bucket in its record, and 0 where none is found.
+pub fn record_gen(found: Option<ListedKey>, b: Bucket) -> u8
+    ensures { result ≡ or_zero (found_in b (record_listed found.entry)) }
+{
+    gen_in(found, b).unwrap_or(0)
+}
+
+impl<'a> Records<'a> {
+    ghost use Rattle.reader.specs.ListedKeys.{keys_listed};
+
+    // Looks a bucket up. The limits show the bound, here and below.
+    #[tactic(auto, unfolding(calls::specs::Generations::gen_lookup))]
+    pub fn find_gen(&self, b: Bucket) -> Result<u8, NoGeneration>
+        requires { bucket_in_range b ≡ true }
+        ensures { lookup_is result ≡ gen_lookup (keys_listed self.now.gens) b }
+    {
+        gen_in(self.record_of(b), b)
+    }
+
+    // Its generation, and 0 where none is found.
+    #[tactic(auto, unfolding(calls::specs::Generations::gen_of))]
+    pub fn bucket_gen(&self, b: Bucket) -> u8
+        requires { bucket_in_range b ≡ true }
+        ensures { result ≡ gen_of (keys_listed self.now.gens) b }
+    {
+        self.find_gen(b).unwrap_or(0)
+    }
+
+    // Whether its record is too short.
+    #[tactic(auto, unfolding(calls::specs::Generations::gen_short))]
+    pub fn gen_short(&self, b: Bucket) -> bool
+        requires { bucket_in_range b ≡ true }
+        ensures { result ≡ gen_short (keys_listed self.now.gens) b }
+    {
+        matches!(self.find_gen(b), Err(NoGeneration::TooShort))
+    }
 }

@@ -1,36 +1,66 @@
 // The generation records: a table of where each stands.
-ghost use Rattle.std.specs.Prelude.{◌≡◌, true, ◌/◌, ◌<◌, length, replicate};
+ghost use Rattle.std.specs.Prelude.{◌≡◌, true, ◌/◌, ◌<◌, eqb, length, replicate};
 ghost use Rattle.wire.specs.Kinds.{bucket_in_range};
-ghost use Rattle.reader.specs.KeyHere.{Whole, key_here, keys_here};
+ghost use Rattle.reader.specs.KeyHere.{keys_here};
+ghost use Rattle.reader.specs.ListedKeys.{key_listed};
 ghost use Rattle.reader.specs.Located.{KeysAt};
 ghost use Rattle.gens.specs.Records.{record_noted, record_entry, RecordsFound};
 
-use reader::key;
+use reader::key::ListedKey;
+use reader::listed_keys::Keys;
 use wire::key_types::KeyType;
 use wire::kinds::Bucket;
 
-// Notes the offset of a key, if it is a record; another key at a record's place takes out what was noted. The reader shows that a key stands there.
-#[tactic(auto, unfolding(crate::specs::Records::record_noted))]
-fn note_record(s: &[u8], at: u32, table: &mut [u32; 256])
-    requires { Whole s.now at }
-    ensures { table.new ≡ record_noted at (key_here s.now at) table.old }
+// The keys of tree 14, and a table of the records among them: entry o is the place of that at inode 0, offset o, or 0: a place in four bytes, where an Option would
+// take eight.
+#[derive(Drop)]
+pub struct Records<'a> {
+    pub gens: Keys<'a>,
+    pub table: [u32; 256],
+    pub ghost found: { RecordsFound gens.list.now (keys_here gens.list.now gens.places.now) table },
+}
+
+// Whether a key has the type of a record.
+pub fn is_record(key: ListedKey) -> bool
+    ensures { result ≡ eqb (key_listed key.entry).type 30 }
 {
-    let p = key::pos_at(s, at as usize);
+    key.key_type() == KeyType::BucketGens.number()
+}
+
+// Notes the place of a key, if it is a record; another key at a record's place takes out what was noted.
+#[tactic(auto, unfolding(crate::specs::Records::record_noted))]
+fn note_record(key: ListedKey, table: &mut [u32; 256])
+    ensures { table.new ≡ record_noted key.entry.at (key_listed key.entry) table.old }
+{
+    let p = key.pos();
     if p.inode != 0 || p.snapshot != 0 || 256 <= p.offset {
         return;
     }
-    let is_record = key::type_at(s, at as usize) == KeyType::BucketGens.number();
-    table[p.offset as usize] = if is_record { at } else { 0 };
+    table[p.offset as usize] = if is_record(key) { key.at } else { 0 };
 }
 
-// Fills a table of zeros: entry o is the offset of the record at inode 0, offset o, or 0: an offset in four bytes, where an Option would take eight. The reader shows where the keys stand.
+// Fills a table of zeros.
+fn fill_table(gens: Keys, table: &mut [u32; 256])
+    requires { table.old ≡ replicate 256 0 }
+    ensures { RecordsFound gens.entry.list.now (keys_here gens.entry.list.now gens.entry.places.now) table.new }
+{
+    for key in gens.iter().rev() {
+        note_record(key, table);
+    }
+}
+
+// Fills a table of zeros with the records among the keys at some places. The reader shows where the keys stand.
 pub fn find_records(s: &[u8], gens: &[u32], table: &mut [u32; 256])
     requires { KeysAt s.now gens.now (keys_here s.now gens.now) × (table.old ≡ replicate 256 0) }
     ensures { RecordsFound s.now (keys_here s.now gens.now) table.new }
 {
-    for at in gens.iter().rev() {
-        note_record(s, *at, table);
-    }
+    fill_table(
+        Keys {
+            list: s,
+            places: gens,
+        },
+        table,
+    );
 }
 
 // The place of a bucket's record, as the table has it. `find_records` makes the table, and the limits show the bound.
@@ -41,5 +71,34 @@ pub fn record_of(table: &[u32], b: Bucket) -> Option<usize>
     match table[(b.0 / 256) as usize] {
         0 => None,
         at => Some(at as usize),
+    }
+}
+
+impl<'a> Records<'a> {
+    ghost use Rattle.calls.specs.Generations.{gen_record};
+    ghost use Rattle.reader.specs.ListedKeys.{keys_listed};
+    ghost use Rattle.gens.specs.Records.{record_listed};
+
+    // The records among the keys of tree 14.
+    pub fn of(gens: Keys<'a>) -> Records<'a>
+        ensures { result.gens ≡ gens.entry }
+    {
+        let mut table = [0u32; 256];
+        fill_table(gens, &mut table);
+        Records { gens, table }
+    }
+
+    // A bucket's record, if there is one. The limits show the bound.
+    pub fn record_of(&self, b: Bucket) -> Option<ListedKey<'a>>
+        requires { bucket_in_range b ≡ true }
+        ensures { record_listed result ≡ gen_record (keys_listed self.now.gens) b }
+    {
+        match self.table[(b.0 / 256) as usize] {
+            0 => None,
+            at => Some(ListedKey {
+                list: self.gens.list,
+                at,
+            }),
+        }
     }
 }

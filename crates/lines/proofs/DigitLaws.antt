@@ -10,6 +10,7 @@ use lib.Seq.{take_all}
 use Rattle.calls.proofs.lists.MapLaws.{drop-set}
 use borrow.Author.Tests.{lt-ltb, le-ltb}
 use Rattle.calls.proofs.lists.BoolLaws.{cond-most}
+use Rattle.std.specs.Prelude.{Option, Some, None, IfNone, IfSome, unwrap_or}
 use Rattle.lines.specs.Digits.{digit, last_digits, width, decimal, signed}
 
 -- digits that are stored from the last on: from index `from` on they stand, and `rest` has those before
@@ -58,7 +59,7 @@ filled {base} {n} {text} {from} f count h l =
     take_all (20 - (20 - count)) (drop (20 - count) text) (omega (arith, length-drop (20 - count) text, f.size)) ∙ d
 
 -- how many digits a number has, by its powers of ten
-pub width-is : (k j n : ℕ) → j ≤ k → 10 ^ j ≤ n → n < 10 * 10 ^ j → width k n ≡ j + 1
+width-is : (k j n : ℕ) → j ≤ k → 10 ^ j ≤ n → n < 10 * 10 ^ j → width k n ≡ j + 1
 unfolding width
 width-is zero zero n h l u = refl
 width-is zero (suc j) n h l u = absurd (omega arith)
@@ -69,10 +70,16 @@ width-is (suc k) (suc j) n h l u =
     rw (le-ltb n 10 (omega arith)) (omega (arith, width-is k j (n / 10) (omega arith) (omega arith) (omega arith)))
 
 -- 0 has one
-pub width-zero : (k : ℕ) → width k 0 ≡ 1
+width-zero : (k : ℕ) → width k 0 ≡ 1
 unfolding width
 width-zero zero = refl
 width-zero (suc k) = refl
+
+-- the same by the greatest power of ten in a number, which 0 has none of
+pub width-by : (n : ℕ) (r : Option ℕ) → IfNone r (n ≡ 0) → IfSome r (λ k. 10 ^ k ≤ n) → IfSome r (λ k. n < 10 * 10 ^ k) → IfSome r (λ k. k < 20)
+    → unwrap_or r 0 + 1 ≡ width 19 n
+width-by n None z l u b = rw z (sym (width-zero 19))
+width-by n (Some k) z l u b = sym (width-is 19 k n (omega arith) l u)
 
 pub width-most : (k n : ℕ) → width k n ≤ k + 1
 unfolding width

@@ -1,4 +1,4 @@
-// Numbers as text.
+// Numbers as text. Not by `write!`: a `fmt` ensures nothing that a proof can use, so that the bytes would be unknown.
 ghost use Rattle.std.specs.Prelude.{◌≡◌, ◌<◌, ◌≤◌};
 ghost use Rattle.wire.specs.Output.{with_bytes};
 ghost use Rattle.lines.specs.Digits.{digit, last_digits, width, decimal, signed, hexadecimal};
@@ -36,10 +36,7 @@ fn put_digits(out: &mut Output, base: u64, count: usize, n: u64)
 fn width_of(n: u64) -> usize
     ensures { result ≡ width 19 n }
 {
-    match n.checked_ilog10() {
-        Some(k) => k as usize + 1,
-        None => 1,
-    }
+    n.checked_ilog10().unwrap_or(0) as usize + 1
 }
 
 // A number in decimal.

@@ -1,83 +1,94 @@
--- Which alloc keys are discarded: each test of a key, and the offsets of those that pass.
+-- Which alloc keys are discarded: those that pass, with their places in the front of a table.
 use Prim.Native.Nat.{ℕ, ◌+◌, ◌≤◌, ◌<◌}
-use mathlib.Core.Path.{◌≡◌, refl, sym, ap, ◌∙◌}
+use mathlib.Core.Path.{◌≡◌, refl, sym, ap, ◌∙◌, subst}
 use mathlib.Core.Bool.{true, false, ◌&&◌}
-use mathlib.Core.List.{List, [], ◌∷◌, ◌++◌, append-nil}
+use mathlib.Core.List.{List, [], ◌∷◌, ◌++◌, append-nil, map-append}
 use native.Mathlib.Omega.{arith}
 use native.Mathlib.Numerals.{add-one}
-use lib.Dec.{leb, ltb, eqb}
-use lib.ListN.{length, get_or, set, take, drop, drop_of_length-le}
-use lib.Seq.{take-suc-set, drop-cons, append_snoc}
+use lib.Dec.{leb, eqb}
+use lib.ListN.{length, set, take, length-set}
+use lib.Seq.{take-suc-set, append_snoc}
 use borrow.Author.Tests.{eqb-true, leb-true}
-use Rattle.wire.specs.Bytes.{All}
-use Rattle.format.specs.Packing.{get}
-use Rattle.format.specs.AllocV4.{gen, data_type}
+use Rattle.wire.specs.Bytes.{All, none, more}
+use Rattle.wire.specs.Keys.{Key}
 use Rattle.calls.specs.Lists.{those}
 use Rattle.calls.specs.Limits.{at_inode0}
-use Rattle.calls.specs.Discard.{gen_taken, is_discarded}
+use Rattle.calls.specs.Discard.{is_discarded}
 use Rattle.calls.proofs.lists.BoolLaws.{parts}
-use Rattle.calls.proofs.lists.AllLaws.{all-imp, all-chosen}
+use Rattle.calls.proofs.lists.AllLaws.{first, all_tail, all-nth, all-imp, all-chosen}
+use Rattle.wire.proofs.NumberLaws.{all_append}
 use Rattle.calls.proofs.lists.ThoseLaws.{those-length}
-use Rattle.reader.specs.KeyHere.{value_at, key_here, Whole}
-use Rattle.reader.proofs.KeyHereLaws.{value-within, member-here}
+use Rattle.reader.specs.KeyHere.{key_here, keys_here, Whole, WholeKeys}
 use Rattle.need_discard.specs.Kept.{AllocKept, DiscardedKept}
-use Rattle.need_discard.specs.Chosen.{is_discarded_at, discarded_from}
+use Rattle.need_discard.specs.Chosen.{need_trees, discarded_from}
 
--- a value that is long enough, read at its place
-pub value_ends : (s : List ℕ) (o : ℕ) → Whole s o → 56 ≤ length (key_here s o).value → value_at o + 56 ≤ length s
-value_ends s o h l = omega (arith, value-within s o h)
+-- the walk on its way: the first places of the room are those of keys that are discarded, and those that are left to be looked at tell the rest
+pub record Choosing (s : List ℕ) (needs all left : List Key) (room : List ℕ) (n : ℕ) : Type 0 where
+  pub fits : n + length left ≤ length room
+  pub whole : All (Whole s) (take n room)
+  pub chosen : keys_here s (take n room) ++ discarded_from needs left ≡ discarded_from needs all
+  pub kept : All AllocKept left
 
-pub type_there : (s : List ℕ) (o : ℕ) → Whole s o → 56 ≤ length (key_here s o).value → get data_type (drop (value_at o) s) ≡ get data_type (key_here s o).value
-type_there s o h l = sym (member-here s o h data_type (omega arith))
+pub choosing-start : (s : List ℕ) (needs : List Key) {room : List ℕ} {ks : List Key} → All AllocKept ks → length ks ≤ length room → Choosing s needs ks ks room 0
+choosing-start s needs a l = record { fits = omega (arith, l); whole = none; chosen = refl; kept = a }
 
-pub gen_there : (s : List ℕ) (o : ℕ) → Whole s o → 56 ≤ length (key_here s o).value → gen_taken (drop (value_at o) s) ≡ gen_taken (key_here s o).value
-unfolding gen_taken
-gen_there s o h l = sym (ap (λ (x : ℕ). ltb x 16) (member-here s o h gen (omega arith)))
+-- the next key, whose body starts at a place
+module _ {s : List ℕ} {needs all left rest : List Key} {k : Key} {room : List ℕ} {n : ℕ} (e : left ≡ k ∷ rest) (c : Choosing s needs all left room n) where
+  kept_here : All AllocKept (k ∷ rest)
+  kept_here = subst (All AllocKept) e c.kept
 
--- the key at place i, beside the n that are chosen so far and what is chosen of the rest
-module _ (s needs alloc chosen : List ℕ) (n i : ℕ) (h : i < length alloc) {all : List ℕ}
-    (e : take n chosen ++ discarded_from s needs (drop i alloc) ≡ all) where
-  abbrev here : ℕ
-  here = get_or alloc i 0
+  pub next-kept : AllocKept k
+  next-kept = first kept_here
 
-  split : drop i alloc ≡ here ∷ drop (i + 1) alloc
-  split = rw add-one (drop-cons alloc i 0 h)
+  pub next-fits : n < length room
+  next-fits = omega (arith, c.fits, ap length e)
 
-  pub chosen-more : n < length chosen → is_discarded_at s needs here ≡ true
-      → take (n + 1) (set chosen n here) ++ discarded_from s needs (drop (i + 1) alloc) ≡ all
+  pub choosing-more : (at : ℕ) → Whole s at → key_here s at ≡ k → is_discarded (need_trees needs) k ≡ true → Choosing s needs all rest (set room n at) (n + 1)
   unfolding those
-  chosen-more m t =
-      let front : take (n + 1) (set chosen n here) ≡ take n chosen ++ here ∷ [] = rw add-one (take-suc-set chosen n here m) in
-      ap (λ (l : List ℕ). l ++ discarded_from s needs (drop (i + 1) alloc)) front
-      ∙ append_snoc (take n chosen) here (discarded_from s needs (drop (i + 1) alloc))
-      ∙ ap (λ (l : List ℕ). take n chosen ++ l) (sym (rw (split, t) refl)) ∙ e
+  choosing-more at w h t =
+      let front : take (n + 1) (set room n at) ≡ take n room ++ at ∷ [] = rw add-one (take-suc-set room n at next-fits) in
+      record {
+        fits = omega (arith, c.fits, ap length e, length-set room n at);
+        whole = subst (All (Whole s)) (sym front) (all_append c.whole (more w none));
+        chosen =
+            ap (λ (l : List ℕ). keys_here s l ++ discarded_from needs rest) front
+            ∙ ap (λ (l : List Key). l ++ discarded_from needs rest) (map-append (key_here s) (take n room) (at ∷ []))
+            ∙ append_snoc (keys_here s (take n room)) (key_here s at) (discarded_from needs rest)
+            ∙ ap (λ (l : List Key). keys_here s (take n room) ++ l) (rw (h, e, t) refl) ∙ c.chosen;
+        kept = all_tail kept_here;
+      }
 
-  pub chosen-same : is_discarded_at s needs here ≡ false → take n chosen ++ discarded_from s needs (drop (i + 1) alloc) ≡ all
+  pub choosing-same : is_discarded (need_trees needs) k ≡ false → Choosing s needs all rest room n
   unfolding those
-  chosen-same t = ap (λ (l : List ℕ). take n chosen ++ l) (sym (rw (split, t) refl)) ∙ e
+  choosing-same t =
+      record {
+        fits = omega (arith, c.fits, ap length e);
+        whole = c.whole;
+        chosen = ap (λ (l : List Key). keys_here s (take n room) ++ l) (rw (e, t) refl) ∙ c.chosen;
+        kept = all_tail kept_here;
+      }
 
-pub chosen-all : (s needs alloc chosen : List ℕ) (n i : ℕ) {all : List ℕ} → length alloc ≤ i → take n chosen ++ discarded_from s needs (drop i alloc) ≡ all → take n chosen ≡ all
-unfolding those
-chosen-all s needs alloc chosen n i h e =
-    sym (append-nil (take n chosen)) ∙ ap (λ (l : List ℕ). take n chosen ++ l) (sym (rw (drop_of_length-le alloc h) refl)) ∙ e
+-- all are chosen
+module _ {s : List ℕ} {needs all left : List Key} {room : List ℕ} {n : ℕ} (e : left ≡ []) (c : Choosing s needs all left room n) where
+  pub chosen-whole : WholeKeys s (take n room)
+  chosen-whole = record { at = all-nth 0 c.whole }
+
+  pub chosen-all : keys_here s (take n room) ≡ discarded_from needs all
+  unfolding those
+  chosen-all = sym (append-nil (keys_here s (take n room))) ∙ ap (λ (l : List Key). keys_here s (take n room) ++ l) (sym (rw e refl)) ∙ c.chosen
 
 -- what is chosen is what the batches want of it
-pub discarded-kept : {s : List ℕ} (needs : List ℕ) {alloc : List ℕ} → All (AllocKept s) alloc → All (DiscardedKept s) (discarded_from s needs alloc)
+pub discarded-kept : (needs : List Key) {alloc : List Key} → All AllocKept alloc → All DiscardedKept (discarded_from needs alloc)
 unfolding is_discarded
-discarded-kept {s} needs a =
+discarded-kept needs a =
     all-imp
-    (λ (o : ℕ) (h : (is_discarded_at s needs o ≡ true) × AllocKept s o).
-    let k = key_here s o in
+    (λ (k : Key) (h : (is_discarded (need_trees needs) k ≡ true) × AllocKept k).
     let p = parts (eqb k.type 27 && at_inode0 k) _ h.0 in
     let z = parts (eqb k.type 27) (at_inode0 k) p.0 in
     let q = parts (leb 56 (length k.value)) _ p.1 in
-    record {
-      kept = h.1.kept;
-      below = h.1.below (eqb-true k.pos.inode 0 z.1);
-      valued = leb-true 56 (length k.value) q.0;
-    })
-    (all-chosen (is_discarded_at s needs) a)
+    record { below = h.1.below (eqb-true k.pos.inode 0 z.1); valued = leb-true 56 (length k.value) q.0 })
+    (all-chosen (is_discarded (need_trees needs)) a)
 
 -- no more are chosen than there are
-pub discarded-few : (s needs alloc : List ℕ) {l : List ℕ} {n : ℕ} → l ≡ discarded_from s needs alloc → length alloc ≤ n → length l ≤ n
-discarded-few s needs alloc e h = omega (arith, ap length e, those-length (is_discarded_at s needs) alloc)
+pub discarded-few : (needs alloc : List Key) {l : List Key} {n : ℕ} → l ≡ discarded_from needs alloc → length alloc ≤ n → length l ≤ n
+discarded-few needs alloc e h = omega (arith, ap length e, those-length (is_discarded (need_trees needs)) alloc)

@@ -1,25 +1,25 @@
--- The table by bucket: each need-discard key that is noted is the last so far of its bucket.
-use Prim.Native.Nat.{ℕ, ◌+◌, ◌-◌, ◌<◌}
-use mathlib.Core.Path.{◌≡◌, refl, sym, ◌∙◌}
+-- The last key that names a bucket: by the table, where each need-discard key that is noted is the last so far of its bucket, and by a search.
+use Prim.Native.Nat.{ℕ, ◌+◌, ◌-◌, ◌≤◌, ◌<◌}
+use mathlib.Core.Path.{◌≡◌, refl, sym, ap, ◌∙◌}
 use mathlib.Core.Bool.{Bool, true, false, cond}
-use mathlib.Core.List.{List, [], ◌∷◌, ◌++◌, map-append}
-use mathlib.Core.Option.{none, some}
+use mathlib.Core.List.{List, [], ◌∷◌, ◌++◌}
+use mathlib.Core.Option.{Option, none, some}
 use Rattle.std.proofs.Common.{Option as Maybe, Some, None}
 use native.Mathlib.Omega.{arith}
+use native.Mathlib.Nat.{add-zero}
 use native.Mathlib.Numerals.{add-one}
-use lib.ListN.{length, get_or, set, take, replicate, length-set, get_or-replicate}
-use lib.Seq.{get_or-set_same, get_or-set_other, take-suc, take-length}
+use lib.ListN.{length, get_or, set, take, drop, replicate, length-set, length-drop, get_or-replicate}
+use lib.Seq.{get_or-set_same, get_or-set_other, take-suc, take_all, get_or-drop, drop-drop}
 use borrow.Author.Tests.{eqb-true, eqb-false, ne_eqb, ltb-true}
-use Rattle.wire.specs.Bytes.{All}
 use Rattle.wire.specs.Keys.{Key}
 use Rattle.wire.specs.Kinds.{same_bucket, bucket_in_range}
+use Rattle.wire.specs.Positions.{bucket_in}
 use Rattle.wire.specs.declared.kinds.Bucket.{Bucket}
 use Rattle.calls.specs.Limits.{is_set}
 use Rattle.calls.specs.Lists.{is_none}
 use Rattle.calls.specs.Discard.{waiting_key}
-use Rattle.reader.specs.KeyHere.{key_here, keys_here}
-use Rattle.need_discard.specs.Kept.{bucket_here, NeedKept}
-use Rattle.need_discard.specs.Table.{is_of_bucket, Entry, need_place, TableEntries, WaitingTable, wait_noted}
+use Rattle.reader.specs.Located.{no_key}
+use Rattle.need_discard.specs.Table.{is_of_bucket, Entry, need_place, TableEntries, wait_noted}
 
 -- one key more: the last that names a bucket stands
 pub waiting-more : (ks : List Key) (k : Key) (b : Bucket) → waiting_key (ks ++ k ∷ []) b ≡ cond (is_of_bucket k b) (some k) (waiting_key ks b)
@@ -34,94 +34,108 @@ waiting-more (x ∷ ks) k b = rw (waiting-more ks k b) (go (is_of_bucket k b))
     go false = refl
 
 -- an entry that stays
-entry_kept : (s needs : List ℕ) (ks ls : List Key) (b : Bucket) (e : Maybe ℕ) → Entry s needs ks b e → waiting_key ls b ≡ waiting_key ks b
-    → Entry s needs ls b e
-entry_kept s needs ks ls b None n q = q ∙ n
-entry_kept s needs ks ls b (Some i) n q = (n.0, q ∙ n.1)
+entry_kept : (all ks ls : List Key) (b : Bucket) (e : Maybe ℕ) → Entry all ks b e → waiting_key ls b ≡ waiting_key ks b → Entry all ls b e
+entry_kept all ks ls b None n q = q ∙ n
+entry_kept all ks ls b (Some i) n q = (n.0, q ∙ n.1)
 
 -- the table's entry of the key at place i
-entry_new : (s needs : List ℕ) (ls : List Key) (b : Bucket) {f : ℕ} (i : ℕ) → i < length needs → f ≡ i + 1
-    → waiting_key ls b ≡ some (key_here s (get_or needs i 0)) → Entry s needs ls b (need_place f)
-entry_new s needs ls b {f} i h p q =
+entry_new : (all ls : List Key) (b : Bucket) {f : ℕ} (i : ℕ) → i < length all → f ≡ i + 1 → waiting_key ls b ≡ some (get_or all i no_key)
+    → Entry all ls b (need_place f)
+entry_new all ls b {f} i h p q =
     let e : f - 1 ≡ i = omega arith in
     rw (ne_eqb f 0 (λ z. omega arith), e) (h, q)
 
-pub empty-entries : (s needs : List ℕ) → TableEntries s needs [] (replicate 65536 0)
+pub empty-entries : (all : List Key) → TableEntries all [] (replicate 65536 0)
 unfolding waiting_key
-empty-entries s needs b h =
+empty-entries all b h =
     let e : ◌≡◌ {A = ℕ} (get_or (replicate 65536 0) b.0 0) 0 = get_or-replicate 65536 b.0 0 0 (ltb-true b.0 65536 h) in
     rw e refl
 
-pub noted-length : (s table : List ℕ) (o i : ℕ) → length (wait_noted s table o i) ≡ length table
+pub noted-length : (table : List ℕ) (k : Key) (i : ℕ) → length (wait_noted table k i) ≡ length table
 unfolding wait_noted
-noted-length s table o i = go (is_set (key_here s o))
+noted-length table k i = go (is_set k)
   where
-    go : (q : Bool) → length (cond q (set table (bucket_here s o).0 (i + 1)) table) ≡ length table
-    go true = length-set table (bucket_here s o).0 (i + 1)
+    go : (q : Bool) → length (cond q (set table (bucket_in k.pos).0 (i + 1)) table) ≡ length table
+    go true = length-set table (bucket_in k.pos).0 (i + 1)
     go false = refl
 
 -- the key at place i is noted
-module _ (s needs table : List ℕ) (ks : List Key) (i : ℕ) (h : i < length needs) (l : length table ≡ 65536)
-    (t : TableEntries s needs ks table) (b : Bucket) (m : bucket_in_range b ≡ true) where
-  abbrev o : ℕ
-  o = get_or needs i 0
+module _ (all : List Key) (table : List ℕ) (ks : List Key) (i : ℕ) (h : i < length all) (l : length table ≡ 65536)
+    (t : TableEntries all ks table) (b : Bucket) (m : bucket_in_range b ≡ true) where
+  abbrev k : Key
+  k = get_or all i no_key
 
   -- a key of another type names no bucket
-  other : is_set (key_here s o) ≡ false → Entry s needs (ks ++ key_here s o ∷ []) b (need_place (get_or table b.0 0))
-  other e = entry_kept s needs ks (ks ++ key_here s o ∷ []) b (need_place (get_or table b.0 0)) (t b m) (waiting-more ks (key_here s o) b ∙ rw e)
+  other : is_set k ≡ false → Entry all (ks ++ k ∷ []) b (need_place (get_or table b.0 0))
+  other e = entry_kept all ks (ks ++ k ∷ []) b (need_place (get_or table b.0 0)) (t b m) (waiting-more ks k b ∙ rw e)
 
   -- a key of type 25 names its own bucket and no other
-  this : is_set (key_here s o) ≡ true → Entry s needs (ks ++ key_here s o ∷ []) b (need_place (get_or (set table (bucket_here s o).0 (i + 1)) b.0 0))
-  this e = go (same_bucket (bucket_here s o) b) refl
+  this : is_set k ≡ true → Entry all (ks ++ k ∷ []) b (need_place (get_or (set table (bucket_in k.pos).0 (i + 1)) b.0 0))
+  this e = go (same_bucket (bucket_in k.pos) b) refl
     where
-      go : (q : Bool) → same_bucket (bucket_here s o) b ≡ q
-          → Entry s needs (ks ++ key_here s o ∷ []) b (need_place (get_or (set table (bucket_here s o).0 (i + 1)) b.0 0))
+      go : (q : Bool) → same_bucket (bucket_in k.pos) b ≡ q → Entry all (ks ++ k ∷ []) b (need_place (get_or (set table (bucket_in k.pos).0 (i + 1)) b.0 0))
       go true q =
-          let p : (bucket_here s o).0 ≡ b.0 = eqb-true (bucket_here s o).0 b.0 q in
-          entry_new s needs (ks ++ key_here s o ∷ []) b i h (rw p (get_or-set_same table b.0 (i + 1) 0 (omega (arith, ltb-true b.0 65536 m)))) (waiting-more ks (key_here s o) b ∙ rw (e, q))
+          let p : (bucket_in k.pos).0 ≡ b.0 = eqb-true (bucket_in k.pos).0 b.0 q in
+          entry_new all (ks ++ k ∷ []) b i h (rw p (get_or-set_same table b.0 (i + 1) 0 (omega (arith, ltb-true b.0 65536 m)))) (waiting-more ks k b ∙ rw (e, q))
       go false q =
-          let p = eqb-false (bucket_here s o).0 b.0 q in
-          rw (get_or-set_other table (bucket_here s o).0 b.0 (i + 1) 0 (λ z. p (sym z)))
-          (entry_kept s needs ks (ks ++ key_here s o ∷ []) b (need_place (get_or table b.0 0)) (t b m) (waiting-more ks (key_here s o) b ∙ rw (e, q)))
+          let p = eqb-false (bucket_in k.pos).0 b.0 q in
+          rw (get_or-set_other table (bucket_in k.pos).0 b.0 (i + 1) 0 (λ z. p (sym z)))
+          (entry_kept all ks (ks ++ k ∷ []) b (need_place (get_or table b.0 0)) (t b m) (waiting-more ks k b ∙ rw (e, q)))
 
-  noted-entry : Entry s needs (ks ++ key_here s o ∷ []) b (need_place (get_or (wait_noted s table o i) b.0 0))
+  noted-entry : Entry all (ks ++ k ∷ []) b (need_place (get_or (wait_noted table k i) b.0 0))
   unfolding wait_noted
-  noted-entry = go (is_set (key_here s o)) refl
+  noted-entry = go (is_set k) refl
     where
-      go : (q : Bool) → is_set (key_here s o) ≡ q
-          → Entry s needs (ks ++ key_here s o ∷ []) b (need_place (get_or (cond q (set table (bucket_here s o).0 (i + 1)) table) b.0 0))
+      go : (q : Bool) → is_set k ≡ q → Entry all (ks ++ k ∷ []) b (need_place (get_or (cond q (set table (bucket_in k.pos).0 (i + 1)) table) b.0 0))
       go true q = this q
       go false q = other q
 
--- one offset more
-pub keys-more : (s os : List ℕ) (i : ℕ) → i < length os → keys_here s (take (i + 1) os) ≡ keys_here s (take i os) ++ key_here s (get_or os i 0) ∷ []
-keys-more s os i h = rw (add-one, take-suc os i 0 h) (map-append (key_here s) (take i os) (get_or os i 0 ∷ []))
+pub noted-entries : (all : List Key) (table : List ℕ) (i : ℕ) → i < length all → length table ≡ 65536
+    → TableEntries all (take i all) table → TableEntries all (take (i + 1) all) (wait_noted table (get_or all i no_key) i)
+noted-entries all table i h l t b m = rw (add-one, take-suc all i no_key h) (noted-entry all table (take i all) i h l t b m)
 
-pub noted-entries : (s needs table : List ℕ) (i : ℕ) → i < length needs → length table ≡ 65536
-    → TableEntries s needs (keys_here s (take i needs)) table
-    → TableEntries s needs (keys_here s (take (i + 1) needs)) (wait_noted s table (get_or needs i 0) i)
-noted-entries s needs table i h l t b m = rw (keys-more s needs i h) (noted-entry s needs table (keys_here s (take i needs)) i h l t b m)
+pub all-entries : (all : List Key) (table : List ℕ) (i : ℕ) {ks : List Key} → ks ≡ drop i all → ks ≡ [] → TableEntries all (take i all) table
+    → TableEntries all all table
+all-entries all table i e n t =
+    let l : length all ≤ i = omega (arith, length-drop i all, ap length e, ap length n) in
+    rw (take_all i all l) at t
 
-pub all-entries : (s needs table : List ℕ) (i : ℕ) → i ≡ length needs → TableEntries s needs (keys_here s (take i needs)) table
-    → TableEntries s needs (keys_here s needs) table
-all-entries s needs table i e t = rw (e, take-length needs) at t
+-- a search: what was found so far stands unless a key that is left names the bucket
+abbrev pub later : Option Key → Option Key → Option Key
+later l r = cond (is_none r) l r
 
--- the key at place i is searched: the last so far that names a bucket has its entry
-module _ (s needs : List ℕ) (b : Bucket) where
-  module _ (i : ℕ) (h : i < length needs) (e : Maybe ℕ) (n : Entry s needs (keys_here s (take i needs)) b e) {t : Bool}
-      (p : t ≡ is_of_bucket (key_here s (get_or needs i 0)) b) where
-    more : waiting_key (keys_here s (take (i + 1) needs)) b ≡ cond t (some (key_here s (get_or needs i 0))) (waiting_key (keys_here s (take i needs)) b)
-    more = rw (keys-more s needs i h, p) (waiting-more (keys_here s (take i needs)) (key_here s (get_or needs i 0)) b)
+module _ {ks rest : List Key} {k : Key} (b : Bucket) (e : ks ≡ k ∷ rest) {t : Bool} (p : t ≡ is_of_bucket k b) (l : Option Key) where
+  pub search-found : t ≡ true → later (some k) (waiting_key rest b) ≡ later l (waiting_key ks b)
+  unfolding waiting_key
+  search-found q = rw (e, ← p, q) (go (waiting_key rest b))
+    where
+      go : (w : Option Key) → later (some k) w ≡ later l (cond (is_none w) (some k) w)
+      go none = refl
+      go (some x) = refl
 
-    pub search-found : t ≡ true → Entry s needs (keys_here s (take (i + 1) needs)) b (Some i)
-    search-found q = (h, more ∙ rw q)
+  pub search-past : t ≡ false → later l (waiting_key rest b) ≡ later l (waiting_key ks b)
+  unfolding waiting_key
+  search-past q = rw (e, ← p, q) (go (waiting_key rest b))
+    where
+      go : (w : Option Key) → later l w ≡ later l (cond (is_none w) none w)
+      go none = refl
+      go (some x) = refl
 
-    pub search-past : t ≡ false → Entry s needs (keys_here s (take (i + 1) needs)) b e
-    search-past q = entry_kept s needs (keys_here s (take i needs)) (keys_here s (take (i + 1) needs)) b e n (more ∙ rw q)
+pub search-start : (w : Option Key) → later none w ≡ w
+search-start none = refl
+search-start (some x) = refl
 
-  pub search-all : (e : Maybe ℕ) (i : ℕ) → i ≡ length needs → Entry s needs (keys_here s (take i needs)) b e → Entry s needs (keys_here s needs) b e
-  search-all e i q n = rw (q, take-length needs) at n
+pub search-end : {ks : List Key} (b : Bucket) (l : Option Key) → ks ≡ [] → later l (waiting_key ks b) ≡ l
+unfolding waiting_key
+search-end b l e = rw e refl
 
--- a table that has not an entry for each bucket
-pub unfilled : {s needs table : List ℕ} → All (NeedKept s) needs → length table < 65536 → WaitingTable s needs table
-unfilled k h = record { kept = k; entries = λ l. absurd (omega arith) }
+-- a step along the keys: the one at place i
+module _ (all : List Key) (i : ℕ) {k : Key} {ks rest : List Key} (e : ks ≡ drop i all) (s : ks ≡ k ∷ rest) where
+  pub step-within : i < length all
+  step-within = omega (arith, length-drop i all, ap length e, ap length s)
+
+  pub step-key : k ≡ get_or all i no_key
+  step-key = ap (λ (l : List Key). get_or l 0 no_key) (sym s ∙ e) ∙ get_or-drop i all 0 no_key ∙ rw add-zero refl
+
+  pub step-rest : rest ≡ drop (i + 1) all
+  step-rest = ap (drop 1) (sym s ∙ e) ∙ drop-drop 1 i all

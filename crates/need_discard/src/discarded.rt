@@ -1,19 +1,16 @@
 // Which alloc keys are discarded.
-ghost use Rattle.std.specs.Prelude.{◌≡◌, ◌+◌, ◌≤◌, ◌<◌, ◌++◌, true, not, length, take, drop};
+ghost use Rattle.std.specs.Prelude.{◌≡◌, ◌+◌, ◌≤◌, length, drop};
 ghost use Rattle.wire.specs.Bytes.{All};
-ghost use Rattle.wire.specs.Kinds.{bucket_in_range};
-ghost use Rattle.calls.specs.Lists.{is_none};
-ghost use Rattle.calls.specs.Discard.{waiting_key, gen_taken};
-ghost use Rattle.reader.specs.KeyHere.{key_here, keys_here, Whole};
+ghost use Rattle.calls.specs.Discard.{gen_taken, is_discarded};
+ghost use Rattle.reader.specs.ListedKeys.{key_listed, keys_listed};
 ghost use Rattle.need_discard.specs.Kept.{AllocKept};
-ghost use Rattle.need_discard.specs.Table.{WaitingTable};
-ghost use Rattle.need_discard.specs.Chosen.{is_value_taken, is_discarded_at, discarded_from};
+ghost use Rattle.need_discard.specs.Chosen.{need_trees, is_value_taken, discarded_from};
 
-use crate::waiting;
+use crate::waiting::Waiting;
 use format::alloc;
-use reader::key;
+use reader::key::ListedKey;
+use reader::listed_keys::Keys;
 use wire::key_types::KeyType;
-use wire::kinds::Bucket;
 use wire::positions;
 
 // Whether a waiting bucket is taken: its generation is below 16. The value's length shows the bound.
@@ -25,55 +22,41 @@ pub fn gen_taken(s: &[u8], at: usize) -> bool
     alloc::generation(s, at) < 16
 }
 
-// Whether a need-discard key names a bucket.
-fn is_waiting(s: &[u8], needs: &[u32], table: &[u16], b: Bucket) -> bool
-    requires { WaitingTable s.now needs.now table.now × (bucket_in_range b ≡ true) }
-    ensures { result ≡ not (is_none (waiting_key (keys_here s.now needs.now) b)) }
+// Whether an alloc value says that its bucket waits, and has a generation that is taken.
+fn value_taken(value: &[u8]) -> bool
+    ensures { result ≡ is_value_taken value.now }
 {
-    waiting::waiting_at(s, needs, table, b).is_some()
+    56 <= value.len() && alloc::data_type(value, 0) == 9 && gen_taken(value, 0)
 }
 
-// Whether the value of the alloc key at a place says that its bucket waits, and has a generation that is taken.
-#[tactic(auto, using(crate::proofs::ChosenLaws::value_ends, crate::proofs::ChosenLaws::type_there, crate::proofs::ChosenLaws::gen_there))]
-fn value_taken(s: &[u8], at: usize) -> bool
-    requires { Whole s.now at }
-    ensures { result ≡ is_value_taken (key_here s.now at).value }
-{
-    let value = key::value_at(s, at);
-    56 <= key::value_len(s, at) && alloc::data_type(s, value) == 9 && gen_taken(s, value)
-}
-
-// Whether the alloc key at an offset is discarded.
+// Whether an alloc key is discarded.
 #[tactic(auto, unfolding(calls::specs::Discard::is_discarded))]
-fn is_discarded(s: &[u8], o: u32, needs: &[u32], table: &[u16]) -> bool
-    requires { AllocKept s.now o × WaitingTable s.now needs.now table.now }
-    ensures { result ≡ is_discarded_at s.now needs.now o }
+fn is_discarded(key: &ListedKey, waiting: &Waiting) -> bool
+    requires { AllocKept (key_listed key.now) }
+    ensures { result ≡ is_discarded (need_trees waiting.now) (key_listed key.now) }
 {
-    let at = o as usize;
-    let pos = key::pos_at(s, at);
-    key::type_at(s, at) == KeyType::AllocV4.number()
+    let pos = key.pos();
+    key.key_type() == KeyType::AllocV4.number()
         && pos.inode == 0
-        && value_taken(s, at)
-        && is_waiting(s, needs, table, positions::bucket_in(pos))
+        && value_taken(key.value())
+        && waiting.is_waiting(positions::bucket_in(pos))
 }
 
-// The offsets of the alloc keys that are discarded, and how many they are. The limits show the bound.
-pub fn discarded_keys(
-    discarded: &mut [u32],
-    s: &[u8],
-    alloc: &[u32],
-    needs: &[u32],
-    table: &[u16],
-) -> usize
-    requires { All (AllocKept s.now) alloc.now × (length alloc.now ≤ length discarded.old) × WaitingTable s.now needs.now table.now }
-    ensures { (result ≤ length discarded.new) × (take result discarded.new ≡ discarded_from s.now needs.now alloc.now) }
+// The alloc keys that are discarded, with their places in the front of a room for those of all. The limits show the bound.
+pub fn discarded_keys<'a>(room: &'a mut [u32], alloc: Keys<'a>, waiting: &Waiting) -> Keys<'a>
+    requires { All AllocKept (keys_listed alloc) × (length alloc.places.now ≤ length room.old) }
+    ensures { keys_listed result ≡ discarded_from waiting.now (keys_listed alloc.entry) }
 {
     let mut n: usize = 0;
-    for o in alloc {
-        if is_discarded(s, *o, needs, table) {
-            discarded[n] = *o;
+    // A loop: there is no heap to collect what `filter` gives.
+    for key in alloc.iter() {
+        if is_discarded(&key, waiting) {
+            room[n] = key.at;
             n += 1;
         }
     }
-    n
+    Keys {
+        list: alloc.list,
+        places: &room[..n],
+    }
 }

@@ -1,81 +1,139 @@
-// The need-discard key that stands for each bucket: a table by bucket, or a search through the keys where there are at most 16 of them for at most 64
-// alloc keys, since to clear the table, 128 KiB, costs as much as a thousand comparisons. The table is filled in one pass, and has the place of a key in
-// two bytes, which is half the memory of its offset, and 0 for none.
+// The need-discard keys of a list, and the one that stands for a bucket: by a table by bucket, or by a search through the keys where there are at most
+// 16 of them for at most 64 alloc keys, since to clear the table, 128 KiB, costs as much as a thousand comparisons. The table is filled in one pass,
+// and has the place of a key in two bytes, which is half the memory of its offset, and 0 for none.
 ghost use Rattle.std.specs.Prelude.{◌≡◌, true, ◌≤◌, ◌<◌, length, replicate};
 ghost use Rattle.wire.specs.Bytes.{All};
 ghost use Rattle.wire.specs.Kinds.{bucket_in_range};
 ghost use Rattle.calls.specs.Discard.{waiting_key};
-ghost use Rattle.reader.specs.KeyHere.{key_here, keys_here};
+ghost use Rattle.reader.specs.ListedKeys.{key_listed, keys_listed};
 ghost use Rattle.need_discard.specs.Kept.{NeedKept};
-ghost use Rattle.need_discard.specs.Table.{waits_of, is_of_bucket, Entry, WaitingTable, wait_noted};
+ghost use Rattle.need_discard.specs.Table.{is_of_bucket, found, TableEntries, wait_noted};
 
-use reader::key;
+use reader::key::ListedKey;
+use reader::listed_keys::Keys;
+use std::marker::Model;
 use wire::bpos::Bpos;
 use wire::key_types::KeyType;
 use wire::kinds::Bucket;
 
 // The key at place i takes the entry of its bucket, so that the last stands. The limits show the bounds, here and below.
 #[tactic(auto, unfolding(crate::specs::Table::wait_noted))]
-fn note(table: &mut [u16; 65536], s: &[u8], o: u32, i: usize)
-    requires { NeedKept s.now o × (i < 4096) }
-    ensures { table.new ≡ wait_noted s.now table.old o i }
+fn note(table: &mut [u16; 65536], key: &ListedKey, i: usize)
+    requires { NeedKept (key_listed key.now) × (i < 4096) }
+    ensures { table.new ≡ wait_noted table.old (key_listed key.now) i }
 {
-    if key::type_at(s, o as usize) != KeyType::Set.number() {
+    if key.key_type() != KeyType::Set.number() {
         return;
     }
-    let b = key::bucket_at(s, o as usize);
+    let b = key.bucket();
     table[b.0 as usize] = (i + 1) as u16;
 }
 
 // Fills an empty table.
-pub fn note_waiting(table: &mut [u16; 65536], s: &[u8], needs: &[u32])
-    requires { All (NeedKept s.now) needs.now × (length needs.now ≤ 4096) × (table.old ≡ replicate 65536 0) }
-    ensures { (length table.new ≡ 65536) × WaitingTable s.now needs.now table.new }
+fn note_waiting(table: &mut [u16; 65536], keys: &Keys)
+    requires { All NeedKept (keys_listed keys.now) × (length keys.now.places.now ≤ 4096) × (table.old ≡ replicate 65536 0) }
+    ensures { TableEntries (keys_listed keys.now) (keys_listed keys.now) table.new }
 {
-    for (i, o) in needs.iter().enumerate() {
-        note(table, s, *o, i);
+    for (i, key) in keys.iter().enumerate() {
+        note(table, &key, i);
     }
 }
 
-// Whether the need-discard key at an offset names a bucket, which a key of another type than 25 does not.
-fn names_bucket(s: &[u8], o: u32, b: Bucket) -> bool
-    requires { NeedKept s.now o }
-    ensures { result ≡ is_of_bucket (key_here s.now o) b }
+// Whether a need-discard key names a bucket, which a key of another type than 25 does not.
+fn names_bucket(key: &ListedKey, b: Bucket) -> bool
+    ensures { result ≡ is_of_bucket (key_listed key.now) b }
 {
-    key::bucket_at(s, o as usize) == b
-        && key::type_at(s, o as usize) == KeyType::Set.number()
+    key.bucket() == b && key.key_type() == KeyType::Set.number()
 }
 
-// The place of the last key that names a bucket, by a search through the keys.
-fn search_place(s: &[u8], needs: &[u32], b: Bucket) -> Option<usize>
-    requires { All (NeedKept s.now) needs.now }
-    ensures { Entry s.now needs.now (keys_here s.now needs.now) b result }
+// The last key that names a bucket, by a search through the keys.
+fn search_key<'a>(keys: &Keys<'a>, b: Bucket) -> Option<ListedKey<'a>>
+    ensures { found result ≡ waiting_key (keys_listed keys.now) b }
 {
     let mut last = None;
-    for (i, o) in needs.iter().enumerate() {
-        if names_bucket(s, *o, b) {
-            last = Some(i);
+    // A loop: what std ensures of `filter(..).last()` is of runs, and no law turns a run of `Keys` into the list of its keys.
+    for key in keys.iter() {
+        if names_bucket(&key, b) {
+            last = Some(key);
         }
     }
     last
 }
 
-// The same, from the table, where it has an entry for each bucket, else by a search.
-fn place_of(s: &[u8], needs: &[u32], table: &[u16], b: Bucket) -> Option<usize>
-    requires { WaitingTable s.now needs.now table.now × (bucket_in_range b ≡ true) }
-    ensures { Entry s.now needs.now (keys_here s.now needs.now) b result }
+// The same, from a filled table.
+fn table_key<'a>(keys: &Keys<'a>, table: &[u16; 65536], b: Bucket) -> Option<ListedKey<'a>>
+    requires { TableEntries (keys_listed keys.now) (keys_listed keys.now) table.now × (bucket_in_range b ≡ true) }
+    ensures { found result ≡ waiting_key (keys_listed keys.now) b }
 {
-    if table.len() < 65536 {
-        return search_place(s, needs, b);
-    }
-    (table[b.0 as usize] as usize).checked_sub(1)
+    let i = (table[b.0 as usize] as usize).checked_sub(1)?;
+    Some(keys.at(i))
 }
 
-// Where the need-discard key of a bucket stands, if it has one. `discard_lists` chooses the table.
-pub fn waiting_at(s: &[u8], needs: &[u32], table: &[u16], b: Bucket) -> Option<Bpos>
-    requires { WaitingTable s.now needs.now table.now × (bucket_in_range b ≡ true) }
-    ensures { result ≡ waits_of (waiting_key (keys_here s.now needs.now) b) }
-{
-    let i = place_of(s, needs, table, b)?;
-    Some(key::pos_at(s, needs[i] as usize))
+// The need-discard keys of a list, and their table, where one is filled.
+#[derive(Drop)]
+pub struct Waiting<'a> {
+    keys: Keys<'a>,
+    table: Option<&'a [u16; 65536]>,
+}
+
+// They are seen as the keys.
+impl<'a> Model for Waiting<'a> {
+    ghost use Rattle.std.specs.Prelude.{List, IfSome};
+    ghost use Rattle.wire.specs.Bytes.{All};
+    ghost use Rattle.wire.specs.Keys.{Key};
+    ghost use Rattle.reader.specs.ListedKeys.{keys_listed};
+    ghost use Rattle.need_discard.specs.Kept.{NeedKept};
+    ghost use Rattle.need_discard.specs.Table.{TableEntries};
+
+    ghost Value = { List Key };
+
+    ghost view = { λ w. keys_listed w.keys };
+
+    ghost invariant = { λ w. All NeedKept (keys_listed w.keys) × IfSome w.table (λ table. TableEntries (keys_listed w.keys) (keys_listed w.keys) table.now) };
+}
+
+impl<'a> Waiting<'a> {
+    ghost use Rattle.std.specs.Prelude.{not};
+    ghost use Rattle.calls.specs.Lists.{is_none};
+    ghost use Rattle.need_discard.specs.Table.{waits_of};
+
+    // Few keys, with no table.
+    pub fn searched(keys: Keys<'a>) -> Waiting<'a>
+        requires { All NeedKept (keys_listed keys) }
+        ensures { result ≡ keys_listed keys.entry }
+    {
+        Waiting { keys, table: None }
+    }
+
+    // Keys with an empty table, which is filled.
+    pub fn tabled(keys: Keys<'a>, table: &'a mut [u16; 65536]) -> Waiting<'a>
+        requires { All NeedKept (keys_listed keys) × (length keys.places.now ≤ 4096) × (table.old ≡ replicate 65536 0) }
+        ensures { result ≡ keys_listed keys.entry }
+    {
+        note_waiting(table, &keys);
+        Waiting {
+            keys,
+            table: Some(table),
+        }
+    }
+
+    // Where the need-discard key of a bucket stands, if it has one.
+    pub fn waiting_at(&self, b: Bucket) -> Option<Bpos>
+        requires { bucket_in_range b ≡ true }
+        ensures { result ≡ waits_of (waiting_key self.now b) }
+    {
+        let key = match self.table {
+            Some(table) => table_key(&self.keys, table, b)?,
+            None => search_key(&self.keys, b)?,
+        };
+        Some(key.pos())
+    }
+
+    // Whether a need-discard key names a bucket.
+    pub fn is_waiting(&self, b: Bucket) -> bool
+        requires { bucket_in_range b ≡ true }
+        ensures { result ≡ not (is_none (waiting_key self.now b)) }
+    {
+        self.waiting_at(b).is_some()
+    }
 }

@@ -1,11 +1,9 @@
 -- Laws of the change list of a placement: its bytes in the order in which they are emitted.
 use mathlib.Core.Path.{◌≡◌, refl, sym, ap, ◌∙◌}
-use mathlib.Core.Bool.{Bool, true, false, ◌&&◌}
+use mathlib.Core.Bool.{Bool, ◌&&◌}
 use mathlib.Core.List.{List, [], ◌∷◌, ◌++◌, map, flat_map, append_assoc, append-nil}
-use Prim.Native.Nat.{ℕ, zero, suc, ◌%◌, ◌/◌, ◌^◌}
-use native.Mathlib.Omega.{arith}
+use Prim.Native.Nat.{ℕ, zero, suc}
 use lib.ListN.{get_or, replicate}
-use lib.Dec.{eqb}
 use Rattle.wire.specs.Fields.{Field}
 use Rattle.wire.specs.Encode.{encode, encode_field, key_field}
 use Rattle.wire.specs.Rows.{row_field}
@@ -91,15 +89,6 @@ module _ {s offsets numbers : List ℕ} {buckets : List Bucket} {generations : L
       (six _ (map taken_field (walk_of (read_call s)).taken) (map spot_field (map spot_at ps))
       (map row_field (place_rows (read_volume s).head (walk_of (read_call s)).taken ps (map (extent_key (read_volume s).head) ps)))
       (sectors_field (total (λ p. p.piece.file) ps)) end_field)
-
--- the root
-
-pub root-unwanted : (wanted : Bool) (roots : ℕ) → wanted ≡ false → (wanted && root_missing roots 0) ≡ false
-root-unwanted wanted roots e = rw e
-
-pub root-wanted : (wanted : Bool) (roots : ℕ) → wanted ≡ true → (wanted && root_missing roots 0) ≡ eqb (roots % 2) 0
-unfolding root_missing
-root-wanted wanted roots h = let e : roots / 2 ^ 0 ≡ roots = omega arith in rw (h, e)
 
 -- counts that are 0
 pub zero-at : (n k : ℕ) → ◌≡◌ {A = ℕ} (get_or (replicate n 0) k 0) 0

@@ -15,9 +15,9 @@ use freespace::take::Walked;
 use place_keys::plan::Plan;
 use place_keys::{allocs, backpointers, extents, lru, queue, spots};
 use reader::answer::Emit;
+use reader::roots::Root;
 use wire::kinds::Bucket;
 use wire::output::Output;
-use wire::trees::Tree;
 
 // What a change list is written from: a plan, the dirty counts of its buckets, the runs and how far the walk over them is, the tallies of the pieces, and the write clock.
 #[derive(Clone, Copy, Drop)]
@@ -92,7 +92,9 @@ impl<'a> Emit for ChangeList<'a> {
 pub fn put_lru_root(out: &mut Output, wanted: bool, roots: u8)
     ensures { out.new ≡ with_bytes out.old (roots_bytes (roots_if (wanted && root_missing roots 0) 10)) }
 {
-    root_fields::put_root(out, wanted && roots % 2 == 0, Tree::Lru.tag());
+    if wanted {
+        root_fields::put_missing(out, roots, Root::Lru);
+    }
 }
 
 // Fields 71: the buckets taken.

@@ -2,6 +2,7 @@
 ghost use Rattle.std.specs.Prelude.{◌≡◌};
 ghost use Rattle.wire.specs.Encode.{encode_field, key_field};
 ghost use Rattle.wire.specs.Output.{with_bytes};
+ghost use Rattle.calls.specs.Limits.{is_run};
 ghost use Rattle.calls.specs.Freespace.{shortened};
 ghost use Rattle.calls.specs.Place.{walk_of};
 ghost use Rattle.calls.specs.Answers.{read_call};
@@ -11,8 +12,8 @@ ghost use Rattle.freespace.specs.Walks.{key_queue};
 ghost use Rattle.place_keys.specs.Queue.{Walk};
 
 use change_fields::new_keys;
-use freespace::runs;
 use reader::key;
+use wire::key_types::KeyType;
 use wire::output::Output;
 use wire::trees::Tree;
 
@@ -31,12 +32,20 @@ pub fn put_shortened(out: &mut Output, s: &[u8], from: usize, left: u32)
     out.put_key(Tree::Freespace.tag(), &k);
 }
 
+// Whether the key at a place is a run of free buckets.
+fn is_run(s: &[u8], at: usize) -> bool
+    requires { Whole s.now at }
+    ensures { result ≡ is_run (key_here s.now at) }
+{
+    key::type_at(s, at) == KeyType::Set.number() && key::pos_at(s, at).inode == 0
+}
+
 // A key that the walk passed, with so many buckets left; one that is no run is left out.
 pub fn put_passed(out: &mut Output, s: &[u8], from: usize, left: u32)
     requires { Whole s.now from }
     ensures { out.new ≡ with_bytes out.old (keys_bytes 11 (key_queue (key_here s.now from) left)) }
 {
-    if runs::is_run(s, from) {
+    if is_run(s, from) {
         put_shortened(out, s, from, left);
     }
 }

@@ -3,6 +3,8 @@ use Rattle.std.specs.Prelude.{◌≤◌, ◌≡◌, true, length}
 use Rattle.wire.specs.Kinds.{base_in_range}
 use Rattle.calls.specs.Answers.{read_call, read_volume}
 use Rattle.reader.specs.Heads.{head_in}
+use Rattle.reader.specs.ListedKeys.{keys_listed}
+use Rattle.reader.specs.ListedBuckets.{buckets_listed}
 use Rattle.reader.specs.Located.{KeysAt, BucketsAt, PiecesAt}
 use Rattle.reader.specs.declared.read_list.ReadList.{ReadList}
 use Rattle.reader.specs.Checked.{Checked}
@@ -13,6 +15,9 @@ pub record Called (r : ReadList) : Type 0 where
   pub alloc : KeysAt r.list.now r.alloc.places.now (read_volume r.list.now).trees.alloc
   pub runs : KeysAt r.list.now r.freespace.places.now (read_volume r.list.now).trees.freespace
   pub reserved : BucketsAt r.list.now r.reserved.places.now (read_volume r.list.now).reserved
+  pub alloc_are : keys_listed r.alloc ≡ (read_volume r.list.now).trees.alloc
+  pub runs_are : keys_listed r.freespace ≡ (read_volume r.list.now).trees.freespace
+  pub reserved_are : buckets_listed r.reserved ≡ (read_volume r.list.now).reserved
   pub pieces : PiecesAt r.list.now r.requests.now (read_call r.list.now).pieces
   -- refusal 3: at most 1,024 pieces, the base below 2^40
   pub few : length r.requests.now ≤ 1024

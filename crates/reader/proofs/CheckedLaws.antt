@@ -15,9 +15,9 @@ use Rattle.calls.specs.Limits.{is_run, is_set, counts_ok, buckets_ok, volume_wit
 use Rattle.calls.specs.Answers.{read_call, read_volume}
 use Rattle.calls.proofs.lists.BoolLaws.{parts as and-true}
 use Rattle.calls.proofs.trees.SortedLaws.{InOrder}
-use Rattle.calls.proofs.trees.SixTrees.{EachTree, trees-order}
+use Rattle.calls.proofs.trees.SixTrees.{EachTree, trees-each, trees-order}
 use Rattle.calls.proofs.freespace.TakenAscend.{call-trees}
-use Rattle.reader.specs.Checked.{Checked, in_range, end_in_range}
+use Rattle.reader.specs.Checked.{Checked, AllocChecked, RunsChecked, ReservedChecked, in_range, end_in_range}
 
 -- the limits of a key
 pub range_at : (k : Key) → in_range k ≡ true → k.pos.inode ≡ 0 → bucket_in_range (bucket_in k.pos) ≡ true
@@ -63,6 +63,16 @@ module _ {s : List ℕ} (c : Checked s) where
   run-range =
       (and-true (all_of (λ k. not (is_set k) || bucket_in_range (bucket_in k.pos)) (read_volume s).trees.need_discard)
       (all_of end_in_range (read_volume s).trees.freespace) tree-ranges.1).1
+
+  -- of its alloc keys, its runs and its reserved buckets
+  pub alloc-checked : AllocChecked (read_volume s).trees.alloc
+  alloc-checked = record { order = (trees-each (read_volume s).trees c.trees).alloc; range = alloc-range }
+
+  pub runs-checked : RunsChecked (read_volume s).trees.freespace
+  runs-checked = record { order = (trees-each (read_volume s).trees c.trees).freespace; range = run-range }
+
+  pub reserved-checked : ReservedChecked (read_volume s).reserved
+  reserved-checked = record { order = c.reserved; range = reserved-range }
 
 -- refusals 2, 22 and 3 show it
 pub checked : (call : ℕ) (s : List ℕ) → call_laid_out call s ≡ true → none_twice (read_volume s) ≡ true → list_within (read_call s) ≡ true → Checked s

@@ -43,3 +43,4 @@ pub mod ArrangedLaws
 pub mod DoubledLaws
 pub mod AnswerLaws
 pub mod NumberLaws
+pub mod RootBits

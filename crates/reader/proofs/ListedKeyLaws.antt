@@ -11,6 +11,9 @@ use Rattle.wire.specs.declared.kinds.Bucket.{Bucket}
 use Rattle.wire.proofs.NumberLaws.{le-take}
 use Rattle.reader.specs.KeyHere.{key_here, Whole, WholeKeys, keys_here}
 use Rattle.reader.specs.BucketHere.{bucket_here, buckets_here, WholeBuckets}
+use Rattle.reader.specs.ListedKeys.{key_listed, keys_listed, KeyOf}
+use Rattle.reader.specs.declared.key.ListedKey.{ListedKey}
+use Rattle.reader.specs.declared.listed_keys.Keys.{Keys}
 use Rattle.reader.specs.Located.{no_key, KeysAt, BucketsAt}
 use Rattle.reader.proofs.SkipLaws.{all-indexed}
 
@@ -33,6 +36,11 @@ map_at : {A B : Type 0} (f : A → B) (l : List A) (i : ℕ) (d : A) (e : B) →
 map_at f [] i d e h = absurd (omega arith)
 map_at f (x ∷ l) zero d e h = refl
 map_at f (x ∷ l) (suc i) d e h = map_at f l i d e (omega arith)
+
+-- the key with an index
+pub key-of : {ks : Keys} {i : ℕ} {k : ListedKey} → i < length ks.places.now → KeyOf ks i k → key_listed k ≡ get_or (keys_listed ks) i no_key
+key-of {ks} {i} {k} h q =
+    ap (λ s. key_here s k.at) q.list ∙ ap (key_here ks.list.now) q.at ∙ sym (map_at (key_here ks.list.now) ks.places.now i 0 no_key h)
 
 -- the places of some keys find them, one for one
 pub keys-at : {s places : List ℕ} → WholeKeys s places → KeysAt s places (keys_here s places)

@@ -17,3 +17,4 @@ pub mod Arranged
 pub mod Surveyed
 pub mod Collected
 pub mod Refusals
+pub mod Roots

@@ -1,5 +1,5 @@
 -- The keys that stand at places of a list, as clauses see them, and a step along them.
-use Rattle.std.specs.Prelude.{ℕ, ◌≡◌, ◌≤◌, ◌<◌, List, [], ◌∷◌, map, Option, Some, None, length, get_or}
+use Rattle.std.specs.Prelude.{ℕ, ◌-◌, ◌≡◌, ◌≤◌, ◌<◌, List, [], ◌∷◌, ◌++◌, map, Option, Some, None, length, get_or}
 use Rattle.wire.specs.Keys.{Key}
 use Rattle.reader.specs.KeyHere.{key_here, keys_here}
 use Rattle.reader.specs.declared.key.ListedKey.{ListedKey}
@@ -28,6 +28,11 @@ abbrev pub KeyGot : Keys → ℕ → Option ListedKey → Type 0
 KeyGot ks i (Some k) = (i < length ks.places.now) × KeyOf ks i k
 KeyGot ks i None = length ks.places.now ≤ i
 
+-- the last key, or none where there is none
+abbrev pub KeyLast : Keys → Option ListedKey → Type 0
+KeyLast ks (Some k) = (0 < length ks.places.now) × KeyOf ks (length ks.places.now - 1) k
+KeyLast ks None = ks.places.now ≡ []
+
 -- a key is the first of those that are left, at the first of their places, and the others are left after it
 pub record KeyTaken (before : KeysLeft) (k : ListedKey) (after : KeysLeft) : Type 0 where
   pub keys : keys_left before ≡ key_listed k ∷ keys_left after
@@ -39,3 +44,14 @@ pub record KeyTaken (before : KeysLeft) (k : ListedKey) (after : KeysLeft) : Typ
 abbrev pub KeyStepped : KeysLeft → Option ListedKey → KeysLeft → Type 0
 KeyStepped before (Some k) after = KeyTaken before k after
 KeyStepped before None after = keys_left before ≡ []
+
+-- a key is the last of those that are left, and the others are left before it
+pub record KeyTakenBack (before : KeysLeft) (k : ListedKey) (after : KeysLeft) : Type 0 where
+  pub places : before.keys.places.now ≡ after.keys.places.now ++ (k.at ∷ [])
+  pub list : k.list.now ≡ before.keys.list.now
+  pub same : after.keys.list.now ≡ before.keys.list.now
+
+-- a step from the back: the last key, or none is left
+abbrev pub KeySteppedBack : KeysLeft → Option ListedKey → KeysLeft → Type 0
+KeySteppedBack before (Some k) after = KeyTakenBack before k after
+KeySteppedBack before None after = before.keys.places.now ≡ []

@@ -17,6 +17,7 @@ pub mod pieces;
 pub mod read_list;
 pub mod refusal;
 pub mod reserved_buckets;
+pub mod roots;
 pub mod skip;
 pub mod survey;
 pub mod table;

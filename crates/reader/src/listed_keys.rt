@@ -1,5 +1,5 @@
 // The keys at some places of a list.
-ghost use Rattle.std.specs.Prelude.{◌≡◌, Bool, ◌+◌, ◌≤◌, ◌<◌, length, drop};
+ghost use Rattle.std.specs.Prelude.{◌≡◌, Bool, ◌+◌, ◌≤◌, ◌<◌, length, take, drop};
 ghost use Rattle.std.specs.List.{prefix_len};
 ghost use Rattle.reader.specs.KeyHere.{Whole, WholeKeys};
 
@@ -23,7 +23,7 @@ pub struct KeysLeft<'a> {
 impl<'a> Keys<'a> {
     ghost use Rattle.wire.specs.Keys.{Key};
     ghost use Rattle.reader.specs.declared.key.ListedKey.{ListedKey};
-    ghost use Rattle.reader.specs.ListedKeys.{key_listed, keys_listed, KeyOf, KeyGot};
+    ghost use Rattle.reader.specs.ListedKeys.{key_listed, keys_listed, KeyOf, KeyGot, KeyLast};
 
     // How many there are.
     pub fn len(&self) -> usize
@@ -51,6 +51,24 @@ impl<'a> Keys<'a> {
             Some(self.at(i))
         } else {
             None
+        }
+    }
+
+    // The last of them, if there is one.
+    pub fn last(&self) -> Option<ListedKey<'a>>
+        ensures { KeyLast self.now result }
+    {
+        self.get(self.len().checked_sub(1)?)
+    }
+
+    // The first of them, so many. Who asks for them shows the bound.
+    pub fn up_to(&self, n: usize) -> Keys<'a>
+        requires { n ≤ length self.now.places.now }
+        ensures { (result.list.now ≡ self.now.list.now) × (result.places.now ≡ take n self.now.places.now) }
+    {
+        Keys {
+            list: self.list,
+            places: &self.places[..n],
         }
     }
 
@@ -94,6 +112,26 @@ impl<'a> Iterator for KeysLeft<'a> {
         let key = ListedKey {
             list: self.keys.list,
             at: *first,
+        };
+        self.keys = Keys {
+            list: self.keys.list,
+            places: others,
+        };
+        Some(key)
+    }
+}
+
+impl<'a> DoubleEndedIterator for KeysLeft<'a> {
+    ghost use Rattle.reader.specs.ListedKeys.{KeySteppedBack};
+
+    ghost next_back_gives = { λ before key after. KeySteppedBack before key after };
+
+    // The last key, if one is left.
+    fn next_back(&mut self) -> Option<ListedKey<'a>> {
+        let (last, others) = self.keys.places.split_last()?;
+        let key = ListedKey {
+            list: self.keys.list,
+            at: *last,
         };
         self.keys = Keys {
             list: self.keys.list,

@@ -1,17 +1,16 @@
 -- The bytes of a release's batch, tree by tree.
 use mathlib.Core.Path.{◌≡◌, refl, sym, ap, ◌∙◌}
-use mathlib.Core.Bool.{Bool, true, false, not, ◌&&◌, ◌||◌}
+use mathlib.Core.Bool.{true, not, ◌&&◌}
 use mathlib.Core.List.{List, [], ◌∷◌, ◌++◌, map, flat_map, append-nil}
-use Prim.Native.Nat.{ℕ, zero, suc, ◌≤◌, ◌<◌}
+use Prim.Native.Nat.{ℕ, ◌≤◌}
 use native.Mathlib.Omega.{arith}
 use lib.IntN.{pos, neg_ℤ, ◌+ℤ◌}
-use lib.ListN.{length, get_or, length-map}
-use Rattle.std.proofs.Common.{None}
+use lib.ListN.{length, length-map}
 use lib.Dec.{eqb}
-use borrow.Author.Tests.{eq-eqb, lt-ltb}
+use borrow.Author.Tests.{lt-ltb}
 use Rattle.wire.specs.Encode.{encode, encode_field}
 use Rattle.wire.specs.Rows.{Counters, row_field}
-use Rattle.wire.specs.Kinds.{bucket_below, bucket_in_range, same_bucket}
+use Rattle.wire.specs.Kinds.{bucket_below, bucket_in_range}
 use Rattle.wire.specs.Positions.{backpointer_at}
 use Rattle.wire.specs.declared.kinds.Bucket.{Bucket}
 use Rattle.wire.proofs.EncodeLaws.{encode-append, encode_one}
@@ -19,31 +18,28 @@ use Rattle.calls.specs.Accounting.{counted_rows, sectors_row, buckets_row}
 use Rattle.calls.specs.CallList.{Volume, Freed, tree_fields}
 use Rattle.calls.specs.ChangeList.{Batch, end_field, batch_fields, change_fields, change_bytes}
 use Rattle.calls.specs.Freespace.{is_in}
-use Rattle.calls.specs.Lists.{all_of, any_of, those, total, in_order}
+use Rattle.calls.specs.Lists.{all_of, those, total, in_order}
 use Rattle.calls.specs.Lru.{need_discard_key}
 use Rattle.calls.specs.Place.{root_missing, roots_if}
-use Rattle.calls.specs.Release.{freed_ok, freed_buckets, freed_in, is_emptied, released_key, released_lru, emptied_gen, gens_queued, unused_change, release_rows, release_batch}
+use Rattle.calls.specs.Release.{freed_buckets, is_emptied, released_key, released_lru, emptied_gen, gens_queued, unused_change, release_rows, release_batch}
 use Rattle.calls.specs.Trees.{deletion}
 use Rattle.calls.proofs.lists.MapLaws.{empty-length}
 use Rattle.calls.proofs.lists.ThoseLaws.{those-length}
 use Rattle.calls.proofs.freespace.UpLaws.{up-order, up-those}
 use Rattle.calls.proofs.lists.BoolLaws.{parts as parts_of}
-use Rattle.calls.proofs.freespace.BucketLaws.{is_in-those, map-in, all_in}
+use Rattle.calls.proofs.freespace.BucketLaws.{is_in-those, all_in}
 use Rattle.calls.proofs.release.ReleaseFits.{named-few}
 use Rattle.calls.proofs.release.ReleaseLaws.{named-range}
-use Rattle.release_sums.specs.Freeds.{PiecesBounded}
-use Rattle.release_sums.specs.Summing.{Sums, sum_of, summed_row, summed_buckets, Listed}
-use Rattle.release_sums.proofs.FoundLaws.{freed-up, found-freed}
+use Rattle.release_sums.proofs.FoundLaws.{freed-up}
 use Rattle.release_keys.specs.Counting.{kept_of, lost_of, Unused-of}
 use Rattle.release_keys.specs.declared.counts.Unused.{Unused}
 use Rattle.change_fields.specs.FieldBytes.{keys_bytes, roots_bytes}
-use Rattle.release_sums.specs.declared.sums.FreedBucket.{FreedBucket}
 use Rattle.release_keys.specs.Emptied.{emptied_row, emptied_buckets}
-use Rattle.release_keys.specs.declared.freed_buckets.Emptied.{Emptied}
-use Rattle.release_keys.specs.Tables.{no_row, row_buckets, RowsHeld, RowsWithin}
-use Rattle.release_keys.proofs.RowLaws.{rows-held, rows-within}
-use Rattle.release.specs.Given.{volume_in, requests_in, change_of}
-use Rattle.release.specs.Outcomes.{RequestsChecked, VolumeTables, BatchTables}
+use Rattle.release_keys.specs.declared.freed_buckets.EmptiedBucket.{EmptiedBucket}
+use Rattle.release_keys.specs.declared.table.HeldTable.{HeldTable}
+use Rattle.release_keys.specs.Given.{volume_in, requests_in}
+use Rattle.release.specs.Given.{change_of}
+use Rattle.release.specs.Outcomes.{BatchTables}
 use Rattle.reader.specs.declared.read_list.ReadList.{ReadList}
 
 -- ---- the change list
@@ -91,76 +87,43 @@ module _ (v : Volume) (rs : List Freed) where
       ∙ ap (λ (m : ℕ). parts emptied m (release_rows v rs all emptied)) a
       ∙ sym (one_batch (release_batch v rs) ∙ batch-bytes emptied e)
 
--- ---- the rows
--- a row's bucket is one of those of the rows
-pub in-at : (rows : List FreedBucket) (j : ℕ) → j < length rows → is_in (row_buckets rows) (get_or rows j no_row).bucket ≡ true
-unfolding is_in any_of
-in-at [] j h = absurd (omega arith)
-in-at (f ∷ rows) zero h = rw (eq-eqb f.bucket.0 f.bucket.0 refl)
-in-at (f ∷ rows) (suc j) h = go (same_bucket f.bucket (get_or rows j no_row).bucket) (in-at rows j (omega arith))
-  where
-    go : (t : Bool) → is_in (row_buckets rows) (get_or rows j no_row).bucket ≡ true → (t || is_in (row_buckets rows) (get_or rows j no_row).bucket) ≡ true
-    go true h = refl
-    go false h = h
-
-pub emptied-named : (generation : Bucket → ℕ) (bs : List Bucket) → emptied_buckets (map (emptied_row generation) bs) ≡ bs
+-- ---- the buckets that are emptied
+emptied-named : (generation : Bucket → ℕ) (bs : List Bucket) → emptied_buckets (map (emptied_row generation) bs) ≡ bs
 emptied-named generation [] = refl
 emptied-named generation (b ∷ bs) = λ x. b ∷ emptied-named generation bs x
 
--- the requests that refusal 14 passed
-pub pieces-bounded : {g : ReadList} → RequestsChecked g → g.head.bucket_sectors < 65536 → PiecesBounded g.list.now g.requests.now
-pieces-bounded {g} p l = record { size = g.head.bucket_sectors; some-sectors = p.some-sectors; small = l; ok = p.checked }
+module _ {t : HeldTable} {records : List ℕ} {emptied : List EmptiedBucket} (d : BatchTables t records emptied) where
+  abbrev g : ReadList
+  g = t.table.read
 
--- no more rows than requests
-pub tables-few : {g : ReadList} {rows : List FreedBucket} {records : List ℕ} → VolumeTables g rows records → length rows ≤ 1024
-tables-few {g} {rows} t =
-    omega (
-      arith,
-      length-map rows (λ (f : FreedBucket). f.bucket),
-      ap length t.tabled.named,
-      named-few g.head.bucket_sectors (requests_in g),
-      t.passed.requested.count,
-      t.passed.few,
-    )
-
-module _ {g : ReadList} {rows : List FreedBucket} {records : List ℕ} {emptied : List Emptied} (d : BatchTables g rows records emptied) where
   abbrev v : Volume
   v = volume_in g
 
   abbrev rs : List Freed
   rs = requests_in g
 
-  pub batch-held : RowsHeld g.list.now rows
-  batch-held = rows-held d.tables.tabled d.none-refuses
-
-  pub batch-within : RowsWithin g.list.now g.head.bucket_sectors rows
-  batch-within = rows-within d.tables.tabled d.none-refuses
-
-  chosen-buckets : emptied_buckets emptied ≡ those (is_emptied v rs) (row_buckets rows)
-  chosen-buckets = ap emptied_buckets d.chosen ∙ emptied-named (emptied_gen v.trees) (those (is_emptied v rs) (row_buckets rows))
+  emptied-are : emptied_buckets emptied ≡ those (is_emptied v rs) (freed_buckets g.head.bucket_sectors rs)
+  emptied-are = ap emptied_buckets d.chosen ∙ emptied-named (emptied_gen v.trees) (those (is_emptied v rs) (freed_buckets g.head.bucket_sectors rs))
 
   -- each with its generation
   pub generations-are : emptied ≡ map (emptied_row (emptied_gen v.trees)) (emptied_buckets emptied)
-  generations-are = d.chosen ∙ ap (map (emptied_row (emptied_gen v.trees))) (sym chosen-buckets)
+  generations-are = d.chosen ∙ ap (map (emptied_row (emptied_gen v.trees))) (sym emptied-are)
 
   -- as many as their buckets
   emptied-count : length emptied ≡ length (emptied_buckets emptied)
-  emptied-count = sym (length-map emptied (λ (e : Emptied). e.bucket))
+  emptied-count = sym (length-map emptied (λ (e : EmptiedBucket). e.bucket))
 
   pub emptied-few : length emptied ≤ 1024
   emptied-few =
       omega (
         arith,
         emptied-count,
-        ap length chosen-buckets,
-        those-length (is_emptied v rs) (row_buckets rows),
-        length-map rows (λ (f : FreedBucket). f.bucket),
-        tables-few d.tables,
+        ap length emptied-are,
+        those-length (is_emptied v rs) (freed_buckets g.head.bucket_sectors rs),
+        named-few g.head.bucket_sectors rs,
+        t.table.checked.requested.count,
+        t.table.checked.few,
       )
-
-  -- as the tree's part of the batch has them
-  emptied-are : emptied_buckets emptied ≡ those (is_emptied v rs) (freed_buckets g.head.bucket_sectors rs)
-  emptied-are = chosen-buckets ∙ ap (those (is_emptied v rs)) d.tables.tabled.named
 
   pub emptied-up : in_order bucket_below (emptied_buckets emptied) ≡ true
   emptied-up =
@@ -174,36 +137,9 @@ module _ {g : ReadList} {rows : List FreedBucket} {records : List ℕ} {emptied 
       all_in bucket_in_range (emptied_buckets emptied)
       (λ b i.
       let m = sym (is_in-those (is_emptied v rs) (freed_buckets n rs) b) ∙ sym (ap (λ (x : List Bucket). is_in x b) emptied-are) ∙ i in
-      lt-ltb b.0 65536 (named-range n rs d.tables.passed.checked b (parts_of (is_emptied v rs b) (is_in (freed_buckets n rs) b) m).1))
+      lt-ltb b.0 65536 (named-range n rs t.table.checked.checked b (parts_of (is_emptied v rs b) (is_in (freed_buckets n rs) b) m).1))
 
   -- the bytes of the batch, by the sums of its rows
-  pub batch-is : (freed : ℕ) (u : Unused) → freed ≡ total (λ (r : Freed). r.sectors) rs → Unused-of v rs (row_buckets rows) u
+  pub batch-is : (freed : ℕ) (u : Unused) → freed ≡ total (λ (r : Freed). r.sectors) rs → Unused-of v rs (freed_buckets g.head.bucket_sectors rs) u
       → parts v rs (emptied_buckets emptied) (length emptied) (summed v rs (length emptied) freed u.kept u.lost) ≡ change_of g
-  batch-is freed u f o =
-      parts-are v rs (emptied_buckets emptied) (length emptied) freed u.kept u.lost emptied-are emptied-count f (o.kept ∙ ap (total (kept_of v rs)) d.tables.tabled.named) (o.lost ∙ ap (total (lost_of v rs)) d.tables.tabled.named)
-
--- ---- the requests, listed
--- a row's sum
-with-sum : (f g : Bucket → ℕ) (bs : List Bucket) → map f bs ≡ map g bs → map (summed_row f) bs ≡ map (summed_row g) bs
-with-sum f g [] e = refl
-with-sum f g (b ∷ bs) e =
-    let h : f b ≡ g b = cc in
-    let t : map f bs ≡ map g bs = cc in
-    λ x. record { bucket = b; freed = h x; place = None } ∷ with-sum f g bs t x
-
-pub listed-freed : {sectors : ℕ} {rs : List Freed} {sums : List ℕ} {rows : List FreedBucket} {n : ℕ} → Sums sectors rs sums → all_of (freed_ok sectors) rs ≡ true
-    → Listed (summed_buckets sums) (summed_row (sum_of sums)) rows n → Listed (freed_buckets sectors rs) (summed_row (freed_in sectors rs)) rows n
-listed-freed {sectors} {rs} {sums} s ok l =
-    let e = found-freed sectors rs sums s ok in
-    record {
-      count = l.count ∙ ap length e;
-      listed =
-          l.listed ∙ ap (map (summed_row (sum_of sums))) e
-          ∙ with-sum (sum_of sums) (freed_in sectors rs) (freed_buckets sectors rs)
-          (map-in (sum_of sums) (freed_in sectors rs) (freed_buckets sectors rs) (λ b m. s.at b (lt-ltb b.0 65536 (named-range sectors rs ok b m))));
-    }
-
--- no more are picked than there are
-pub listed-short : (t : Bucket → Bool) (rows : List FreedBucket) {A : Type 0} {row : Bucket → A} {table : List A} {n : ℕ} → Listed (those t (row_buckets rows)) row table n
-    → n ≤ length rows
-listed-short t rows l = omega (arith, l.count, those-length t (row_buckets rows), length-map rows (λ (f : FreedBucket). f.bucket))
+  batch-is freed u f o = parts-are v rs (emptied_buckets emptied) (length emptied) freed u.kept u.lost emptied-are emptied-count f o.kept o.lost

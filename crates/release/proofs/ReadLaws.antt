@@ -3,14 +3,14 @@ use mathlib.Core.Path.{◌≡◌, refl, sym, ap, ◌∙◌, subst}
 use mathlib.Core.Bool.{Bool, true}
 use Rattle.std.proofs.Common.{Some}
 use mathlib.Core.List.{List, [], ◌∷◌, ◌++◌, map}
-use Prim.Native.Nat.{ℕ, suc, ◌-◌, ◌≤◌, ◌<◌}
+use Prim.Native.Nat.{ℕ, suc, ◌≤◌, ◌<◌}
 use native.Mathlib.Omega.{arith}
 use lib.ListN.{length, get_or, take, drop, replicate, length-append, length-drop, length-replicate, get_or-append}
 use lib.Seq.{drop_at}
 use borrow.Author.Tests.{le-leb, lt-leb, lt-ltb, le-ltb, ltb-true}
 use Rattle.wire.specs.Keys.{Key}
 use Rattle.calls.specs.CallList as calls
-use Rattle.calls.specs.CallList.{Volume, Freed, freed_of, keys_ok, call_laid_out, none_twice}
+use Rattle.calls.specs.CallList.{Volume, Freed, freed_of, keys_ok, keys_ascend, snapshots_ok, call_laid_out, none_twice}
 use Rattle.calls.specs.Limits.{list_within}
 use Rattle.calls.specs.Answers.{Answer, answer, read_call, read_volume, release, Outcome, made, outcome, scratch_after}
 use Rattle.calls.specs.ChangeList.{change_bytes}
@@ -18,20 +18,19 @@ use Rattle.calls.specs.Refusals.{test}
 use Rattle.calls.specs.Release.{alloc_value, dirty_at, is_emptied, bucket_refusal, release_tests, released_key, released_lru, emptied_gen, unused_change, release_rows, release_batch}
 use Rattle.calls.proofs.answers.AnswerLaws.{release-is}
 use Rattle.calls.proofs.answers.OutcomeLaws.{answer-next, answer-stops, refused}
+use Rattle.calls.proofs.lists.BoolLaws.{parts}
 use Rattle.calls.proofs.trees.SixTrees.{EachTree, trees-each}
-use Rattle.reader.specs.KeyHere.{keys_here}
+use Rattle.reader.specs.ListedKeys.{keys_listed}
 use Rattle.reader.specs.Heads.{head_in}
-use Rattle.reader.specs.Located.{KeysAt, FreedAt, no_freed, FreedsAt}
+use Rattle.reader.specs.Located.{FreedAt, no_freed, FreedsAt}
 use Rattle.reader.specs.Readings.{call_refusal, ReadAs}
 use Rattle.reader.specs.declared.head.Head.{Head}
 use Rattle.reader.specs.declared.read_list.ReadList.{ReadList}
 use Rattle.reader.proofs.CheckedLaws.{checked}
-use Rattle.reader.proofs.KeyHereLaws.{keyed, keys-here}
-use Rattle.reader.proofs.PartsLaws.{passed, read-on, read-refused, located, freeds-read}
+use Rattle.reader.proofs.PartsLaws.{passed, read-on, read-refused, freeds-read}
 use Rattle.release_sums.specs.Freeds.{freeds_in, Requested}
 use Rattle.release_sums.specs.Summing.{Cleared}
-use Rattle.release_keys.specs.Places.{Keyed}
-use Rattle.release.specs.Given.{volume_of}
+use Rattle.release_keys.specs.Given.{volume_of}
 use Rattle.release.proofs.TopLaws.{zeros-at}
 
 -- ---- what offsets find
@@ -41,10 +40,6 @@ freeds-map s [] [] e h = refl
 freeds-map s [] (r ∷ rs) e h = absurd (omega arith)
 freeds-map s (o ∷ os) [] e h = absurd (omega arith)
 freeds-map s (o ∷ os) (r ∷ rs) e h = λ x. (h 0 (omega arith)).is x ∷ freeds-map s os rs (omega arith) (λ i l. h (suc i) (omega arith)) x
-
--- keys that ascend
-pub keyed-ok : {s os : List ℕ} {ks : List Key} → KeysAt s os ks → keys_ok ks ≡ true → Keyed s os × (keys_ok (keys_here s os) ≡ true)
-keyed-ok q h = (keyed q, ap keys_ok (sym (keys-here q)) ∙ h)
 
 module _ {s os : List ℕ} {rs : List Freed} (q : FreedsAt s os rs) where
   freeds-found : freeds_in s os ≡ rs
@@ -92,19 +87,24 @@ module _ (s : List ℕ) (n room : ℕ) where
   release-refused h l = past-1 h ∙ read-refused 2 s later bytes room _ refl l
 
   -- the answer of the parts
-  parts-answer : {h : Head} {alloc gens requests : List ℕ} → 65536 ≤ n → 0 ≡ call_refusal 2 s → head_in h ≡ (read_volume s).head → KeysAt s alloc (read_volume s).trees.alloc
-      → KeysAt s gens (read_volume s).trees.gens → FreedsAt s requests (read_call s).releases
-      → answer_of (head_in h) (keys_here s alloc) (keys_here s gens) (freeds_in s requests) room ≡ release s n room
+  parts-answer : {h : Head} {alloc gens : List Key} {requests : List ℕ} → 65536 ≤ n → 0 ≡ call_refusal 2 s → head_in h ≡ (read_volume s).head → alloc ≡ (read_volume s).trees.alloc
+      → gens ≡ (read_volume s).trees.gens → FreedsAt s requests (read_call s).releases
+      → answer_of (head_in h) alloc gens (freeds_in s requests) room ≡ release s n room
   parts-answer {h} {alloc} {gens} {requests} l z e a g f =
       let v = read_volume s in
       let rs = (read_call s).releases in
-      ap (λ x. answer_of x (keys_here s alloc) (keys_here s gens) (freeds_in s requests) room) e
-      ∙ ap (λ x. answer_of v.head x (keys_here s gens) (freeds_in s requests) room) (sym (keys-here a))
-      ∙ ap (λ x. answer_of v.head v.trees.alloc x (freeds_in s requests) room) (sym (keys-here g))
+      ap (λ x. answer_of x alloc gens (freeds_in s requests) room) e
+      ∙ ap (λ x. answer_of v.head x gens (freeds_in s requests) room) a
+      ∙ ap (λ x. answer_of v.head v.trees.alloc x (freeds_in s requests) room) g
       ∙ ap (λ x. answer_of v.head v.trees.alloc v.trees.gens x room) (freeds-found f)
       ∙ ap (λ x. answer x (change_bytes (release_batch (volume_of v.head v.trees.alloc v.trees.gens) rs ∷ [])) room) (same_tests v rs)
       ∙ ap (λ x. answer later (change_bytes (x ∷ [])) room) (same-batch v rs)
       ∙ sym (past-1 l ∙ read-on 2 s later bytes room z)
+
+-- keys that are tested ascend
+ascend : (ks : List Key) → keys_ok ks ≡ true → keys_ascend ks ≡ true
+unfolding keys_ok
+ascend ks h = (parts (keys_ascend ks) (snapshots_ok ks) h).0
 
 -- the layout's trees
 trees-ok : (s : List ℕ) → 0 ≡ call_refusal 2 s → EachTree (λ ks. keys_ok ks ≡ true) (read_volume s).trees
@@ -142,20 +142,18 @@ module _ (l m : List ℕ) (h : 65536 ≤ length l) (e : m ≡ replicate 65536 0 
 -- ---- a list that was read
 module _ {r : ReadList} (q : ReadAs (Some 2) r) where
   -- what `release_lists` requires
-  pub read-keyed : Keyed r.list.now r.alloc.places.now × (keys_ok (keys_here r.list.now r.alloc.places.now) ≡ true) × Keyed r.list.now r.gens.places.now
-  read-keyed =
-      let a = keyed-ok (located q).alloc (trees-ok r.list.now q.passed).alloc in
-      (a.0, a.1, keyed (located q).gens)
+  pub read-ascend : keys_ascend (keys_listed r.alloc) ≡ true
+  read-ascend = ap keys_ascend q.read.alloc.are ∙ ascend (read_volume r.list.now).trees.alloc (trees-ok r.list.now q.passed).alloc
 
   pub read-requested : Requested r.list.now r.requests.now × (length r.requests.now ≤ 1024)
   read-requested = let f = freeds-read q in (requested f.0, f.1)
 
   -- its outcome is the call's
   pub read-outcome : (n : ℕ) → 65536 ≤ n → (out : List ℕ) {m : Outcome}
-      → m ≡ outcome (answer_of (head_in r.head) (keys_here r.list.now r.alloc.places.now) (keys_here r.list.now r.gens.places.now) (freeds_in r.list.now r.requests.now) (length out)) out
+      → m ≡ outcome (answer_of (head_in r.head) (keys_listed r.alloc) (keys_listed r.gens) (freeds_in r.list.now r.requests.now) (length out)) out
       → m ≡ outcome (release r.list.now n (length out)) out
   read-outcome n l out p =
-      p ∙ ap (λ (a : Answer). outcome a out) (parts-answer r.list.now n (length out) {h = r.head} l q.passed q.read.head (located q).alloc (located q).gens (freeds-read q).0)
+      p ∙ ap (λ (a : Answer). outcome a out) (parts-answer r.list.now n (length out) {h = r.head} l q.passed q.read.head q.read.alloc.are q.read.gens.are (freeds-read q).0)
 
 -- ---- the outcome of a call that refusal 1 stops
 pub short_outcome : (s : List ℕ) (n : ℕ) (out : List ℕ) → n < 65536 → made 1 0 out ≡ outcome (release s n (length out)) out

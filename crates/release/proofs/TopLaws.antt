@@ -4,85 +4,26 @@ use mathlib.Core.Bool.{Bool, true, false, not}
 use mathlib.Core.List.{List, [], ◌∷◌, ◌++◌, map}
 use Prim.Native.Nat.{ℕ, zero, suc, ◌≤◌, ◌<◌}
 use native.Mathlib.Omega.{arith}
-use lib.ListN.{length, get_or, drop, replicate, length-map}
+use lib.ListN.{length, get_or, drop, replicate}
 use borrow.Author.Tests.{eq-eqb, ne_eqb, lt-ltb}
-use Rattle.wire.specs.Kinds.{bucket_below}
-use Rattle.wire.specs.declared.kinds.Bucket.{Bucket}
 use Rattle.calls.specs.Answers.{Answer, answer, Outcome, made, outcome}
 use Rattle.calls.specs.CallList.{Volume, Freed}
-use Rattle.calls.specs.Freespace.{is_in}
-use Rattle.calls.specs.Lists.{all_of, in_order}
+use Rattle.calls.specs.Lists.{all_of}
 use Rattle.calls.specs.Refusals.{test, verdict}
-use Rattle.calls.specs.Release.{freed_ok, freed_buckets, freed_in, bucket_refusal, release_tests}
-use Rattle.calls.proofs.freespace.UpLaws.{up-order}
+use Rattle.calls.specs.Release.{freed_ok, freed_buckets, bucket_refusal, release_tests}
 use Rattle.calls.proofs.answers.OutcomeLaws.{answer-next, answer-stops, refused}
-use Rattle.calls.proofs.release.ReleaseLaws.{named-range}
 use Rattle.calls.proofs.history.View.{bucket}
 use Rattle.release_sums.specs.Freeds.{Requested}
-use Rattle.release_sums.specs.Summing.{Cleared, summed_row}
-use Rattle.release_sums.proofs.FoundLaws.{freed-up}
-use Rattle.release_sums.specs.declared.sums.FreedBucket.{FreedBucket}
-use Rattle.release_keys.specs.Tables.{no_row, row_buckets, PlacesOf, FreedTables}
-use Rattle.release.specs.Given.{volume_in, requests_in, change_of}
-use Rattle.release.specs.Outcomes.{RequestsChecked, Summed, bucket_tests}
+use Rattle.release_sums.specs.Summing.{Cleared}
+use Rattle.release_keys.specs.Given.{volume_in, requests_in, RequestsChecked}
+use Rattle.release.specs.Given.{change_of}
+use Rattle.release.specs.Outcomes.{bucket_tests}
 use Rattle.reader.specs.declared.read_list.ReadList.{ReadList}
-use Rattle.release.proofs.BatchLaws.{in-at}
 
--- ---- the freed buckets, listed
-pub checked-made : {g : ReadList} → Requested g.list.now g.requests.now → length g.requests.now ≤ 1024 → 0 < g.head.bucket_sectors → all_of (freed_ok g.head.bucket_sectors) (requests_in g) ≡ true → RequestsChecked g
-checked-made q f h ok = record { requested = q; few = f; some-sectors = h; checked = ok }
-
--- each row's bucket, and its sum
-summed-named : (value : Bucket → ℕ) (bs : List Bucket) → row_buckets (map (summed_row value) bs) ≡ bs
-summed-named value [] = refl
-summed-named value (b ∷ bs) = λ x. b ∷ summed-named value bs x
-
-summed-at : (value : Bucket → ℕ) (bs : List Bucket) (i : ℕ) → i < length bs
-    → (get_or (map (summed_row value) bs) i no_row).freed ≡ value (get_or (map (summed_row value) bs) i no_row).bucket
-summed-at value [] i h = absurd (omega arith)
-summed-at value (b ∷ bs) zero h = refl
-summed-at value (b ∷ bs) (suc i) h = summed-at value bs i (omega arith)
-
--- rows whose keys are placed have the buckets that they had
-placed-named : (before after : List FreedBucket) → length after ≡ length before
-    → ((i : ℕ) → i < length before → (get_or after i no_row).bucket ≡ (get_or before i no_row).bucket) → row_buckets after ≡ row_buckets before
-placed-named [] [] e h = refl
-placed-named [] (g ∷ after) e h = absurd (omega arith)
-placed-named (f ∷ before) [] e h = absurd (omega arith)
-placed-named (f ∷ before) (g ∷ after) e h = λ x. h 0 (omega arith) x ∷ placed-named before after (omega arith) (λ i l. h (suc i) (omega arith)) x
-
-module _ {g : ReadList} {rows : List FreedBucket} (m : Summed g rows) where
-  abbrev sectors : ℕ
-  sectors = g.head.bucket_sectors
-
-  abbrev pieces : List Freed
-  pieces = requests_in g
-
-  named : row_buckets rows ≡ freed_buckets sectors pieces
-  named = ap row_buckets m.listed ∙ summed-named (freed_in sectors pieces) (freed_buckets sectors pieces)
-
-  pub summed-up : in_order bucket_below (row_buckets rows) ≡ true
-  summed-up = rw named (up-order 0 (freed_buckets sectors pieces) (freed-up sectors pieces))
-
-  sums : (i : ℕ) → i < length rows → (get_or rows i no_row).freed ≡ freed_in sectors pieces (get_or rows i no_row).bucket
-  sums i h =
-      rw m.listed (summed-at (freed_in sectors pieces) (freed_buckets sectors pieces) i (omega (arith, ap length m.listed, length-map (freed_buckets sectors pieces) (summed_row (freed_in sectors pieces)))))
-
-  -- the table
-  pub tables-made : {after : List FreedBucket} → PlacesOf g.list.now (volume_in g).trees.alloc rows after → FreedTables g.list.now (volume_in g) pieces after
-  tables-made {after} p =
-      record {
-        named = placed-named rows after p.count (λ i h. (p.at i h).bucket) ∙ named;
-        at = λ i l.
-            let h : i < length rows = omega (arith, p.count) in
-            let q = p.at i h in
-            let b = (get_or rows i no_row).bucket in
-            record {
-              low = rw q.bucket (lt-ltb b.0 65536 (named-range sectors pieces m.passed.checked b (ap (λ (l : List Bucket). is_in l b) (sym named) ∙ in-at rows i h)));
-              freed = q.freed ∙ sums i h ∙ rw q.bucket refl;
-              key = rw q.bucket q.key;
-            };
-      }
+-- ---- the requests
+pub checked-made : {g : ReadList} → Requested g.list.now g.requests.now → length g.requests.now ≤ 1024 → 0 < g.head.bucket_sectors → g.head.bucket_sectors < 65536
+    → all_of (freed_ok g.head.bucket_sectors) (requests_in g) ≡ true → RequestsChecked g
+checked-made q f h l ok = record { requested = q; few = f; some-sectors = h; small = l; checked = ok }
 
 -- ---- refusals 15 to 19, and what follows
 module _ (g : ReadList) (room : ℕ) (out : List ℕ) (r : ℕ) (e : r ≡ verdict (map (bucket_refusal (volume_in g) (requests_in g)) (freed_buckets g.head.bucket_sectors (requests_in g)))) where

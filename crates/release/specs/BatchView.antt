@@ -5,8 +5,8 @@ use Rattle.release.specs.Outcomes.{BatchTables}
 use Rattle.release.specs.declared.batch.ReleaseBatch.TheInside.{Inside}
 
 abbrev pub batch_view : Inside → List ℕ
-batch_view b = change_of b.read
+batch_view b = change_of b.held.table.read
 
--- no refusal stops it, and its tables are filled
+-- its tables are filled
 abbrev pub IsBatch : Inside → Type 0
-IsBatch b = BatchTables b.read b.rows.now b.records.now b.emptied.now
+IsBatch b = BatchTables b.held b.records.now b.emptied.now

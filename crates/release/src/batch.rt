@@ -7,20 +7,18 @@ ghost use Rattle.release.specs.Outcomes.{BatchTables};
 use accounting::released;
 use change_fields::batch_end;
 use reader::answer::Emit;
-use reader::read_list::ReadList;
-use release_keys::freed_buckets::Emptied;
+use release_keys::freed_buckets::EmptiedBucket;
+use release_keys::table::HeldTable;
 use release_keys::{alloc_keys, backpointers, counts, gen_records, lru_keys, need_discards, roots};
-use release_sums::sums::FreedBucket;
 use std::marker::Model;
 use wire::output::Output;
 
-// A release that no refusal stops, with its list and its tables: the freed buckets, the generation records, and the buckets that are emptied. A clause sees its change list.
+// A release that no refusal stops: its table, the generation records, and the buckets that are emptied. A clause sees its change list.
 #[derive(Drop)]
 pub struct ReleaseBatch<'a> {
-    read: ReadList<'a>,
-    rows: &'a [FreedBucket],
+    held: HeldTable<'a>,
     records: &'a [u32],
-    emptied: &'a [Emptied],
+    emptied: &'a [EmptiedBucket],
 }
 
 impl<'a> Model for ReleaseBatch<'a> {
@@ -36,19 +34,17 @@ impl<'a> Model for ReleaseBatch<'a> {
 }
 
 impl<'a> ReleaseBatch<'a> {
-    // The batch of the tables. The refusals show what is required.
+    // The batch of a table. `find_records` and `find_emptied` show what is required.
     pub fn new(
-        read: ReadList<'a>,
-        rows: &'a [FreedBucket],
+        held: HeldTable<'a>,
         records: &'a [u32],
-        emptied: &'a [Emptied],
+        emptied: &'a [EmptiedBucket],
     ) -> ReleaseBatch<'a>
-        requires { BatchTables read rows.now records.now emptied.now }
-        ensures { result ≡ change_of read.entry }
+        requires { BatchTables held records.now emptied.now }
+        ensures { result ≡ change_of held.entry.table.read }
     {
         ReleaseBatch {
-            read,
-            rows,
+            held,
             records,
             emptied,
         }
@@ -60,17 +56,17 @@ impl<'a> Emit for ReleaseBatch<'a> {
 
     // The one batch, in the order of its tags.
     fn emit(&self, out: &mut Output) {
-        let read = &self.read;
-        let sectors = read.head.bucket_sectors as u64;
+        let table = &self.held.table;
+        let read = &table.read;
         let count = self.emptied.len();
-        let total = counts::total_freed(read.list, read.requests);
-        let unused = counts::unused_in(read.list, sectors, self.rows);
-        alloc_keys::put_allocs(out, read.list, read.head.journal, self.rows);
-        lru_keys::put_lrus(out, read.list, sectors, self.rows);
+        let total = counts::total_freed(table);
+        let unused = counts::unused_in(&self.held);
+        alloc_keys::put_allocs(out, &self.held);
+        lru_keys::put_lrus(out, &self.held);
         need_discards::put_need_discards(out, read.head.journal, self.emptied);
-        backpointers::put_backpointers(out, read.list, read.requests);
-        gen_records::put_gens(out, read.list, self.records, self.emptied);
-        roots::put_roots(out, count, read.head.roots);
+        backpointers::put_deletions(out, table);
+        gen_records::put_gens(out, read.gens.list, self.records, self.emptied);
+        roots::put_roots(out, count != 0, read.head.roots);
         released::put_rows(out, count as u64, total, unused.kept, unused.lost);
         batch_end::put_end(out);
     }

@@ -6,6 +6,7 @@ use mathlib.Core.Option.{some}
 use Prim.Native.Nat.{ℕ, zero, suc, ◌+◌, ◌/◌, ◌≤◌, ◌<◌}
 use native.Mathlib.Omega.{arith}
 use lib.ListN.{length, get_or, drop, drop_of_length-le}
+use borrow.Author.Tests.{ltb-true}
 use Rattle.std.proofs.lemmas.List.{drop-map}
 use Rattle.wire.specs.Keys.{Key}
 use Rattle.wire.specs.Order.{cmp, pos_same}
@@ -26,7 +27,7 @@ use Rattle.calls.proofs.lists.AllOfLaws.{all-of-drop, all-of-first}
 use Rattle.calls.specs.Generations.{gen_record, gen_key, gen_queued}
 use Rattle.calls.specs.Release.{gens_queued}
 use Rattle.calls.specs.Trees.{lookup, new_key}
-use Rattle.calls.proofs.lists.BoolLaws.{clash}
+use Rattle.calls.proofs.lists.BoolLaws.{clash, parts}
 use Rattle.std.proofs.Common.{Some, None}
 use Rattle.std.proofs.Common as std
 use Rattle.calls.proofs.trees.TreeLaws.{on_eq-ne}
@@ -36,10 +37,24 @@ use Rattle.gens.specs.Records.{record_at}
 use Rattle.change_fields.specs.FieldBytes.{keys_bytes}
 use Rattle.release_keys.specs.GenRecords.{continued, next_queued}
 use Rattle.release_keys.specs.Emptied.{emptied_row, emptied_buckets}
-use Rattle.release_keys.specs.declared.freed_buckets.Emptied.{Emptied}
+use Rattle.release_keys.specs.declared.freed_buckets.EmptiedBucket.{EmptiedBucket}
 use Rattle.wire.specs.declared.keys.Bkey.{Bkey}
 use Rattle.change_fields.proofs.FieldLists.{fields-next, fields-none}
-use Rattle.release_keys.proofs.AllocLaws.{order-at}
+
+-- ---- ascending buckets
+-- of rows that name them
+order-at : {A : Type 0} (named : A → Bucket) (xs : List A) (d : A) → in_order bucket_below (map named xs) ≡ true → (i j : ℕ) → i ≤ j → j < length xs
+    → (named (get_or xs i d)).0 ≤ (named (get_or xs j d)).0
+unfolding in_order
+order-at named [] d o i j h l = absurd (omega arith)
+order-at named (n ∷ []) d o i j h l = let a : i ≡ 0 = omega arith in let b : j ≡ 0 = omega arith in rw (a, b) (omega arith)
+order-at named (n ∷ m ∷ ns) d o zero zero h l = omega arith
+order-at named (n ∷ m ∷ ns) d o zero (suc j) h l =
+    let p = parts (bucket_below (named n) (named m)) _ o in
+    omega (arith, ltb-true (named n).0 (named m).0 p.0, order-at named (m ∷ ns) d p.1 zero j (omega arith) (omega arith))
+order-at named (n ∷ m ∷ ns) d o (suc i) zero h l = absurd (omega arith)
+order-at named (n ∷ m ∷ ns) d o (suc i) (suc j) h l =
+    order-at named (m ∷ ns) d (parts (bucket_below (named n) (named m)) _ o).1 i j (omega arith) (omega arith)
 
 -- ---- a bucket's record in the tree, by its entry
 module _ (s : List ℕ) (gens : List Key) (b : Bucket) where
@@ -83,27 +98,27 @@ module _ (k : Key) (records : List Key) (b : Bucket) (t : k.type ≡ 30) (p : k.
 
 -- ---- the rows
 -- a row for an index that none has
-abbrev pub no_emptied : Emptied
+abbrev pub no_emptied : EmptiedBucket
 no_emptied = record { bucket = no_bucket; generation = 0 }
 
-pub emptied-next : (rows : List Emptied) (k : ℕ) → k < length rows
+pub emptied-next : (rows : List EmptiedBucket) (k : ℕ) → k < length rows
     → emptied_buckets (drop k rows) ≡ (get_or rows k no_emptied).bucket ∷ emptied_buckets (drop (k + 1) rows)
 emptied-next rows k h = ap emptied_buckets (drop-next no_emptied rows k h)
 
-pub emptied-none : (rows : List Emptied) (k : ℕ) → length rows ≤ k → emptied_buckets (drop k rows) ≡ []
+pub emptied-none : (rows : List EmptiedBucket) (k : ℕ) → length rows ≤ k → emptied_buckets (drop k rows) ≡ []
 emptied-none rows k h = ap emptied_buckets (drop_of_length-le rows h)
 
 -- each is within the limit
-pub range_at : (rows : List Emptied) → all_of bucket_in_range (emptied_buckets rows) ≡ true → (k : ℕ) → k < length rows
+pub range_at : (rows : List EmptiedBucket) → all_of bucket_in_range (emptied_buckets rows) ≡ true → (k : ℕ) → k < length rows
     → bucket_in_range (get_or rows k no_emptied).bucket ≡ true
 range_at rows o k h =
-    all-of-first bucket_in_range (all-of-drop bucket_in_range (emptied_buckets rows) k o) (drop-map (λ (e : Emptied). e.bucket) k rows ∙ emptied-next rows k h)
+    all-of-first bucket_in_range (all-of-drop bucket_in_range (emptied_buckets rows) k o) (drop-map (λ (e : EmptiedBucket). e.bucket) k rows ∙ emptied-next rows k h)
 
 -- the generation at an index
-pub generation-at : (generation_of : Bucket → ℕ) (rows : List Emptied) (k : ℕ) → k < length rows → rows ≡ map (emptied_row generation_of) (emptied_buckets rows)
+pub generation-at : (generation_of : Bucket → ℕ) (rows : List EmptiedBucket) (k : ℕ) → k < length rows → rows ≡ map (emptied_row generation_of) (emptied_buckets rows)
     → (get_or rows k no_emptied).generation ≡ generation_of (get_or rows k no_emptied).bucket
 generation-at generation_of [] k h e = absurd (omega arith)
-generation-at generation_of (n ∷ ns) zero h e = let d : n ≡ emptied_row generation_of n.bucket = cc in ap (λ (x : Emptied). x.generation) d
+generation-at generation_of (n ∷ ns) zero h e = let d : n ≡ emptied_row generation_of n.bucket = cc in ap (λ (x : EmptiedBucket). x.generation) d
 generation-at generation_of (n ∷ ns) (suc k) h e = generation-at generation_of ns k (omega arith) (let d : ns ≡ map (emptied_row generation_of) (emptied_buckets ns) = cc in d)
 
 -- ---- the loop
@@ -122,13 +137,13 @@ apart gens (Some last) c n h l z = go (pos_same last.head.pos (gens_at c)) refl
     go false e = refl
 
 -- On its way: the rows from index k on are left, and their records continue the last one or the tree's.
-pub record Queue (gens : List Key) (generation_of : Bucket → ℕ) (rows : List Emptied) (before out : Output) (k : ℕ) (last : std.Option Bkey) : Type 0 where
+pub record Queue (gens : List Key) (generation_of : Bucket → ℕ) (rows : List EmptiedBucket) (before out : Output) (k : ℕ) (last : std.Option Bkey) : Type 0 where
   pub records : List Key
   pub part : with_bytes out (keys_bytes 14 (gens_queued generation_of records (emptied_buckets (drop k rows)))) ≡ with_bytes before (keys_bytes 14 (gens_queued generation_of gens (emptied_buckets rows)))
   pub continues : (j : ℕ) → k ≤ j → j < length rows → gen_key records (get_or rows j no_emptied).bucket ≡ continued gens last (get_or rows j no_emptied).bucket
   pub ahead : (j : ℕ) → k ≤ j → j < length rows → Behind last ((get_or rows j no_emptied).bucket.0 / 256)
 
-pub queue-starts : (gens : List Key) (generation_of : Bucket → ℕ) (rows : List Emptied) (out : Output) → Queue gens generation_of rows out out 0 None
+pub queue-starts : (gens : List Key) (generation_of : Bucket → ℕ) (rows : List EmptiedBucket) (out : Output) → Queue gens generation_of rows out out 0 None
 queue-starts gens generation_of rows out =
     record { records = gens; part = refl; continues = λ j l m. refl; ahead = λ j l m. tt }
 
@@ -138,7 +153,7 @@ unfolding gens_queued
 queue-next generation_of records e =
     fields-next (key_field 14) (ap (gens_queued generation_of records) e)
 
-module _ {gens : List Key} {generation_of : Bucket → ℕ} {rows : List Emptied} {before out : Output} {k : ℕ} {last : std.Option Bkey} (q : Queue gens generation_of rows before out k last)
+module _ {gens : List Key} {generation_of : Bucket → ℕ} {rows : List EmptiedBucket} {before out : Output} {k : ℕ} {last : std.Option Bkey} (q : Queue gens generation_of rows before out k last)
     (o : in_order bucket_below (emptied_buckets rows) ≡ true) (h : k < length rows) where
   abbrev here : Bucket
   here = (get_or rows k no_emptied).bucket
@@ -162,8 +177,8 @@ module _ {gens : List Key} {generation_of : Bucket → ℕ} {rows : List Emptied
         part =
             rw (w, i, with-with)
             (ap (with_bytes out) (sym (queue-next generation_of q.records (emptied-next rows k h))) ∙ q.part);
-        continues = λ j l m. go (get_or rows j no_emptied).bucket (q.continues j (omega arith) m) (order-at (λ (x : Emptied). x.bucket) rows no_emptied o k j (omega arith) m) i place (pos_same next.head.pos (gens_at (get_or rows j no_emptied).bucket)) refl;
-        ahead = λ j l m. omega (arith, ap (λ (x : Bpos). x.offset) place, order-at (λ (x : Emptied). x.bucket) rows no_emptied o k j (omega arith) m);
+        continues = λ j l m. go (get_or rows j no_emptied).bucket (q.continues j (omega arith) m) (order-at (λ (x : EmptiedBucket). x.bucket) rows no_emptied o k j (omega arith) m) i place (pos_same next.head.pos (gens_at (get_or rows j no_emptied).bucket)) refl;
+        ahead = λ j l m. omega (arith, ap (λ (x : Bpos). x.offset) place, order-at (λ (x : EmptiedBucket). x.bucket) rows no_emptied o k j (omega arith) m);
       }
     where
       -- a later bucket's record continues the one that is queued, or the tree's
@@ -179,7 +194,7 @@ module _ {gens : List Key} {generation_of : Bucket → ℕ} {rows : List Emptied
           ∙ f
           ∙ apart gens last c (here.0 / 256) (q.ahead k (omega arith) h) (omega arith) (λ x. y (sym x))
 
-pub queue-ends : {gens : List Key} {generation_of : Bucket → ℕ} {rows : List Emptied} {before out : Output} {k : ℕ} {last : std.Option Bkey} → Queue gens generation_of rows before out k last
+pub queue-ends : {gens : List Key} {generation_of : Bucket → ℕ} {rows : List EmptiedBucket} {before out : Output} {k : ℕ} {last : std.Option Bkey} → Queue gens generation_of rows before out k last
     → length rows ≤ k → out ≡ with_bytes before (keys_bytes 14 (gens_queued generation_of gens (emptied_buckets rows)))
 unfolding gens_queued
 queue-ends {generation_of = generation_of} {rows = rows} {out = out} {k = k} q h =

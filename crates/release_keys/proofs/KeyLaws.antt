@@ -1,14 +1,15 @@
 -- The keys that a freed bucket leaves.
-use mathlib.Core.Path.{◌≡◌, ap}
-use mathlib.Core.Bool.{cond}
+use mathlib.Core.Path.{◌≡◌, sym, ap, ◌∙◌}
+use mathlib.Core.Bool.{Bool, true, false, cond}
 use mathlib.Core.List.{List, [], ◌++◌, append-nil}
 use Prim.Native.Nat.{ℕ, ◌^◌, ◌<◌}
 use native.Mathlib.Nat.{div-lt_iff_lt-mul}
 use native.Mathlib.Omega.{arith}
-use lib.Dec.{eqb}
-use borrow.Author.Tests.{eq-eqb, ne_eqb}
 use Rattle.wire.specs.Keys.{Key}
 use Rattle.wire.specs.Encode.{key_field}
+use Rattle.wire.specs.Output.{with_bytes}
+use Rattle.wire.specs.declared.output.Output.{Output}
+use Rattle.wire.proofs.AppendLaws.{with-none, with-with}
 use Rattle.wire.specs.Positions.{need_discard_at}
 use Rattle.wire.specs.declared.bpos.Bpos.{Bpos}
 use Rattle.wire.specs.declared.kinds.Bucket.{Bucket}
@@ -29,8 +30,18 @@ unfolding need_discard_key
 wait-is journal b pos e = ap (λ (p : Bpos). new_key 25 0 p []) e
 
 -- ---- LRU keys
-pub lru-emptied : (ds ks : List Key) (f o : ℕ) → f ≡ o → keys_bytes 10 (ds ++ cond (eqb f o) [] ks) ≡ keys_bytes 10 ds
-lru-emptied ds ks f o e = rw (eq-eqb f o e, append-nil ds)
+module _ (ds ks : List Key) (t : Bool) where
+  pub lru-emptied : t ≡ true → keys_bytes 10 (ds ++ cond t [] ks) ≡ keys_bytes 10 ds
+  lru-emptied e = rw (e, append-nil ds)
 
-pub lru-left : (ds ks : List Key) (f o : ℕ) → (f ≡ o → ⊥) → keys_bytes 10 (ds ++ cond (eqb f o) [] ks) ≡ keys_bytes 10 ds ++ keys_bytes 10 ks
-lru-left ds ks f o e = rw (ne_eqb f o e) (fields-append (key_field 10) ds ks)
+  pub lru-left : t ≡ false → keys_bytes 10 (ds ++ cond t [] ks) ≡ keys_bytes 10 ds ++ keys_bytes 10 ks
+  lru-left e = rw e (fields-append (key_field 10) ds ks)
+
+-- ---- runs of bytes
+-- the first of some runs is put, and the rest is left
+pub run-put : (p : Output) {r : Output} {us : List ℕ} (bs rest : List ℕ) → us ≡ bs ++ rest → r ≡ with_bytes p bs → with_bytes r rest ≡ with_bytes p us
+run-put p bs rest e w = ap (λ (q : Output). with_bytes q rest) w ∙ with-with p bs rest ∙ ap (with_bytes p) (sym e)
+
+-- none is left
+pub all-put : (p : Output) {rest : List ℕ} → rest ≡ [] → with_bytes p rest ≡ p
+all-put p e = ap (with_bytes p) e ∙ with-none p

@@ -1,5 +1,5 @@
 -- Refusals 15 to 19 at a bucket, and over the freed buckets.
-use mathlib.Core.Path.{◌≡◌, sym, ◌∙◌}
+use mathlib.Core.Path.{◌≡◌, sym, ◌∙◌, ap}
 use mathlib.Core.Bool.{Bool, true, false, not, ◌&&◌}
 use mathlib.Core.List.{List, [], ◌∷◌}
 use mathlib.Core.Option.{none, some}
@@ -20,7 +20,7 @@ use Rattle.calls.specs.Refusals.{test, verdict}
 use Rattle.calls.specs.Release.{freed_in, alloc_value, dirty_at, is_emptied, bucket_refusal}
 use Rattle.calls.specs.Trees.{lookup}
 use Rattle.reader.specs.KeyHere.{key_here}
-use Rattle.release_sums.specs.declared.sums.FreedBucket.{FreedBucket}
+use Rattle.release_keys.specs.declared.table.FreedBucket.{FreedBucket}
 use Rattle.release_keys.specs.Tables.{FreedEntry}
 use Rattle.release_keys.proofs.PlaceLaws.{place-some, place_none}
 
@@ -78,7 +78,10 @@ module _ {s : List ℕ} {v : Volume} {rs : List Freed} {f : FreedBucket} (a : Fr
   pub row-15 : f.place ≡ None → bucket_refusal v rs f.bucket ≡ 15
   row-15 e = refuses-15 v rs f.bucket (place_none a.key e)
 
-  module _ (sectors place : ℕ) (h : f.place ≡ Some place) (e : v.head.bucket_sectors ≡ sectors) where
+  module _ (place : ℕ) (h : f.place ≡ Some place) where
+    abbrev sectors : ℕ
+    sectors = v.head.bucket_sectors
+
     abbrev bytes : ℕ
     bytes = length (key_here s place).value
 
@@ -88,24 +91,24 @@ module _ {s : List ℕ} {v : Volume} {rs : List Freed} {f : FreedBucket} (a : Fr
     abbrev short : Bool
     short = gen_short v.trees.gens f.bucket
 
-    number : bucket_refusal v rs f.bucket ≡ numbered bytes dirty sectors f.freed short
-    number = refuses v rs f.bucket (key_here s place) (place-some a.key h).0 ∙ rw (← a.freed, e)
+    number : bucket_refusal v rs f.bucket ≡ numbered bytes dirty sectors f.sectors short
+    number = refuses v rs f.bucket (key_here s place) (place-some a.key h) ∙ ap (λ (n : ℕ). numbered bytes dirty sectors n short) (sym a.freed)
 
     pub row-16 : bytes < 56 → bucket_refusal v rs f.bucket ≡ 16
-    row-16 l = number ∙ number-16 bytes dirty sectors f.freed short l
+    row-16 l = number ∙ number-16 bytes dirty sectors f.sectors short l
 
     module _ (l : 56 ≤ bytes) where
       pub row-17 : sectors < dirty → bucket_refusal v rs f.bucket ≡ 17
-      row-17 m = number ∙ number-17 bytes dirty sectors f.freed short l m
+      row-17 m = number ∙ number-17 bytes dirty sectors f.sectors short l m
 
-      pub row-18 : dirty ≤ sectors → dirty < f.freed → bucket_refusal v rs f.bucket ≡ 18
-      row-18 m o = number ∙ number-18 bytes dirty sectors f.freed short l m o
+      pub row-18 : dirty ≤ sectors → dirty < f.sectors → bucket_refusal v rs f.bucket ≡ 18
+      row-18 m o = number ∙ number-18 bytes dirty sectors f.sectors short l m o
 
-      pub row-19 : dirty ≤ sectors → dirty ≡ f.freed → short ≡ true → bucket_refusal v rs f.bucket ≡ 19
-      row-19 m o q = number ∙ number-19 bytes dirty sectors f.freed short l m o q
+      pub row-19 : dirty ≤ sectors → dirty ≡ f.sectors → short ≡ true → bucket_refusal v rs f.bucket ≡ 19
+      row-19 m o q = number ∙ number-19 bytes dirty sectors f.sectors short l m o q
 
-      pub row-room : dirty ≤ sectors → dirty ≡ f.freed → short ≡ false → bucket_refusal v rs f.bucket ≡ 0
-      row-room m o q = number ∙ number-room bytes dirty sectors f.freed short l m o q
+      pub row-room : dirty ≤ sectors → dirty ≡ f.sectors → short ≡ false → bucket_refusal v rs f.bucket ≡ 0
+      row-room m o q = number ∙ number-room bytes dirty sectors f.sectors short l m o q
 
-      pub row-kept : dirty ≤ sectors → f.freed ≤ dirty → (dirty ≡ f.freed → ⊥) → bucket_refusal v rs f.bucket ≡ 0
-      row-kept m o q = number ∙ number-kept bytes dirty sectors f.freed short l m o q
+      pub row-kept : dirty ≤ sectors → f.sectors ≤ dirty → (dirty ≡ f.sectors → ⊥) → bucket_refusal v rs f.bucket ≡ 0
+      row-kept m o q = number ∙ number-kept bytes dirty sectors f.sectors short l m o q

@@ -1,33 +1,31 @@
 -- What the rows of the table say of the freed buckets.
 use mathlib.Core.Path.{◌≡◌, refl, sym, ap, ◌∙◌}
 use mathlib.Core.Bool.{Bool, true, false, cond}
-use mathlib.Core.List.{List, [], ◌∷◌, map, flat_map}
+use mathlib.Core.List.{List, [], ◌∷◌, ◌++◌, map, flat_map}
 use Prim.Native.Nat.{ℕ, suc, ◌+◌, ◌≤◌, ◌<◌}
 use native.Mathlib.Omega.{arith}
-use lib.ListN.{length, get_or, drop, length-map}
-use Rattle.std.proofs.Common.{Some}
-use Rattle.std.proofs.lemmas.List.{drop-map}
+use lib.ListN.{length, get_or, set, take, drop, length-map}
+use lib.Seq.{append_snoc}
+use Rattle.std.proofs.lemmas.List.{drop-map, take_more_set}
 use Rattle.wire.specs.Keys.{Key}
 use Rattle.wire.specs.declared.kinds.Bucket.{Bucket}
 use Rattle.wire.proofs.OutputLaws.{drop-next}
-use Rattle.format.specs.Packing.{Member, get}
+use Rattle.format.specs.Packing.{get}
 use Rattle.format.specs.AllocV4.{gen, dirty_sectors, next_gen}
 use Rattle.calls.specs.CallList.{Volume, Freed}
 use Rattle.calls.specs.Lists.{those, total}
 use Rattle.calls.specs.Refusals.{verdict}
 use Rattle.calls.specs.Release.{freed_buckets, is_emptied, bucket_refusal, released_key, released_lru, emptied_gen, dirty_at, alloc_value}
 use Rattle.calls.proofs.answers.RefusalLaws.{verdict-map-first, verdict-map-drop}
+use Rattle.calls.proofs.release.ReleaseFits.{named-few}
 use Rattle.calls.proofs.release.ReleaseLaws.{BucketHeld, held_of}
-use Rattle.reader.specs.KeyHere.{value_at, key_here, Whole}
-use Rattle.reader.proofs.KeyHereLaws.{value-within}
-use Rattle.release_sums.specs.declared.sums.FreedBucket.{FreedBucket}
-use Rattle.release_sums.specs.Summing.{Listed}
-use Rattle.release_sums.proofs.FoundLaws.{Picking, pick_ends}
-use Rattle.release_keys.specs.declared.freed_buckets.Emptied.{Emptied}
+use Rattle.reader.specs.declared.read_list.ReadList.{ReadList}
+use Rattle.release_keys.specs.Given.{volume_in, requests_in, RequestsChecked}
+use Rattle.release_keys.specs.declared.table.FreedBucket.{FreedBucket}
 use Rattle.release_keys.specs.Counting.{kept_of, lost_of, row_kept, row_lost}
 use Rattle.release_keys.specs.Emptied.{emptied_row}
 use Rattle.release_keys.specs.Tables.{no_row, row_buckets, row_key, row_dirty, row_emptied, row_gen, freed_key, row_lru, FreedEntry, FreedTables, RowHeld, RowsHeld, RowsWithin}
-use Rattle.release_keys.proofs.PlaceLaws.{place-some, place_found, placed-value, member-there}
+use Rattle.release_keys.proofs.PlaceLaws.{found-key, found-some, placed-value}
 use Rattle.release_keys.proofs.RefusalLaws.{dirty-is}
 
 -- ---- the buckets of rows
@@ -41,7 +39,7 @@ buckets-next rows i h = drop-map (λ (f : FreedBucket). f.bucket) i rows ∙ ap 
 module _ {s : List ℕ} {v : Volume} {rs : List Freed} {f : FreedBucket} (e : FreedEntry s v rs f) where
   value-row : (row_key s f).value ≡ alloc_value v.trees f.bucket
   unfolding alloc_value
-  value-row = placed-value e.key
+  value-row = placed-value f.place e.key
 
   pub dirty-row : row_dirty s f ≡ dirty_at v.trees f.bucket
   unfolding dirty_at
@@ -64,31 +62,35 @@ module _ {s : List ℕ} {v : Volume} {rs : List Freed} {f : FreedBucket} (e : Fr
   pub key-row : RowHeld s f → freed_key v.head.journal s f ≡ released_key v rs f.bucket
   unfolding released_key
   key-row r =
-      let k = (place-some e.key r.is).0 in
-      rw (k, ← emptied-row, ← dirty-row, ← value-row, ← e.freed, r.is) refl
+      let k = sym e.key.is ∙ found-some s f.place r.found in
+      rw (k, ← emptied-row, ← dirty-row, ← value-row, ← e.freed) refl
 
   pub lru-row : row_lru v.head.bucket_sectors s f ≡ released_lru v rs f.bucket
   unfolding released_lru
   lru-row = rw (← emptied-row, ← dirty-row, ← e.freed) refl
 
--- ---- a row whose alloc key is there
-module _ {s : List ℕ} {f : FreedBucket} (r : RowHeld s f) {at : ℕ} (e : f.place ≡ Some at) where
-  same-place : r.place ≡ at
-  same-place = let d : Some r.place ≡ Some at = sym r.is ∙ e in cc
+-- ---- the first row, and the rest
+module _ {s : List ℕ} {rows : List FreedBucket} {f : FreedBucket} {rest : List FreedBucket} (e : rows ≡ f ∷ rest) where
+  pub held-first : RowsHeld s rows → RowHeld s f
+  held-first h = let g : RowsHeld s (f ∷ rest) = rw e at h in g 0 (omega arith)
 
-  pub row-there : Whole s at
-  row-there = rw (← same-place) r.there
+  pub held-rest : RowsHeld s rows → RowsHeld s rest
+  held-rest h = let g : RowsHeld s (f ∷ rest) = rw e at h in λ i l. g (suc i) (omega (arith, l))
 
-  pub row-long : 56 ≤ length (key_here s at).value
-  row-long = rw (← same-place) r.long
+module _ (s : List ℕ) (sectors : ℕ) {rows : List FreedBucket} {f : FreedBucket} {rest : List FreedBucket} (e : rows ≡ f ∷ rest) (h : RowsWithin s sectors rows) where
+  both : RowsWithin s sectors (f ∷ rest)
+  both = rw e at h
 
-  -- its value, where it starts
-  pub row-room : (p : ℕ) → p ≡ value_at at → p + 56 ≤ length s
-  row-room p d = omega (arith, row-long, value-within s at row-there)
+  pub within-first : row_dirty s f ≤ sectors
+  within-first = both 0 (omega arith)
 
-  -- a member of it
-  pub row-member : (m : Member) → m.at + m.size ≤ 56 → (p : ℕ) → p ≡ value_at at → get m (drop p s) ≡ get m (row_key s f).value
-  row-member m h p d = member-there row-there m (omega (arith, row-long)) p d ∙ rw e refl
+  pub within-rest : RowsWithin s sectors rest
+  within-rest i l = both (suc i) (omega (arith, l))
+
+-- ---- rows that are listed in the front of a table
+pub listed_more : {A : Type 0} (xs : List A) (n : ℕ) (x : A) (ys : List A) {all : List A} → n < length xs → take n xs ++ (x ∷ ys) ≡ all
+    → take (n + 1) (set xs n x) ++ ys ≡ all
+listed_more xs n x ys h e = ap (λ l. l ++ ys) (take_more_set xs n x h) ∙ append_snoc (take n xs) x ys ∙ e
 
 -- ---- all rows
 module _ {A : Type 0} (g : FreedBucket → A) (h : Bucket → A) where
@@ -132,12 +134,11 @@ module _ {s : List ℕ} {v : Volume} {rs : List Freed} {rows : List FreedBucket}
   rows-held i h =
       let d = its i h in
       let e = t.at i h in
-      let a = place_found e.key d.found in
+      let k = found-key s (get_or rows i no_row).place (e.key.is ∙ d.found) in
       record {
-        place = a.place;
-        is = a.is;
-        there = a.key.whole;
-        long = omega (arith, d.long, ap (λ (x : Key). length x.value) a.key.is);
+        found = k.0;
+        whole = e.key.whole;
+        long = omega (arith, d.long, ap (λ (x : Key). length x.value) k.1);
         held = omega (arith, d.held, e.freed, dirty-row e, dirty-is v rs (get_or rows i no_row).bucket d.key d.found);
       }
 
@@ -149,29 +150,34 @@ module _ {s : List ℕ} {v : Volume} {rs : List Freed} {rows : List FreedBucket}
 
 -- ---- sums, keys and choices over the rows of a table
 module _ {s : List ℕ} {v : Volume} {rs : List Freed} {rows : List FreedBucket} (t : FreedTables s v rs rows) where
-  pub rows-verdict : {sectors : ℕ} → v.head.bucket_sectors ≡ sectors → verdict (map (bucket_refusal v rs) (row_buckets rows)) ≡ verdict (map (bucket_refusal v rs) (freed_buckets sectors rs))
-  rows-verdict e = ap (λ (l : List Bucket). verdict (map (bucket_refusal v rs) l)) (t.named ∙ ap (λ (n : ℕ). freed_buckets n rs) e)
+  pub rows-verdict : verdict (map (bucket_refusal v rs) (row_buckets rows)) ≡ verdict (map (bucket_refusal v rs) (freed_buckets v.head.bucket_sectors rs))
+  rows-verdict = ap (λ (l : List Bucket). verdict (map (bucket_refusal v rs) l)) t.named
 
-  pub keys-are : {journal : ℕ} → RowsHeld s rows → v.head.journal ≡ journal → map (freed_key journal s) rows ≡ map (released_key v rs) (freed_buckets v.head.bucket_sectors rs)
-  keys-are h e =
-      rw (← e) (map-rows (freed_key v.head.journal s) (released_key v rs) rows (λ i l. key-row (t.at i l) (h i l)) ∙ ap (map (released_key v rs)) t.named)
+  pub keys-are : RowsHeld s rows → map (freed_key v.head.journal s) rows ≡ map (released_key v rs) (freed_buckets v.head.bucket_sectors rs)
+  keys-are h = map-rows (freed_key v.head.journal s) (released_key v rs) rows (λ i l. key-row (t.at i l) (h i l)) ∙ ap (map (released_key v rs)) t.named
 
-  pub lrus-are : {sectors : ℕ} → v.head.bucket_sectors ≡ sectors → flat_map (row_lru sectors s) rows ≡ flat_map (released_lru v rs) (freed_buckets sectors rs)
-  lrus-are e =
-      rw (← e) (flat-rows (row_lru v.head.bucket_sectors s) (released_lru v rs) rows (λ i l. lru-row (t.at i l)) ∙ ap (flat_map (released_lru v rs)) t.named)
+  pub lrus-are : flat_map (row_lru v.head.bucket_sectors s) rows ≡ flat_map (released_lru v rs) (freed_buckets v.head.bucket_sectors rs)
+  lrus-are = flat-rows (row_lru v.head.bucket_sectors s) (released_lru v rs) rows (λ i l. lru-row (t.at i l)) ∙ ap (flat_map (released_lru v rs)) t.named
 
-  pub kept-are : total (row_kept s) rows ≡ total (kept_of v rs) (row_buckets rows)
-  kept-are = total-rows (row_kept s) (kept_of v rs) rows (λ i l. kept-row (t.at i l))
+  pub kept-are : total (row_kept s) rows ≡ total (kept_of v rs) (freed_buckets v.head.bucket_sectors rs)
+  kept-are = total-rows (row_kept s) (kept_of v rs) rows (λ i l. kept-row (t.at i l)) ∙ ap (total (kept_of v rs)) t.named
 
-  pub lost-are : {sectors : ℕ} → v.head.bucket_sectors ≡ sectors → total (row_lost s sectors) rows ≡ total (lost_of v rs) (row_buckets rows)
-  lost-are e = rw (← e) (total-rows (row_lost s v.head.bucket_sectors) (lost_of v rs) rows (λ i l. lost-row (t.at i l)))
+  pub lost-are : total (row_lost s v.head.bucket_sectors) rows ≡ total (lost_of v rs) (freed_buckets v.head.bucket_sectors rs)
+  lost-are = total-rows (row_lost s v.head.bucket_sectors) (lost_of v rs) rows (λ i l. lost-row (t.at i l)) ∙ ap (total (lost_of v rs)) t.named
 
-  pub listed-rows : {rest : List FreedBucket} {table : List Emptied} {n : ℕ} → Picking (those (row_emptied s) rows) rest (row_gen s) table n → rest ≡ []
-      → Listed (those (is_emptied v rs) (row_buckets rows)) (emptied_row (emptied_gen v.trees)) table n
-  listed-rows p e =
-      let l = pick_ends p e in
-      let d = those-rows (row_gen s) (emptied_row (emptied_gen v.trees)) (row_emptied s) (is_emptied v rs) rows (λ i l. emptied-row (t.at i l)) (λ i l. gen-row (t.at i l)) in
-      record {
-        count = l.count ∙ sym (length-map (those (row_emptied s) rows) (row_gen s)) ∙ ap length d ∙ length-map (those (is_emptied v rs) (row_buckets rows)) (emptied_row (emptied_gen v.trees));
-        listed = l.listed ∙ d;
-      }
+  pub emptied-are : map (row_gen s) (those (row_emptied s) rows) ≡ map (emptied_row (emptied_gen v.trees)) (those (is_emptied v rs) (freed_buckets v.head.bucket_sectors rs))
+  emptied-are =
+      those-rows (row_gen s) (emptied_row (emptied_gen v.trees)) (row_emptied s) (is_emptied v rs) rows (λ i l. emptied-row (t.at i l)) (λ i l. gen-row (t.at i l))
+      ∙ ap (λ (l : List Bucket). map (emptied_row (emptied_gen v.trees)) (those (is_emptied v rs) l)) t.named
+
+-- no more of them than requests
+pub table-few : {r : ReadList} {s : List ℕ} {rows : List FreedBucket} → RequestsChecked r → FreedTables s (volume_in r) (requests_in r) rows → length rows ≤ 1024
+table-few {r} {rows = rows} p t =
+    omega (
+      arith,
+      length-map rows (λ (f : FreedBucket). f.bucket),
+      ap length t.named,
+      named-few r.head.bucket_sectors (requests_in r),
+      p.requested.count,
+      p.few,
+    )

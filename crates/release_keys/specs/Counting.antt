@@ -4,7 +4,7 @@ use Rattle.wire.specs.declared.kinds.Bucket.{Bucket}
 use Rattle.calls.specs.CallList.{Volume, Freed}
 use Rattle.calls.specs.Lists.{total}
 use Rattle.calls.specs.Release.{freed_in, dirty_at, is_emptied}
-use Rattle.release_sums.specs.declared.sums.FreedBucket.{FreedBucket}
+use Rattle.release_keys.specs.declared.table.FreedBucket.{FreedBucket}
 use Rattle.release_keys.specs.Tables.{row_dirty, row_emptied}
 use Rattle.release_keys.specs.declared.counts.Unused.{Unused}
 
@@ -17,7 +17,7 @@ lost_of v rs b = cond (is_emptied v rs b) (v.head.bucket_sectors - dirty_at v.tr
 
 -- the same of a row
 abbrev pub row_kept : List ℕ → FreedBucket → ℕ
-row_kept s f = cond (row_emptied s f) 0 f.freed
+row_kept s f = cond (row_emptied s f) 0 f.sectors
 
 abbrev pub row_lost : List ℕ → ℕ → FreedBucket → ℕ
 row_lost s sectors f = cond (row_emptied s f) (sectors - row_dirty s f) 0

@@ -1,6 +1,9 @@
 pub mod Places
+pub mod Given
 pub mod Skipping
 pub mod Tables
+pub mod Listed
+pub mod HeldOf
 pub mod Emptied
 pub mod GenRecords
 pub mod Counting

@@ -1,19 +1,20 @@
--- Places of keys: each has one, or a key that may be missing has none.
-use Rattle.std.specs.Prelude.{ℕ, List, None, Some}
+-- The place of a key that may be missing.
+use Rattle.std.specs.Prelude.{◌≡◌, ℕ, List, None, Some}
 use Rattle.std.specs.Prelude as std
 use Rattle.std.proofs.Math.Option.{Option, none, some}
 use Rattle.wire.specs.Keys.{Key}
-use Rattle.reader.specs.KeyHere.{key_here, keys_here}
-use Rattle.reader.specs.Located.{KeyAt, KeysAt, no_key}
+use Rattle.reader.specs.KeyHere.{key_here, Whole}
+use Rattle.reader.specs.Located.{no_key}
 
--- each place has a key
-abbrev pub Keyed : List ℕ → List ℕ → Type 0
-Keyed s places = KeysAt s places (keys_here s places)
+-- the key at a place, or none
+abbrev pub key_found : List ℕ → std.Option ℕ → Option Key
+key_found s None = none
+key_found s (Some at) = some (key_here s at)
 
 -- where a key stands that may be missing
-pub data PlaceOf (s : List ℕ) : std.Option ℕ → Option Key → Type 0 where
-  missing : PlaceOf s None none
-  found : {at : ℕ} {k : Key} → KeyAt s at k → PlaceOf s (Some at) (some k)
+pub record PlaceOf (s : List ℕ) (place : std.Option ℕ) (k : Option Key) : Type 0 where
+  pub is : key_found s place ≡ k
+  pub whole : (at : ℕ) → place ≡ Some at → Whole s at
 
 -- the key at a place, if there is one
 abbrev pub key_placed : List ℕ → std.Option ℕ → Key

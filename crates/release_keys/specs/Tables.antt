@@ -10,15 +10,14 @@ use Rattle.calls.specs.CallList.{Volume, Freed}
 use Rattle.calls.specs.Lru.{lru_keys, lru_deletions}
 use Rattle.calls.specs.Trees.{lookup, with_value}
 use Rattle.calls.specs.Release.{freed_buckets, freed_in}
-use Rattle.reader.specs.KeyHere.{key_here, Whole}
-use Rattle.gens.specs.Records.{RecordsFound}
-use Rattle.release_sums.specs.declared.sums.FreedBucket.{FreedBucket}
-use Rattle.release_keys.specs.declared.freed_buckets.Emptied.{Emptied}
+use Rattle.reader.specs.KeyHere.{Whole}
+use Rattle.release_keys.specs.declared.table.FreedBucket.{FreedBucket}
+use Rattle.release_keys.specs.declared.freed_buckets.EmptiedBucket.{EmptiedBucket}
 use Rattle.release_keys.specs.Places.{PlaceOf, key_placed}
 
 -- a row for an index that none has
 abbrev pub no_row : FreedBucket
-no_row = record { bucket = no_bucket; freed = 0; place = None }
+no_row = record { bucket = no_bucket; sectors = 0; place = None }
 
 -- the buckets of some rows
 abbrev pub row_buckets : List FreedBucket → List Bucket
@@ -33,41 +32,30 @@ row_dirty s f = get dirty_sectors (row_key s f).value
 
 -- all that it holds is freed
 abbrev pub row_emptied : List ℕ → FreedBucket → Bool
-row_emptied s f = eqb f.freed (row_dirty s f)
+row_emptied s f = eqb f.sectors (row_dirty s f)
 
 -- its bucket with its generation after it is emptied
-abbrev pub row_gen : List ℕ → FreedBucket → Emptied
+abbrev pub row_gen : List ℕ → FreedBucket → EmptiedBucket
 row_gen s f = record { bucket = f.bucket; generation = next_gen (get gen (row_key s f).value) }
 
 -- the alloc key of a row after what is freed is taken out: emptied, or with what is left
 abbrev pub freed_key : ℕ → List ℕ → FreedBucket → Key
 freed_key journal s f =
     let value = (row_key s f).value in
-    with_value (row_key s f) (cond (row_emptied s f) (emptied journal value) (with_dirty (row_dirty s f - f.freed) value))
+    with_value (row_key s f) (cond (row_emptied s f) (emptied journal value) (with_dirty (row_dirty s f - f.sectors) value))
 
 -- the LRU keys of a row whose bucket holds so many sectors: the old one is deleted, and the new one follows unless it is emptied
 abbrev pub freed_lru : ℕ → ℕ → FreedBucket → List Key
-freed_lru sectors dirty f = lru_deletions sectors f.bucket dirty ++ cond (eqb f.freed dirty) [] (lru_keys sectors f.bucket (dirty - f.freed))
+freed_lru sectors dirty f = lru_deletions sectors f.bucket dirty ++ cond (eqb f.sectors dirty) [] (lru_keys sectors f.bucket (dirty - f.sectors))
 
 -- those of the row
 abbrev pub row_lru : ℕ → List ℕ → FreedBucket → List Key
 row_lru sectors s f = freed_lru sectors (row_dirty s f) f
 
--- a row whose alloc key's place is known
-pub record RowPlaced (s : List ℕ) (alloc : List Key) (before after : FreedBucket) : Type 0 where
-  pub bucket : after.bucket ≡ before.bucket
-  pub freed : after.freed ≡ before.freed
-  pub key : PlaceOf s after.place (lookup (alloc_at before.bucket) alloc)
-
--- the alloc key of each bucket
-pub record PlacesOf (s : List ℕ) (alloc : List Key) (before after : List FreedBucket) : Type 0 where
-  pub count : length after ≡ length before
-  pub at : (i : ℕ) → i < length before → RowPlaced s alloc (get_or before i no_row) (get_or after i no_row)
-
 -- what a row says of a freed bucket: its sum, and the place of its alloc key
 pub record FreedEntry (s : List ℕ) (v : Volume) (rs : List Freed) (f : FreedBucket) : Type 0 where
   pub low : bucket_in_range f.bucket ≡ true
-  pub freed : f.freed ≡ freed_in v.head.bucket_sectors rs f.bucket
+  pub freed : f.sectors ≡ freed_in v.head.bucket_sectors rs f.bucket
   pub key : PlaceOf s f.place (lookup (alloc_at f.bucket) v.trees.alloc)
 
 -- the rows hold the freed buckets of a volume and its requests
@@ -75,29 +63,12 @@ pub record FreedTables (s : List ℕ) (v : Volume) (rs : List Freed) (rows : Lis
   pub named : row_buckets rows ≡ freed_buckets v.head.bucket_sectors rs
   pub at : (i : ℕ) → i < length rows → FreedEntry s v rs (get_or rows i no_row)
 
--- they hold those of some volume and requests, with so many sectors to a bucket, and its generation records
-pub record FreedTablesKnown (s : List ℕ) (sectors : ℕ) (rows : List FreedBucket) (records : List ℕ) : Type 0 where
-  pub volume : Volume
-  pub requests : List Freed
-  pub tabled : FreedTables s volume requests rows
-  pub recorded : RecordsFound s volume.trees.gens records
-  pub size : volume.head.bucket_sectors ≡ sectors
-
--- the same of one freed bucket
-pub record FreedEntryKnown (s : List ℕ) (sectors : ℕ) (f : FreedBucket) (records : List ℕ) : Type 0 where
-  pub volume : Volume
-  pub requests : List Freed
-  pub entry : FreedEntry s volume requests f
-  pub recorded : RecordsFound s volume.trees.gens records
-  pub size : volume.head.bucket_sectors ≡ sectors
-
 -- a row that refusals 15, 16 and 18 passed: its alloc key is there, and the bucket holds what is freed of it
 pub record RowHeld (s : List ℕ) (f : FreedBucket) : Type 0 where
-  pub place : ℕ
-  pub is : f.place ≡ Some place
-  pub there : Whole s place
-  pub long : 56 ≤ length (key_here s place).value
-  pub held : f.freed ≤ row_dirty s f
+  pub found : f.place ≡ None → ⊥
+  pub whole : (at : ℕ) → f.place ≡ Some at → Whole s at
+  pub long : 56 ≤ length (row_key s f).value
+  pub held : f.sectors ≤ row_dirty s f
 
 -- such rows
 abbrev pub RowsHeld : List ℕ → List FreedBucket → Type 0

@@ -1,50 +1,89 @@
-// The alloc key of each freed bucket: both ascend, so one walk finds them.
-ghost use Rattle.std.specs.Prelude.{◌≡◌, true, false, ◌≤◌, ◌<◌, length, get_or, drop};
+// The freed buckets, each with its sum and its alloc key: buckets and keys ascend, so that one walk over the keys finds those of all buckets.
+ghost use Rattle.std.specs.Prelude.{◌≡◌, true, false, ◌++◌, ◌<◌, ◌≤◌, length, get_or, take, drop, map, replicate};
 ghost use Rattle.wire.specs.Order.{pos_less};
-ghost use Rattle.wire.specs.Kinds.{bucket_below};
-ghost use Rattle.calls.specs.CallList.{keys_ok};
-ghost use Rattle.calls.specs.Lists.{in_order};
+ghost use Rattle.calls.specs.CallList.{keys_ascend};
 ghost use Rattle.calls.specs.Trees.{lookup};
-ghost use Rattle.reader.specs.KeyHere.{keys_here};
+ghost use Rattle.reader.specs.ListedKeys.{keys_listed};
 ghost use Rattle.reader.specs.Located.{no_key};
-ghost use Rattle.release_keys.specs.Places.{Keyed, PlaceOf};
+ghost use Rattle.release_sums.specs.Summing.{Cleared};
+ghost use Rattle.release_sums.specs.SumsLeft.{sums_left, SameTable};
+ghost use Rattle.release_keys.specs.Given.{RequestsChecked};
+ghost use Rattle.release_keys.specs.Places.{PlaceOf};
+ghost use Rattle.release_keys.specs.Listed.{row_sum, PlacesOf, SumsAscend};
 ghost use Rattle.release_keys.specs.Skipping.{KeysSkipped};
-ghost use Rattle.release_keys.specs.Tables.{row_buckets, PlacesOf};
 
-use reader::{key, skip};
-use release_sums::sums::FreedBucket;
+use crate::table::{FreedBucket, FreedTable};
+use reader::key::ListedKey;
+use reader::listed_keys::Keys;
+use reader::read_list::ReadList;
+use release_sums::requests::Freeds;
+use release_sums::sums::Sums;
 use wire::bpos::Bpos;
 use wire::{bpos, positions};
 
-// The first key from an index on that does not stand before a position. The walk shows the bound.
-fn skip_below(s: &[u8], offsets: &[u32], from: usize, p: Bpos) -> usize
-    requires { Keyed s.now offsets.now × (from ≤ length offsets.now) }
-    ensures { KeysSkipped (keys_here s.now offsets.now) from p result }
+// The keys from the first one on that does not stand before a position.
+fn skip_below<'k>(keys: Keys<'k>, p: Bpos) -> Keys<'k>
+    ensures { KeysSkipped keys.entry p result }
 {
-    let is_below = |at: u32| bpos::pos_less(key::pos_at(s, at as usize), p);
-    skip::skip_while(offsets, from, is_below)
-}
-
-// The place of the key at a position, which no key from an index on stands before. Refusal 22 shows that keys ascend, here and below.
-fn place_here(s: &[u8], offsets: &[u32], i: usize, p: Bpos) -> Option<u32>
-    requires keyed { Keyed s.now offsets.now × (keys_ok (keys_here s.now offsets.now) ≡ true) }
-    requires p_value { i < length offsets.now → pos_less (get_or (keys_here s.now offsets.now) i no_key).pos p ≡ false }
-    ensures { PlaceOf s.now result (lookup p (drop i (keys_here s.now offsets.now))) }
-{
-    let at = *offsets.get(i)?;
-    bpos::pos_same(key::pos_at(s, at as usize), p).then_some(at)
-}
-
-// Notes the place of each bucket's alloc key. `take_freed` shows that buckets ascend.
-pub fn find_allocs(s: &[u8], alloc: &[u32], rows: &mut [FreedBucket])
-    requires keyed { Keyed s.now alloc.now × (keys_ok (keys_here s.now alloc.now) ≡ true) }
-    requires buckets_value { in_order bucket_below (row_buckets rows.old) ≡ true }
-    ensures { PlacesOf s.now (keys_here s.now alloc.now) rows.old rows.new }
-{
-    let mut i: usize = 0;
-    for row in rows.iter_mut() {
-        let p = positions::alloc_at(row.bucket);
-        i = skip_below(s, alloc, i, p);
-        row.place = place_here(s, alloc, i, p);
+    let is_below = |k: ListedKey| bpos::pos_less(k.pos(), p);
+    let n = keys.skip_while(0, is_below);
+    Keys {
+        list: keys.list,
+        places: &keys.places[n..],
     }
+}
+
+// The place of the key at a position, which no key stands before. The reader's table shows that keys ascend.
+fn place_here(keys: Keys, p: Bpos) -> Option<u32>
+    requires ascend { keys_ascend (keys_listed keys) ≡ true }
+    requires none_before { 0 < length keys.places.now → pos_less (get_or (keys_listed keys) 0 no_key).pos p ≡ false }
+    ensures { PlaceOf keys.entry.list.now result (lookup p (keys_listed keys.entry)) }
+{
+    let key = keys.get(0)?;
+    bpos::pos_same(key.pos(), p).then_some(key.at)
+}
+
+// Lists the sums that are taken out of the table, each with the place of its bucket's alloc key, in the front of a slice, which is answered. `list_freed` shows what is required.
+fn list_sums<'a>(
+    sums: &mut Sums,
+    alloc: Keys,
+    buckets: &'a mut [FreedBucket; 1024],
+) -> &'a [FreedBucket]
+    requires { (length (sums_left sums.old) ≤ 1024) × SumsAscend (sums_left sums.old) × (keys_ascend (keys_listed alloc) ≡ true) }
+    ensures table { SameTable sums.old sums.new × (take 65536 sums.new.sums.now ≡ replicate 65536 0) }
+    ensures listed { (map row_sum result.now ≡ sums_left sums.old) × PlacesOf alloc.entry.list.now (keys_listed alloc.entry) result.now }
+{
+    let mut keys = alloc;
+    let mut n: usize = 0;
+    // By an index beside: nothing is known of what a slice holds after `iter_mut().zip(..)`.
+    while let Some(sum) = sums.next() {
+        let p = positions::alloc_at(sum.bucket);
+        keys = skip_below(keys, p);
+        buckets[n] = FreedBucket {
+            bucket: sum.bucket,
+            sectors: sum.sectors,
+            place: place_here(keys, p),
+        };
+        n += 1;
+    }
+    &buckets[..n]
+}
+
+// The freed buckets of the requests, in the front of a slice; the scratch, which comes cleared, is left cleared. The reader, refusals 4 and 14 and `clear` show what is required.
+pub fn list_freed<'a>(
+    read: ReadList<'a>,
+    scratch: &mut [u32],
+    buckets: &'a mut [FreedBucket; 1024],
+) -> FreedTable<'a>
+    requires { RequestsChecked read × Cleared scratch.old × (keys_ascend (keys_listed read.alloc) ≡ true) }
+    ensures { (result.read ≡ read.entry) × (scratch.new ≡ replicate 65536 0 ++ drop 65536 scratch.old) }
+{
+    let freeds = Freeds {
+        list: read.list,
+        places: read.requests,
+    };
+    let mut sums = Sums::new(scratch);
+    sums.add_up(freeds, read.head.bucket_sectors as u64);
+    let buckets = list_sums(&mut sums, read.alloc, buckets);
+    FreedTable { read, buckets }
 }

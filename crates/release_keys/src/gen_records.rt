@@ -16,7 +16,7 @@ ghost use Rattle.change_fields.specs.FieldBytes.{keys_bytes};
 ghost use Rattle.release_keys.specs.Emptied.{emptied_row, emptied_buckets};
 ghost use Rattle.release_keys.specs.GenRecords.{next_queued};
 
-use crate::freed_buckets::Emptied;
+use crate::freed_buckets::EmptiedBucket;
 use gens::records;
 use reader::key;
 use wire::key_types::KeyType;
@@ -71,7 +71,7 @@ fn next_record(s: &[u8], records: &[u32], last: Option<Bkey>, b: Bucket, generat
 }
 
 // The records of all emptied buckets, which ascend.
-pub fn put_gens(out: &mut Output, s: &[u8], records: &[u32], emptied: &[Emptied])
+pub fn put_gens(out: &mut Output, s: &[u8], records: &[u32], emptied: &[EmptiedBucket])
     requires { Recorded s.now records.now × (all_of bucket_in_range (emptied_buckets emptied.now) ≡ true) × (in_order bucket_below (emptied_buckets emptied.now) ≡ true) }
     ensures { (gens : List Key) (generation_of : kinds.Bucket → ℕ) → RecordsFound s.now gens records.now → emptied.now ≡ map (emptied_row generation_of) (emptied_buckets emptied.now) → out.new ≡ with_bytes out.old (keys_bytes 14 (gens_queued generation_of gens (emptied_buckets emptied.now))) }
 {

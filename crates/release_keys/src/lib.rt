@@ -11,3 +11,4 @@ pub mod lru_keys;
 pub mod need_discards;
 pub mod refusals;
 pub mod roots;
+pub mod table;

@@ -1,34 +1,33 @@
-// Tree 10: the deletion of each freed bucket's old key, and its new one unless it is emptied.
-ghost use Rattle.std.specs.Prelude.{◌≡◌, ◌≤◌, ◌<◌};
-ghost use mathlib.Core.List.{List, flat_map};
+// Tree 10: a deletion at each freed bucket's old key, and its new one unless it is emptied.
+ghost use Rattle.std.specs.Prelude.{◌≡◌};
+ghost use mathlib.Core.List.{flat_map};
 ghost use Rattle.wire.specs.Output.{with_bytes};
-ghost use Rattle.calls.specs.CallList.{Volume, Freed};
 ghost use Rattle.calls.specs.Release.{freed_buckets, released_lru};
 ghost use Rattle.change_fields.specs.FieldBytes.{keys_bytes};
-ghost use Rattle.release_keys.specs.Tables.{freed_lru, FreedTables, RowsHeld};
+ghost use Rattle.release_keys.specs.Given.{volume_in, requests_in};
+ghost use Rattle.release_keys.specs.Tables.{row_lru};
 
-use crate::freed_buckets;
+use crate::table::{HeldBucket, HeldTable};
 use change_fields::lru_keys as lru;
-use release_sums::sums::FreedBucket;
 use wire::output::Output;
 
-// The keys of one freed bucket, which holds so many sectors. Refusal 18 shows that it holds what is freed, refusal 4 that a bucket has sectors, here and below.
-fn put_bucket_lru(out: &mut Output, f: FreedBucket, dirty: u32, sectors: u64)
-    requires { (0 < sectors) × (f.freed ≤ dirty) }
-    ensures { out.new ≡ with_bytes out.old (keys_bytes 10 (freed_lru sectors dirty f)) }
+// The keys of one freed bucket.
+fn put_bucket_lru(out: &mut Output, h: HeldBucket)
+    ensures { out.new ≡ with_bytes out.old (keys_bytes 10 (row_lru h.entry.bucket_sectors h.entry.list.now h.entry.freed)) }
 {
-    lru::put_lru_deletion(out, f.bucket, dirty, sectors);
-    if f.freed != dirty {
-        lru::put_lru_key(out, f.bucket, dirty - f.freed, sectors);
+    let dirty = h.dirty();
+    let sectors = h.bucket_sectors as u64;
+    lru::put_lru_deletion(out, h.freed.bucket, dirty, sectors);
+    if !h.is_emptied() {
+        lru::put_lru_key(out, h.freed.bucket, dirty - h.freed.sectors, sectors);
     }
 }
 
 // The keys of all freed buckets.
-pub fn put_lrus(out: &mut Output, s: &[u8], sectors: u64, rows: &[FreedBucket])
-    requires { (0 < sectors) × RowsHeld s.now rows.now }
-    ensures { (v : Volume) (rs : List Freed) → FreedTables s.now v rs rows.now → v.head.bucket_sectors ≡ sectors → out.new ≡ with_bytes out.old (keys_bytes 10 (flat_map (released_lru v rs) (freed_buckets sectors rs))) }
+pub fn put_lrus(out: &mut Output, table: &HeldTable)
+    ensures { out.new ≡ with_bytes out.old (keys_bytes 10 (flat_map (released_lru (volume_in table.now.table.read) (requests_in table.now.table.read)) (freed_buckets table.now.table.read.head.bucket_sectors (requests_in table.now.table.read)))) }
 {
-    for &f in rows {
-        put_bucket_lru(out, f, freed_buckets::dirty_of(s, f), sectors);
+    for h in table.iter() {
+        put_bucket_lru(out, h);
     }
 }

@@ -1,49 +1,55 @@
 // Refusals 15 to 19: the lowest bucket, then the lowest number in it.
-ghost use Rattle.std.specs.Prelude.{◌≡◌, List, map};
-ghost use Rattle.calls.specs.CallList.{Volume, Freed};
+ghost use Rattle.std.specs.Prelude.{◌≡◌, map};
 ghost use Rattle.calls.specs.Refusals.{verdict};
 ghost use Rattle.calls.specs.Release.{freed_buckets, bucket_refusal};
 ghost use Rattle.reader.specs.Refusals.{number_in};
 ghost use Rattle.gens.specs.Records.{RecordsFound};
-ghost use Rattle.release_keys.specs.Tables.{FreedEntry, FreedEntryKnown, FreedTables, FreedTablesKnown};
+ghost use Rattle.release_keys.specs.Given.{volume_in, requests_in};
+ghost use Rattle.release_keys.specs.Tables.{FreedEntry};
 
+use crate::table::{FreedBucket, FreedTable};
 use format::alloc;
 use gens::lookup;
-use reader::key;
+use reader::key::ListedKey;
+use reader::read_list::ReadList;
 use reader::refusal::Refusal;
-use release_sums::sums::FreedBucket;
 
-// 15 to 19 at a bucket. The table shows what is required, here and below.
-fn bucket_refusal(s: &[u8], sectors: u64, records: &[u32], f: FreedBucket) -> Result<(), Refusal>
-    requires { FreedEntryKnown s.now sectors f records.now }
-    ensures { (v : Volume) (rs : List Freed) → FreedEntry s.now v rs f → RecordsFound s.now v.trees.gens records.now → v.head.bucket_sectors ≡ sectors → number_in result ≡ bucket_refusal v rs f.bucket }
+// 15 to 19 at a bucket. The table shows what is required.
+fn bucket_refusal(read: &ReadList, records: &[u32], f: FreedBucket) -> Result<(), Refusal>
+    requires { FreedEntry read.now.alloc.list.now (volume_in read.now) (requests_in read.now) f × RecordsFound read.now.gens.list.now (volume_in read.now).trees.gens records.now }
+    ensures { number_in result ≡ bucket_refusal (volume_in read.now) (requests_in read.now) f.bucket }
 {
-    let Some(place) = f.place else {
+    let Some(at) = f.place else {
         return Err(Refusal::NoAlloc);
     };
-    if key::value_len(s, place as usize) < 56 {
+    let value = ListedKey {
+        list: read.alloc.list,
+        at,
+    }
+    .value();
+    if value.len() < 56 {
         return Err(Refusal::ShortAlloc);
     }
-    let dirty = alloc::dirty_sectors(s, key::value_at(s, place as usize));
-    if sectors < dirty as u64 {
+    let dirty = alloc::dirty_sectors(value, 0);
+    if (read.head.bucket_sectors as u32) < dirty {
         return Err(Refusal::DirtyPastBucket);
     }
-    if dirty < f.freed {
+    if dirty < f.sectors {
         return Err(Refusal::FreedPastDirty);
     }
-    if dirty == f.freed && lookup::gen_short(s, records, f.bucket) {
+    if dirty == f.sectors && lookup::gen_short(read.gens.list, records, f.bucket) {
         return Err(Refusal::ShortGens);
     }
     Ok(())
 }
 
-// 15 to 19 over the freed buckets, which ascend.
-pub fn refuse(s: &[u8], sectors: u64, rows: &[FreedBucket], records: &[u32]) -> Result<(), Refusal>
-    requires { FreedTablesKnown s.now sectors rows.now records.now }
-    ensures { (v : Volume) (rs : List Freed) → FreedTables s.now v rs rows.now → RecordsFound s.now v.trees.gens records.now → v.head.bucket_sectors ≡ sectors → number_in result ≡ verdict (map (bucket_refusal v rs) (freed_buckets sectors rs)) }
+// 15 to 19 over the freed buckets, which ascend. `find_records` shows what is required.
+pub fn refuse(table: &FreedTable, records: &[u32]) -> Result<(), Refusal>
+    requires { RecordsFound table.now.read.gens.list.now (volume_in table.now.read).trees.gens records.now }
+    ensures { number_in result ≡ verdict (map (bucket_refusal (volume_in table.now.read) (requests_in table.now.read)) (freed_buckets table.now.read.head.bucket_sectors (requests_in table.now.read))) }
 {
-    for &f in rows {
-        bucket_refusal(s, sectors, records, f)?;
+    for &f in table.buckets {
+        bucket_refusal(&table.read, records, f)?;
     }
     Ok(())
 }

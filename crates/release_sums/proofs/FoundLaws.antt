@@ -2,11 +2,8 @@
 use mathlib.Core.Path.{◌≡◌, refl, sym, ap, ◌∙◌}
 use mathlib.Core.Bool.{Bool, true, false, ◌&&◌, ◌||◌}
 use Prim.Native.Nat.{ℕ, zero, suc, ◌+◌, ◌≤◌, ◌<◌, compare, Ordering}
-use native.Mathlib.Numerals.{add-one}
 use native.Mathlib.Omega.{arith}
-use mathlib.Core.List.{List, [], ◌∷◌, ◌++◌, map, append-nil, append_assoc, map-append}
-use lib.ListN.{length, set, take, length-append}
-use lib.Seq.{take-suc-set, append_snoc}
+use mathlib.Core.List.{List, [], ◌∷◌, map}
 use lib.Dec.{ltb, eqb}
 use borrow.Author.Tests.{lt-ltb, ltb-true, ltb-false, eqb-true, eqb-false, eq-eqb, ne_eqb}
 use Rattle.wire.specs.Kinds.{same_bucket, bucket_of, buckets_from, no_bucket}
@@ -22,7 +19,7 @@ use Rattle.calls.proofs.lists.BoolLaws.{clash}
 use Rattle.calls.proofs.freespace.BucketLaws.{is_in-those}
 use Rattle.calls.proofs.release.ReleaseLaws.{named-freed, named-range}
 use Rattle.calls.proofs.history.View.{bucket}
-use Rattle.release_sums.specs.Summing.{Sums, sum_of, summed_buckets, summed_from, Listed, Appended}
+use Rattle.release_sums.specs.Summing.{Summed, sum_of, summed_buckets, summed_from}
 
 -- ---- ascending lists with the same buckets are the same
 up-below : (n : ℕ) (l : List Bucket) → Up n l → (b : Bucket) → b.0 < n → is_in l b ≡ false
@@ -92,7 +89,7 @@ pub freed-up : (sectors : ℕ) (rs : List Freed) → Up 0 (freed_buckets sectors
 unfolding freed_buckets
 freed-up sectors rs = inserts-up (map (λ (r : Freed). bucket_of r.first sectors) rs) [] tt
 
-module _ (sectors : ℕ) (rs : List Freed) (sums : List ℕ) (s : Sums sectors rs sums) (ok : all_of (freed_ok sectors) rs ≡ true) where
+module _ (sectors : ℕ) (rs : List Freed) (sums : List ℕ) (s : Summed sectors rs sums) (ok : all_of (freed_ok sectors) rs ≡ true) where
   same_in : (b : Bucket) → is_in (summed_buckets sums) b ≡ is_in (freed_buckets sectors rs) b
   unfolding summed_buckets summed_from
   same_in b = is_in-those (λ (c : Bucket). ltb 0 (sum_of sums c)) (buckets_from 65536 no_bucket) b ∙ go (ltb b.0 65536) refl
@@ -125,51 +122,3 @@ module _ (sectors : ℕ) (rs : List Freed) (sums : List ℕ) (s : Sums sectors r
   found-freed =
       up_same 0 (summed_buckets sums) (freed_buckets sectors rs)
       (up-those (λ (c : Bucket). ltb 0 (sum_of sums c)) 0 (buckets_from 65536 no_bucket) (up_from 65536 0)) (freed-up sectors rs) same_in
-
--- ---- elements of a list are picked out, each into a row
--- one more is listed
-listed_more : {A : Type 0} (xs : List A) (n : ℕ) (x : A) (ys : List A) {all : List A} → n < length xs → take n xs ++ (x ∷ ys) ≡ all
-    → take (n + 1) (set xs n x) ++ ys ≡ all
-listed_more xs n x ys h e = rw (add-one, take-suc-set xs n x h, append_snoc (take n xs) x ys) e
-
--- more are listed
-listed-many : {A : Type 0} (xs : List A) (n : ℕ) (xs' : List A) (r : ℕ) (ys zs : List A) {all : List A} → take r xs' ≡ take n xs ++ ys
-    → take n xs ++ (ys ++ zs) ≡ all → take r xs' ++ zs ≡ all
-listed-many xs n xs' r ys zs h e = rw (h, append_assoc (take n xs) ys zs) e
-
--- On the way: after the first n₀, n are listed, and `rest` is left.
-pub record Appending {A B : Type 0} (all rest : List B) (row : B → A) (rows₀ : List A) (n₀ : ℕ) (rows : List A) (n : ℕ) : Type 0 where
-  pub count : n + length rest ≡ n₀ + length all
-  pub listed : take n rows ++ map row rest ≡ take n₀ rows₀ ++ map row all
-
--- the same from the first one on
-abbrev pub Picking : {A B : Type 0} → List B → List B → (B → A) → List A → ℕ → Type 0
-Picking all rest row rows n = Appending all rest row [] 0 rows n
-
-module _ {A B : Type 0} {all rest : List B} {row : B → A} {rows₀ : List A} {n₀ : ℕ} {rows : List A} {n : ℕ} (p : Appending all rest row rows₀ n₀ rows n) where
-  pub pick-hit : {b : B} {next : List B} → rest ≡ b ∷ next → n < length rows → Appending all next row rows₀ n₀ (set rows n (row b)) (n + 1)
-  pick-hit {b} {next} e l =
-      record {
-        count = omega (arith, p.count, ap length e);
-        listed = listed_more rows n (row b) (map row next) l (rw e at p.listed);
-      }
-
-  pub pick-miss : {next : List B} → rest ≡ next → Appending all next row rows₀ n₀ rows n
-  pick-miss e = record { count = omega (arith, p.count, ap length e); listed = rw e at p.listed }
-
-  pub pick-many : {bs next : List B} {rows' : List A} {r : ℕ} → rest ≡ bs ++ next → Appended bs row rows n rows' r → Appending all next row rows₀ n₀ rows' r
-  pick-many {bs} {next} {rows'} {r} e a =
-      record {
-        count = omega (arith, p.count, ap length e, length-append bs next, a.count);
-        listed = listed-many rows n rows' r (map row bs) (map row next) a.listed (rw (e, map-append row bs next) at p.listed);
-      }
-
-  pub pick-appends : rest ≡ [] → Appended all row rows₀ n₀ rows n
-  pick-appends e =
-      record {
-        count = omega (arith, p.count, ap length e);
-        listed = sym (append-nil (take n rows)) ∙ (rw e at p.listed);
-      }
-
-pub pick_ends : {A B : Type 0} {all rest : List B} {row : B → A} {rows : List A} {n : ℕ} → Picking all rest row rows n → rest ≡ [] → Listed all row rows n
-pick_ends p e = let a = pick-appends p e in record { count = omega (arith, a.count); listed = a.listed }

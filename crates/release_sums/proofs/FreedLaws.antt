@@ -1,26 +1,21 @@
 -- Reading released pieces, and tests over all of them.
-use mathlib.Core.Path.{◌≡◌, refl, ap, ◌∙◌}
+use mathlib.Core.Path.{◌≡◌, refl, ap}
 use mathlib.Core.Bool.{true, ◌&&◌}
-use Prim.Native.Nat.{ℕ, ◌+◌, ◌≤◌, ◌<◌}
+use Prim.Native.Nat.{ℕ, suc, ◌+◌, ◌≤◌, ◌<◌}
 use native.Mathlib.Nat.{add-zero}
 use native.Mathlib.Omega.{arith}
-use mathlib.Core.List.{List, [], ◌∷◌}
-use lib.ListN.{length, get_or, take, drop, drop_of_length-le}
-use Rattle.std.proofs.lemmas.List.{drop-map}
+use mathlib.Core.List.{List, ◌∷◌}
+use lib.ListN.{take, drop}
 use lib.Dec.{leb}
 use borrow.Author.Tests.{leb-true, ltb-true}
-use Rattle.wire.specs.Bytes.{All}
 use Rattle.wire.specs.Numbers.{le}
 use Rattle.wire.specs.Kinds.{bucket_of, offset_in, bucket_in_range}
 use Rattle.wire.specs.declared.kinds.Bucket.{Bucket}
 use Rattle.wire.proofs.NumberLaws.{body-le}
-use Rattle.wire.proofs.OutputLaws.{drop-next}
 use Rattle.calls.specs.CallList.{Freed, freed_of}
 use Rattle.calls.specs.Lists.{all_of}
 use Rattle.calls.specs.Release.{freed_ok}
-use Rattle.calls.proofs.lists.AllOfLaws.{all-of-drop, all-of-first}
 use Rattle.calls.proofs.lists.BoolLaws.{parts}
-use Rattle.reader.proofs.SkipLaws.{all-indexed}
 use Rattle.release_sums.specs.Freeds.{freeds_in, Requested}
 
 -- a piece, each part read at its own place
@@ -31,27 +26,17 @@ freed_read s at d n p q =
     let a : le 8 (take 10 (drop at s)) ≡ le 8 (drop at s) = rw add-zero at (body-le s at 10 8 0 (omega arith)) in
     rw (p, q, a, body-le s at 10 2 8 (omega arith))
 
--- what is left from index i on: the piece that the offset there finds, and the rest; past the last none is left
-pub freeds_next : (s offsets : List ℕ) (i : ℕ) → i < length offsets
-    → freeds_in s (drop i offsets) ≡ freed_of (take 10 (drop (get_or offsets i 0) s)) ∷ freeds_in s (drop (i + 1) offsets)
+-- the first piece, and the rest
+pub freeds_first : (s : List ℕ) {os : List ℕ} {o : ℕ} {rest : List ℕ} {r : Freed} → os ≡ o ∷ rest → r ≡ freed_of (take 10 (drop o s)) → freeds_in s os ≡ r ∷ freeds_in s rest
 unfolding freeds_in
-freeds_next s offsets i h = rw (drop-next 0 offsets i h) refl
+freeds_first s e f = rw (e, f) refl
 
-pub freeds_here : (s offsets : List ℕ) {i : ℕ} {r : Freed} → i < length offsets → r ≡ freed_of (take 10 (drop (get_or offsets i 0) s))
-    → freeds_in s (drop i offsets) ≡ r ∷ freeds_in s (drop (i + 1) offsets)
-freeds_here s offsets {i} h e = rw e (freeds_next s offsets i h)
-
-freeds-drop : (s offsets : List ℕ) (i : ℕ) → drop i (freeds_in s offsets) ≡ freeds_in s (drop i offsets)
+-- the rest of the places find pieces too
+pub requested-rest : {s os : List ℕ} {o : ℕ} {rest : List ℕ} → Requested s os → os ≡ o ∷ rest → Requested s rest
 unfolding freeds_in
-freeds-drop s offsets i = drop-map (λ at. freed_of (take 10 (drop at s))) i offsets
-
-pub freeds_none : (s offsets : List ℕ) (i : ℕ) → length offsets ≤ i → freeds_in s (drop i offsets) ≡ []
-unfolding freeds_in
-freeds_none s offsets i h = rw (drop_of_length-le offsets h) refl
-
--- a whole piece stands at each place
-pub freeds-within : {s offsets : List ℕ} → Requested s offsets → All (λ at. at + 10 ≤ length s) offsets
-freeds-within f = all-indexed 0 _ (λ i h. (f.at i h).within)
+requested-rest {s} {os} {o} {rest} q e =
+    let w : Requested s (o ∷ rest) = rw e at q in
+    record { count = omega (arith, w.count); at = λ i h. w.at (suc i) (omega (arith, h)) }
 
 -- what refusal 14 shows of a piece
 pub record FreedWithin (sectors : ℕ) (r : Freed) : Type 0 where
@@ -73,16 +58,17 @@ within sectors r e =
       low = ltb-true (bucket_of r.first sectors).0 65536 c.1;
     }
 
--- the piece that the offset at an index finds
-module _ (sectors : ℕ) (s offsets : List ℕ) {i : ℕ} {r : Freed} (ok : all_of (freed_ok sectors) (freeds_in s offsets) ≡ true) (h : i < length offsets)
-    (e : r ≡ freed_of (take 10 (drop (get_or offsets i 0) s))) where
-  pub within_at : FreedWithin sectors r
-  within_at =
-      let here = freeds-drop s offsets i ∙ freeds_here s offsets h e in
-      within sectors r (all-of-first (freed_ok sectors) (all-of-drop (freed_ok sectors) (freeds_in s offsets) i ok) here)
+-- the first of the pieces that are left, which refusal 14 passed
+module _ (sectors : ℕ) {l : List Freed} {r : Freed} {rest : List Freed} (ok : all_of (freed_ok sectors) l ≡ true) (e : l ≡ r ∷ rest) where
+  both : (freed_ok sectors r && all_of (freed_ok sectors) rest) ≡ true
+  unfolding all_of
+  both = rw e at ok
 
-  pub bucket_at : {b : Bucket} → b ≡ bucket_of r.first sectors → b.0 < 65536
-  bucket_at f = omega (arith, ap (λ (x : Bucket). x.0) f, within_at.low)
+  pub first-within : FreedWithin sectors r
+  first-within = within sectors r (parts (freed_ok sectors r) (all_of (freed_ok sectors) rest) both).0
 
-  pub sectors_at : r.sectors ≤ 128
-  sectors_at = within_at.few
+  pub rest-ok : all_of (freed_ok sectors) rest ≡ true
+  rest-ok = (parts (freed_ok sectors r) (all_of (freed_ok sectors) rest) both).1
+
+  pub bucket_low : {b : Bucket} → b ≡ bucket_of r.first sectors → b.0 < 65536
+  bucket_low f = omega (arith, ap (λ (x : Bucket). x.0) f, first-within.low)

@@ -3,29 +3,20 @@ use mathlib.Core.Path.{◌≡◌, refl, sym, ap, ◌∙◌}
 use mathlib.Core.Bool.{Bool, true, false, cond}
 use Prim.Native.Nat.{ℕ, suc, ◌+◌, ◌*◌, ◌/◌, ◌≤◌, ◌<◌}
 use native.Mathlib.Omega.{arith}
-use mathlib.Core.List.{List, [], ◌∷◌, ◌++◌}
-use lib.ListN.{length, get_or, set, drop, replicate, length-set, length-replicate, replicate-append-replicate}
-use lib.Seq.{get_or-set_same, get_or-set_other, drop-set-lt, set_at, append_snoc}
+use mathlib.Core.List.{List, [], ◌∷◌}
+use lib.ListN.{length, get_or, set, take, drop, replicate, length-set}
+use lib.Seq.{get_or-set_same, get_or-set_other, drop-set-lt}
 use lib.Dec.{eqb, ltb}
 use borrow.Author.Tests.{eqb-true, eqb-false, lt-ltb, ltb-true}
 use Rattle.wire.specs.Kinds.{same_bucket, bucket_of}
 use Rattle.wire.specs.declared.kinds.Bucket.{Bucket}
-use Rattle.wire.proofs.OutputLaws.{drop-next}
 use Rattle.calls.specs.CallList.{Freed}
 use Rattle.calls.specs.Lists.{all_of, total}
 use Rattle.calls.specs.Release.{freed_ok, freed_in}
-use Rattle.calls.proofs.lists.BoolLaws.{parts}
+use Rattle.calls.proofs.lists.BoolLaws.{parts, clash}
 use Rattle.calls.proofs.history.View.{bucket}
-use Rattle.release_sums.specs.Summing.{Cleared, Sums, Marked}
+use Rattle.release_sums.specs.Summing.{Cleared, Summed, Marked}
 use Rattle.release_sums.proofs.FreedLaws.{within}
-
--- a turn of the clearing loop
-pub clear_next : (s : List ℕ) (i : ℕ) → i < length s → set (replicate i 0 ++ drop i s) i 0 ≡ replicate (i + 1) 0 ++ drop (i + 1) s
-clear_next s i h =
-    ap (λ (l : List ℕ). set (replicate i 0 ++ l) i 0) (drop-next 0 s i h)
-    ∙ set_at (replicate i 0) (get_or s i 0) (drop (i + 1) s) 0 i (length-replicate i 0)
-    ∙ sym (append_snoc (replicate i 0) 0 (drop (i + 1) s))
-    ∙ ap (λ (l : List ℕ). l ++ drop (i + 1) s) (replicate-append-replicate i 1 0)
 
 -- one request more or less
 pub freed-next : (sectors : ℕ) (b : Bucket) {l : List Freed} {r : Freed} {rest : List Freed} → l ≡ r ∷ rest
@@ -90,23 +81,34 @@ module _ {sectors : ℕ} {rs rest : List Freed} {before sums : List ℕ} (a : Ad
           let q : b ≡ k → ⊥ = λ z. eqb-false (bucket_of r.first sectors).0 b u (d ∙ sym z) in
           rw (get_or-set_other sums k b (get_or sums k 0 + r.sectors) 0 q) (omega (arith, a.at b m))
 
-  pub add-ends : 65536 ≤ length before → rest ≡ [] → Sums sectors rs sums × (drop 65536 sums ≡ drop 65536 before)
+  pub add-ends : 65536 ≤ length before → rest ≡ [] → Summed sectors rs sums × (drop 65536 sums ≡ drop 65536 before)
   add-ends l e =
       (record { long = omega (arith, a.size); at = λ b h. omega (arith, a.at b.0 (ltb-true b.0 65536 h), freed-none sectors b e) }, a.kept)
 
--- ---- the marks of the groups
-pub marked-starts : (sums marks : List ℕ) → Cleared sums → Marked sums marks
-marked-starts sums marks z = record { zero = λ b h e. z.zero b h }
+-- no sum is taken out
+pub none-taken : {n : ℕ} (l : List ℕ) → n ≡ 0 → take n l ≡ replicate n 0
+none-taken {n} l e = rw e refl
 
--- a group is marked whose bucket gets a new sum
-pub marked_turn : {sums marks : List ℕ} → Marked sums marks → (k x : ℕ) → k / 64 < length marks → Marked (set sums k x) (set marks (k / 64) 1)
-marked_turn {sums} {marks} m k x l = record { zero = λ b h e. go b.0 h e (eqb (b.0 / 64) (k / 64)) refl }
+-- ---- the marks of the groups
+-- one more group is marked
+module _ {sums : List ℕ} {marks : List Bool} (m : Marked sums marks) (k : ℕ) (l : k < 65536) where
+  pub group-marked : get_or (set marks (k / 64) true) (k / 64) false ≡ true
+  group-marked = get_or-set_same marks (k / 64) true false (omega (arith, m.groups))
+
+  pub marked-more : Marked sums (set marks (k / 64) true)
+  marked-more =
+      record { groups = length-set marks (k / 64) true ∙ m.groups; zero = λ b h e. go b h e (eqb (b.0 / 64) (k / 64)) refl }
+    where
+      go : (b : Bucket) → ltb b.0 65536 ≡ true → get_or (set marks (k / 64) true) (b.0 / 64) false ≡ false → (t : Bool) → eqb (b.0 / 64) (k / 64) ≡ t → get_or sums b.0 0 ≡ 0
+      go b h e true u = absurd (clash group-marked (ap (λ (i : ℕ). get_or (set marks (k / 64) true) i false) (sym (eqb-true (b.0 / 64) (k / 64) u)) ∙ e))
+      go b h e false u = m.zero b h (sym (get_or-set_other marks (k / 64) (b.0 / 64) true false (eqb-false (b.0 / 64) (k / 64) u)) ∙ e)
+
+-- a bucket's sum changes in a group that is marked
+pub marked-set : {sums : List ℕ} {marks : List Bool} → Marked sums marks → (k x : ℕ) → get_or marks (k / 64) false ≡ true → Marked (set sums k x) marks
+marked-set {sums} {marks} m k x l = record { groups = m.groups; zero = λ b h e. go b.0 h e (eqb b.0 k) refl }
   where
-    go : (b : ℕ) → ltb b 65536 ≡ true → get_or (set marks (k / 64) 1) (b / 64) 0 ≡ 0 → (t : Bool) → eqb (b / 64) (k / 64) ≡ t → get_or (set sums k x) b 0 ≡ 0
+    go : (b : ℕ) → ltb b 65536 ≡ true → get_or marks (b / 64) false ≡ false → (t : Bool) → eqb b k ≡ t → get_or (set sums k x) b 0 ≡ 0
     go b h e true u =
-        let q : get_or (set marks (k / 64) 1) (k / 64) 0 ≡ 0 = ap (λ (i : ℕ). get_or (set marks (k / 64) 1) i 0) (sym (eqb-true (b / 64) (k / 64) u)) ∙ e in
-        absurd (omega (arith, q, get_or-set_same marks (k / 64) 1 0 l))
-    go b h e false u =
-        let d : b / 64 ≡ k / 64 → ⊥ = eqb-false (b / 64) (k / 64) u in
-        let c : b ≡ k → ⊥ = λ z. d (ap (λ (i : ℕ). i / 64) z) in
-        get_or-set_other sums k b x 0 c ∙ m.zero (bucket b) h (sym (get_or-set_other marks (k / 64) (b / 64) 1 0 d) ∙ e)
+        let q : get_or marks (k / 64) false ≡ false = ap (λ (i : ℕ). get_or marks (i / 64) false) (sym (eqb-true b k u)) ∙ e in
+        absurd (clash l q)
+    go b h e false u = get_or-set_other sums k b x 0 (eqb-false b k u) ∙ m.zero (bucket b) h e

@@ -1,9 +1,7 @@
 -- The released pieces that the code reads.
-use Rattle.std.specs.Prelude.{◌≡◌, true, ℕ, ◌<◌, List, map, take, drop}
+use Rattle.std.specs.Prelude.{ℕ, List, map, take, drop}
 use Rattle.calls.specs.CallList as calls
 use Rattle.calls.specs.CallList.{freed_of}
-use Rattle.calls.specs.Lists.{all_of}
-use Rattle.calls.specs.Release.{freed_ok}
 use Rattle.reader.specs.Located.{FreedsAt}
 use Rattle.release_sums.specs.declared.requests.Freed.{Freed}
 
@@ -18,10 +16,3 @@ freeds_in s offsets = map (λ at. freed_of (take 10 (drop at s))) offsets
 -- each offset finds a piece
 abbrev pub Requested : List ℕ → List ℕ → Type 0
 Requested s offsets = FreedsAt s offsets (freeds_in s offsets)
-
--- refusal 14 passed them, for some bucket size
-pub record PiecesBounded (s offsets : List ℕ) : Type 0 where
-  pub size : ℕ
-  pub some-sectors : 0 < size
-  pub small : size < 65536
-  pub ok : all_of (freed_ok size) (freeds_in s offsets) ≡ true

@@ -1,2 +1,4 @@
 pub mod Freeds
+pub mod FreedsOf
 pub mod Summing
+pub mod SumsLeft

@@ -1,9 +1,8 @@
 // The released pieces: field 66.
 ghost use Rattle.std.specs.Prelude.{◌≡◌, ◌+◌, ◌<◌, ◌≤◌, length, take, drop};
 ghost use Rattle.calls.specs.CallList.{freed_of};
-ghost use Rattle.calls.specs.Lists.{all_of};
 ghost use Rattle.calls.specs.Release.{freed_ok};
-ghost use Rattle.release_sums.specs.Freeds.{freed_held, freeds_in, Requested};
+ghost use Rattle.release_sums.specs.Freeds.{freed_held, Requested};
 
 use wire::kinds::DeviceSector;
 use wire::{kinds, le};
@@ -14,9 +13,23 @@ pub struct Freed {
     pub sectors: u16,
 }
 
+// The released pieces of a list, by their places in it.
+#[derive(Clone, Copy, Drop)]
+pub struct Freeds<'a> {
+    pub list: &'a [u8],
+    pub places: &'a [u32],
+    pub ghost requested: { Requested list.now places.now },
+}
+
+// Those of them that are left.
+#[derive(Drop)]
+pub struct FreedsLeft<'a> {
+    pub freeds: Freeds<'a>,
+}
+
 // The piece at a place of a list. The length of a field 66 shows the bound.
 #[tactic(auto, using(crate::proofs::FreedLaws::freed_read))]
-pub fn read_freed(s: &[u8], at: usize) -> Freed
+fn read_freed(s: &[u8], at: usize) -> Freed
     requires { at + 10 ≤ length s.now }
     ensures { freed_held result ≡ freed_of (take 10 (drop at s.now)) }
 {
@@ -37,12 +50,41 @@ fn freed_ok(r: Freed, sectors: u64) -> bool
         && kinds::bucket_in_range(kinds::bucket_of(r.first, sectors))
 }
 
-// Refusal 14: whether every piece lies within its bucket. The reader shows that each offset finds one.
-pub fn all_freed_ok(s: &[u8], requests: &[u32], sectors: u64) -> bool
-    requires { Requested s.now requests.now × ((0 < sectors) × (sectors < 65536)) }
-    ensures { result ≡ all_of (freed_ok sectors) (freeds_in s.now requests.now) }
-{
-    requests
-        .iter()
-        .all(|at| freed_ok(read_freed(s, *at as usize), sectors))
+impl<'a> Freeds<'a> {
+    ghost use Rattle.calls.specs.Lists.{all_of};
+    ghost use Rattle.release_sums.specs.FreedsOf.{freeds_of, freeds_left};
+
+    // The pieces, from the first on.
+    pub fn iter(self) -> FreedsLeft<'a>
+        ensures { freeds_left result ≡ freeds_of self.entry }
+    {
+        FreedsLeft { freeds: self }
+    }
+
+    // Refusal 14: whether every piece lies within its bucket.
+    pub fn all_ok(self, sectors: u64) -> bool
+        requires { (0 < sectors) × (sectors < 65536) }
+        ensures { result ≡ all_of (freed_ok sectors) (freeds_of self.entry) }
+    {
+        self.iter().all(|r| freed_ok(r, sectors))
+    }
+}
+
+impl<'a> Iterator for FreedsLeft<'a> {
+    ghost use Rattle.std.specs.Iterator.{item_count, YieldsFirstBy};
+    ghost use Rattle.release_sums.specs.FreedsOf.{freeds_left};
+
+    type Item = Freed;
+
+    ghost next_gives = { YieldsFirstBy (λ r. freed_held r) freeds_left };
+
+    ghost remaining = { item_count freeds_left };
+
+    // The next piece, if one is left.
+    fn next(&mut self) -> Option<Freed> {
+        let (place, others) = self.freeds.places.split_first()?;
+        let r = read_freed(self.freeds.list, *place as usize);
+        self.freeds.places = others;
+        Some(r)
+    }
 }

@@ -1,21 +1,28 @@
 // The sum of each bucket in the lent scratch.
-ghost use Rattle.std.specs.Prelude.{◌≡◌, true, ◌+◌, ◌≤◌, ◌<◌, ◌++◌, length, take, drop, replicate};
-ghost use Rattle.wire.specs.Kinds.{bucket_is};
-ghost use Rattle.calls.specs.Lists.{all_of};
-ghost use Rattle.calls.specs.Release.{freed_ok};
-ghost use Rattle.release_sums.specs.Freeds.{freeds_in, Requested};
-ghost use Rattle.release_sums.specs.Summing.{Cleared, Sums, Marked, sum_of, summed_row, summed_buckets, summed_from, Listed, Appended};
+ghost use Rattle.std.specs.Prelude.{◌≡◌, ◌+◌, ◌≤◌, ◌++◌, length, take, drop, replicate};
+ghost use Rattle.release_sums.specs.Summing.{Cleared, Marked};
 
-use crate::requests;
+use crate::requests::Freeds;
 use wire::kinds;
 use wire::kinds::Bucket;
 
-// A bucket that is freed, the sectors that are freed of it, and the place of its alloc key: none before it is looked for, and where the bucket has none.
+// A bucket of which something is freed, and how many sectors of it.
 #[derive(Clone, Copy, Drop)]
-pub struct FreedBucket {
+pub struct BucketSum {
     pub bucket: Bucket,
-    pub freed: u32,
-    pub place: Option<u32>,
+    pub sectors: u32,
+}
+
+// The table of sums, with a mark for each group of 64 buckets: a bucket whose sum is not 0 is in a group that is marked. The sums of the buckets before `next` are taken out.
+#[derive(Drop)]
+pub struct Sums<'a> {
+    pub sums: &'a mut [u32],
+    pub marks: [bool; 1024],
+    pub next: usize,
+    pub ghost long: { 65536 ≤ length sums.now },
+    pub ghost marked: { Marked sums.now marks },
+    pub ghost within: { next ≤ 65536 },
+    pub ghost taken: { take next sums.now ≡ replicate next 0 },
 }
 
 // Clears the first 65,536 sums. Refusal 1 shows the bound.
@@ -26,54 +33,70 @@ pub fn clear(sums: &mut [u32])
     sums[..65536].fill(0);
 }
 
-// Adds each piece's sectors to the sum of its bucket, and marks the group of 64 buckets that it is in. Refusals 4 and 14, the limits and `clear` show what is required.
-pub fn add_up(s: &[u8], requests: &[u32], sectors: u64, sums: &mut [u32], marks: &mut [u8; 1024])
-    requires requested { Requested s.now requests.now × (0 < sectors) × (length requests.now ≤ 1024) × Cleared sums.old × (marks.old ≡ replicate 1024 0) }
-    requires requests_value { all_of (freed_ok sectors) (freeds_in s.now requests.now) ≡ true }
-    ensures { Sums sectors (freeds_in s.now requests.now) sums.new × (drop 65536 sums.new ≡ drop 65536 sums.old) × Marked sums.new marks.new }
-{
-    for &at in requests {
-        let r = requests::read_freed(s, at as usize);
-        let b = kinds::bucket_of(r.first, sectors).0 as usize;
-        sums[b] += r.sectors as u32;
-        marks[b / 64] = 1;
+impl<'a> Sums<'a> {
+    ghost use Rattle.std.specs.Prelude.{true, ◌<◌};
+    ghost use Rattle.calls.specs.Lists.{all_of};
+    ghost use Rattle.calls.specs.Release.{freed_ok};
+    ghost use Rattle.release_sums.specs.FreedsOf.{freeds_of};
+    ghost use Rattle.release_sums.specs.Summing.{Summed};
+
+    // The table with no group marked, and no sum taken out. `clear` shows what is required.
+    pub fn new(sums: &'a mut [u32]) -> Sums<'a>
+        requires { Cleared sums.old }
+        ensures same_reference { result.sums.ghost_name ≡ sums.entry.ghost_name }
+        ensures same_sums { result.sums.now ≡ sums.old }
+        ensures none_taken { result.next ≡ 0 }
+    {
+        Sums {
+            sums,
+            marks: [false; 1024],
+            next: 0,
+        }
+    }
+
+    // Adds each piece's sectors to the sum of its bucket, and marks its group. Refusals 4 and 14, the limits and `clear` show what is required.
+    pub fn add_up(&mut self, freeds: Freeds, sectors: u64)
+        requires { (0 < sectors) × (length (freeds_of freeds) ≤ 1024) × (all_of (freed_ok sectors) (freeds_of freeds) ≡ true) × Cleared self.old.sums.now × (self.old.next ≡ 0) }
+        ensures same_reference { self.new.sums.ghost_name ≡ self.old.sums.ghost_name }
+        ensures summed { Summed sectors (freeds_of freeds.entry) self.new.sums.now × (drop 65536 self.new.sums.now ≡ drop 65536 self.old.sums.now) × (self.new.next ≡ 0) }
+    {
+        for r in freeds.iter() {
+            let b = kinds::bucket_of(r.first, sectors).0 as usize;
+            self.marks[b / 64] = true;
+            self.sums[b] += r.sectors as u32;
+        }
     }
 }
 
-// Takes out the sums of a group that are not 0, and lists them with their buckets after the first n rows: how many are listed then. `take_freed` shows what is required.
-fn take_group(sums: &mut [u32], from: usize, rows: &mut [FreedBucket], n: usize) -> usize
-    requires from_bound { (from + 64 ≤ 65536) × (65536 ≤ length sums.old) × (take from sums.old ≡ replicate from 0) }
-    requires sums_in_bounds { n + length (summed_from 64 (bucket_is from) sums.old) ≤ length rows.old }
-    ensures { Appended (summed_from 64 (bucket_is from) sums.old) (summed_row (sum_of sums.old)) rows.old n rows.new result × (sums.new ≡ replicate (from + 64) 0 ++ drop (from + 64) sums.old) }
-{
-    let mut n = n;
-    // By the bucket's number, which is the index of its sum.
-    for b in from..from + 64 {
-        let freed = sums[b];
-        if 0 < freed {
-            let bucket = Bucket(b as u64);
-            rows[n] = FreedBucket {
-                bucket,
-                freed,
-                place: None,
-            };
-            sums[b] = 0;
-            n += 1;
-        }
-    }
-    n
-}
+impl<'a> Iterator for Sums<'a> {
+    ghost use Rattle.std.specs.Iterator.{item_count};
+    ghost use Rattle.release_sums.specs.SumsLeft.{sums_left, SumTaken};
 
-// Takes out the sums that are not 0, and lists them with their buckets, ascending: how many there are. `add_up` shows the marks, and a request for each, of at least one sector, the bound.
-pub fn take_freed(sums: &mut [u32], marks: &[u8; 1024], rows: &mut [FreedBucket]) -> usize
-    requires { (65536 ≤ length sums.old) × (length (summed_buckets sums.old) ≤ length rows.old) × Marked sums.old marks.now }
-    ensures { Listed (summed_buckets sums.old) (summed_row (sum_of sums.old)) rows.new result × (sums.new ≡ replicate 65536 0 ++ drop 65536 sums.old) }
-{
-    let mut n: usize = 0;
-    for (g, &mark) in marks.iter().enumerate() {
-        if mark != 0 {
-            n = take_group(sums, g * 64, rows, n);
+    type Item = BucketSum;
+
+    ghost next_gives = { λ before sum after. SumTaken before sum after };
+
+    ghost remaining = { item_count sums_left };
+
+    // Takes out the next sum that is not 0, if one is left.
+    fn next(&mut self) -> Option<BucketSum> {
+        // A `while`, which goes on where the last call ended and passes a group that is not marked as a whole.
+        while self.next < 65536 {
+            let b = self.next;
+            if !self.marks[b / 64] {
+                self.next = (b / 64 + 1) * 64;
+                continue;
+            }
+            let sectors = self.sums[b];
+            self.sums[b] = 0;
+            self.next = b + 1;
+            if sectors != 0 {
+                return Some(BucketSum {
+                    bucket: Bucket(b as u64),
+                    sectors,
+                });
+            }
         }
+        None
     }
-    n
 }

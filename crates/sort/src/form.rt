@@ -18,6 +18,7 @@ pub fn put_fields(out: &mut Output, list: &[u8], places: &[u32])
 {
     let mut from: usize = 0;
     let mut end: usize = 0;
+    // Not by `chunk_by`: its closure would have to be callable at any two places, and a field's length can be read only where a field stands.
     for place in places {
         let o = *place as usize;
         if o != end + 3 {

@@ -1,5 +1,8 @@
-use Rattle.std.proofs.Common.{append_assoc}
+use Rattle.std.proofs.Common.{append_assoc, sym, ◌∙◌}
+use lib.ListN.{length-map}
 use Rattle.wire.proofs.AppendLaws.{with-with}
+use Rattle.reader.specs.KeyHere.{key_here}
+use Rattle.reader.specs.ListedKeys.{keys_listed}
 use Rattle.discard.proofs.EmitLaws.{batch-is}
 use Rattle.discard.proofs.batch.discard_buckets.Goals as goal
 
@@ -15,5 +18,5 @@ returns c =
       c.put_alloc_keys.ensures,
       with-with,
       append_assoc,
-      batch-is d.list.now d.needs.now d.offsets.now,
+      batch-is d.waiting.now (keys_listed d.keys) (c.len.ensures ∙ sym (length-map d.keys.places.now (key_here d.keys.list.now))),
     )

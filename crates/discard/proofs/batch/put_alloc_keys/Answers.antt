@@ -1,23 +1,26 @@
-use Rattle.std.proofs.Common.{ℕ, List, arith, sym, ◌∙◌}
+use Rattle.std.proofs.Common.{ℕ, List, refl, ◌∙◌}
 use Rattle.std.specs.Prelude.{map}
-use Rattle.wire.proofs.AppendLaws.{loop-turn, loop-end}
+use Rattle.wire.specs.Keys.{Key}
 use Rattle.wire.proofs.EncodeLaws.{encode-none, encode-next}
-use Rattle.calls.proofs.lists.AllLaws.{all-nth}
-use Rattle.reader.specs.KeyHere.{keys_here}
 use Rattle.change_fields.specs.FieldBytes.{keys_bytes}
 use Rattle.discard.specs.Emitted.{discarded_key}
+use Rattle.discard.proofs.EmitLaws.{walk-turn, walk-end, shown-all, shown-here, shown-left}
 use Rattle.discard.proofs.batch.put_alloc_keys.Goals as goal
 
-abbrev bytes : List ℕ → List ℕ → List ℕ
-bytes s os = keys_bytes 4 (map discarded_key (keys_here s os))
+abbrev bytes : List Key → List ℕ
+bytes ks = keys_bytes 4 (map discarded_key ks)
+
+pub loop-key-init : goal.loop-key-init
+loop-key-init c = rw (c.into_iter-key-iterator.ensures.into_iter_gives, c.iter-key-items.ensures) (shown-all c.args.d.now.shown, refl)
 
 pub put_alloc_key-requires : goal.put_alloc_key-requires
-put_alloc_key-requires c = all-nth 0 c.requires c.loop-o.o-index (omega arith)
+put_alloc_key-requires c = shown-here c.in-Some.ensures.steps.keys c.loop-key.invariant.0
 
-pub loop-o-preserved : goal.loop-o-preserved
-loop-o-preserved c =
-    loop-turn (bytes c.args.s.now) c.args.offsets.now c.loop-o.o-index 0 _ c.loop-o.out c.put_alloc_key.new.out (omega arith) (encode-next _ _) c.put_alloc_key.ensures
-    ∙ c.loop-o.invariant
+pub loop-key-preserved : goal.loop-key-preserved
+loop-key-preserved c =
+    let i = c.loop-key.invariant in
+    let s = c.in-Some.ensures.steps.keys in
+    (shown-left s i.0, walk-turn bytes _ c.loop-key.out c.put_alloc_key.new.out s (encode-next _ _) c.put_alloc_key.ensures ∙ i.1)
 
 pub returns : goal.returns
-returns c = sym (loop-end (bytes c.args.s.now) c.args.offsets.now c.loop-o.o-index c.loop-o.out (omega arith) encode-none) ∙ c.loop-o.invariant
+returns c = walk-end bytes c.loop-key.out c.in-None.ensures.steps encode-none ∙ c.loop-key.invariant.1

@@ -1,30 +1,31 @@
 use mathlib.Core.List.{flat_map}
-use Rattle.std.proofs.Common.{ℕ, List, refl, arith, sym, ◌∙◌}
+use Rattle.std.proofs.Common.{ℕ, List, refl, ◌∙◌}
 use Rattle.wire.specs.Encode.{key_field}
-use Rattle.wire.proofs.AppendLaws.{loop-turn, loop-end}
-use Rattle.calls.proofs.lists.AllLaws.{all-nth}
+use Rattle.wire.specs.Keys.{Key}
 use Rattle.calls.specs.Discard.{waiting_deletions}
-use Rattle.reader.specs.KeyHere.{keys_here}
 use Rattle.change_fields.specs.FieldBytes.{keys_bytes}
 use Rattle.change_fields.proofs.FieldLists.{flat-next, flat-none}
-use Rattle.discard.specs.Emitted.{buckets_at}
+use Rattle.discard.specs.Emitted.{buckets_of}
+use Rattle.discard.proofs.EmitLaws.{walk-turn, walk-end, shown-all, shown-here, shown-left}
 use Rattle.discard.proofs.batch.put_deletions.Goals as goal
 
-abbrev bytes : List ℕ → List ℕ → List ℕ → List ℕ
-bytes s needs os = keys_bytes 12 (flat_map (waiting_deletions (keys_here s needs)) (buckets_at s os))
+abbrev bytes : List Key → List Key → List ℕ
+bytes needs ks = keys_bytes 12 (flat_map (waiting_deletions needs) (buckets_of ks))
+
+pub loop-key-init : goal.loop-key-init
+loop-key-init c = rw (c.into_iter-key-iterator.ensures.into_iter_gives, c.iter-key-items.ensures) (shown-all c.args.d.now.shown, refl)
 
 pub put_waiting-requires : goal.put_waiting-requires
-put_waiting-requires c = (all-nth 0 c.requires.kept c.loop-o.o-index (omega arith), c.requires)
+put_waiting-requires c = shown-here c.in-Some.ensures.steps.keys c.loop-key.invariant.0
 
-pub loop-o-preserved : goal.loop-o-preserved
-loop-o-preserved c =
-    let d = c.args.d.now in
-    loop-turn (bytes d.list.now d.needs.now) d.offsets.now c.loop-o.o-index 0 _ c.loop-o.out c.put_waiting.new.out (omega arith)
-    (flat-next (key_field 12) (waiting_deletions (keys_here d.list.now d.needs.now)) refl) c.put_waiting.ensures
-    ∙ c.loop-o.invariant
+pub loop-key-preserved : goal.loop-key-preserved
+loop-key-preserved c =
+    let needs = c.args.d.now.waiting.now in
+    let i = c.loop-key.invariant in
+    let s = c.in-Some.ensures.steps.keys in
+    (shown-left s i.0, walk-turn (bytes needs) _ c.loop-key.out c.put_waiting.new.out s (flat-next (key_field 12) (waiting_deletions needs) refl) c.put_waiting.ensures ∙ i.1)
 
 pub returns : goal.returns
 returns c =
-    let d = c.args.d.now in
-    sym (loop-end (bytes d.list.now d.needs.now) d.offsets.now c.loop-o.o-index c.loop-o.out (omega arith) (flat-none (key_field 12) (waiting_deletions (keys_here d.list.now d.needs.now)) refl))
-    ∙ c.loop-o.invariant
+    let needs = c.args.d.now.waiting.now in
+    walk-end (bytes needs) c.loop-key.out c.in-None.ensures.steps (flat-none (key_field 12) (waiting_deletions needs) refl) ∙ c.loop-key.invariant.1

@@ -1,17 +1,18 @@
-use Rattle.std.proofs.Common.{◌≡◌, ◌≤◌, length}
+use Rattle.std.proofs.Common.{◌≡◌}
 use Rattle.std.specs.Slice.Iter.{chunks_rest, chunks_size}
-use Rattle.wire.specs.Bytes.{All}
 use Rattle.wire.specs.Output.{with_bytes}
-use Rattle.need_discard.specs.Kept.{DiscardedKept}
+use Rattle.reader.specs.KeyHere.{keys_here, WholeKeys}
+use Rattle.reader.specs.ListedKeys.{keys_listed}
 use Rattle.discard.specs.Emitted.{changes_from}
+use Rattle.discard.specs.Shown.{DiscardShown}
 use Rattle.discard.proofs.changes.discard_freed.Given as goal
 
-abbrev pub invariant-loop-offsets : goal.invariant-loop-offsets
-invariant-loop-offsets l =
-    goal.iterator-loop-offsets.can_next l.offsets-iterator
-    × goal.iterator-loop-offsets.is_finite l.offsets-iterator
-    × (chunks_size l.offsets-iterator ≡ l.size)
-    × All (DiscardedKept l.d.list.now) (chunks_rest l.offsets-iterator)
-    × (length (chunks_rest l.offsets-iterator) ≤ 4096)
-    × (with_bytes l.out (changes_from l.d.list.now l.d.needs.now l.size (chunks_rest l.offsets-iterator))
-    ≡ with_bytes l.fn.out (changes_from l.d.list.now l.d.needs.now l.size l.d.offsets.now))
+abbrev pub invariant-loop-places : goal.invariant-loop-places
+invariant-loop-places l =
+    goal.iterator-loop-places.can_next l.places-iterator
+    × goal.iterator-loop-places.is_finite l.places-iterator
+    × (chunks_size l.places-iterator ≡ l.size)
+    × WholeKeys l.d.keys.list.now (chunks_rest l.places-iterator)
+    × DiscardShown (keys_here l.d.keys.list.now (chunks_rest l.places-iterator))
+    × (with_bytes l.out (changes_from l.d.waiting.now l.size (keys_here l.d.keys.list.now (chunks_rest l.places-iterator)))
+    ≡ with_bytes l.fn.out (changes_from l.d.waiting.now l.size (keys_listed l.d.keys)))

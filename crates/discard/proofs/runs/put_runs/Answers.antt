@@ -1,31 +1,43 @@
-use Rattle.std.proofs.Common.{arith, ap, ◌∙◌}
-use Rattle.wire.specs.Output.{with_bytes}
-use Rattle.calls.proofs.lists.AllLaws.{all-nth}
-use Rattle.change_fields.specs.FieldBytes.{keys_bytes}
-use Rattle.discard.specs.Emitted.{buckets_at}
-use Rattle.discard.proofs.RunLaws.{open_none, run-turn, run-end, with_size}
+use Rattle.std.proofs.Common.{refl, arith, ap, sym, length, ◌∙◌}
+use Rattle.wire.specs.Positions.{bucket_in}
+use Rattle.wire.proofs.AppendLaws.{with-none}
+use Rattle.reader.specs.ListedKeys.{key_listed}
+use Rattle.discard.proofs.EmitLaws.{shown-all, shown-here, shown-left, first-of}
+use Rattle.discard.proofs.RunLaws.{runs-none, runs-start, run-turn, run-end, with_size, bucket-fits}
 use Rattle.discard.proofs.runs.put_runs.Goals as goal
 
-pub loop-o-init : goal.loop-o-init
-loop-o-init c = (omega arith, ap (λ ks. with_bytes c.args.out.now (keys_bytes 11 ks)) (open_none _ (buckets_at c.args.s.now c.args.offsets.now)))
+pub returns-in_default : goal.returns-in_default
+returns-in_default c = rw (runs-none (first-of c.iter-others.ensures c.in_default.ensures.steps)) (sym (with-none c.args.out.now))
 
-pub bucket_at-b-requires : goal.bucket_at-b-requires
-bucket_at-b-requires c = (all-nth 0 c.requires.0 c.loop-o.o-index (omega arith)).kept
+pub next_bucket-requires : goal.next_bucket-requires
+next_bucket-requires c = bucket-fits (shown-here (first-of c.iter-others.ensures c.in-Some.ensures.steps.keys) (shown-all c.args.d.now.shown)) c.bucket.ensures
+
+pub loop-key-init : goal.loop-key-init
+loop-key-init c =
+    let s = first-of c.iter-others.ensures c.in-Some.ensures.steps.keys in
+    rw c.into_iter-key-iterator.ensures.into_iter_gives (
+      shown-left s (shown-all c.args.d.now.shown),
+      omega (arith, ap length s, c.args.d.now.shown.few),
+      rw (runs-start s (rw c.bucket.ensures at c.next_bucket.ensures)) refl,
+    )
 
 pub with_bucket-r-requires : goal.with_bucket-r-requires
 with_bucket-r-requires c =
-    let h = all-nth 0 c.requires.0 c.loop-o.o-index (omega arith) in
-    (rw c.bucket_at-b.ensures h.below, omega (arith, c.loop-o.invariant.0))
+    let i = c.loop-key.invariant in
+    let s = c.in-Some-key.ensures.steps.keys in
+    (rw c.bucket-b.ensures (shown-here s i.0).below, omega (arith, ap length s, i.1))
 
-pub loop-o-preserved : goal.loop-o-preserved
-loop-o-preserved c =
-    let l = c.loop-o in
-    let w = c.with_bucket-r.ensures in (
-      rw w (omega (arith, with_size l.r c.bucket_at-b.result, l.invariant.0)),
-      rw w (run-turn c.args.s.now c.args.offsets.now l.o-index l.r c.bucket_at-b.result l.out c.put_ended.new.out (omega arith) c.bucket_at-b.ensures c.put_ended.ensures ∙ l.invariant.1),
+pub loop-key-preserved : goal.loop-key-preserved
+loop-key-preserved c =
+    let l = c.loop-key in
+    let i = l.invariant in
+    let s = c.in-Some-key.ensures.steps.keys in
+    let b = c.bucket-b.ensures in
+    let w = rw b at c.with_bucket-r.ensures in (
+      shown-left s i.0,
+      rw w (omega (arith, ap length s, with_size l.r (bucket_in (key_listed c.in-Some-key.key).pos), i.1)),
+      rw w (run-turn l.r l.out c.put_ended.new.out s (rw b at c.put_ended.ensures) ∙ i.2),
     )
 
 pub returns : goal.returns
-returns c =
-    let l = c.loop-o in
-    run-end c.args.s.now c.args.offsets.now l.o-index l.r l.out c.put_run.new.out (omega arith) c.put_run.ensures ∙ l.invariant.1
+returns c = run-end c.loop-key.r c.loop-key.out c.put_run.new.out c.in-None.ensures.steps c.put_run.ensures ∙ c.loop-key.invariant.2

@@ -1,10 +1,8 @@
-use Rattle.std.proofs.Common.{◌≡◌, drop}
-use Rattle.calls.specs.Answers.{read_volume}
+use Rattle.std.proofs.Common.{◌≡◌}
 use Rattle.calls.specs.Freespace.{runs_of, overlaps}
+use Rattle.reader.specs.ListedKeys.{keys_listed, keys_left}
 use Rattle.freespace.proofs.RunLaws.{meets}
 use Rattle.freespace.proofs.runs.overlaps.Given as goal
 
-abbrev pub invariant-loop-at : goal.invariant-loop-at
-invariant-loop-at l =
-    let ks = (read_volume l.s).trees.freespace in
-    meets l.last (drop l.at-index ks) ≡ overlaps (runs_of ks)
+abbrev pub invariant-loop-key : goal.invariant-loop-key
+invariant-loop-key l = meets l.last (keys_left l.key-iterator) ≡ overlaps (runs_of (keys_listed l.fn.runs))

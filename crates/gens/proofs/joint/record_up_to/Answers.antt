@@ -1,25 +1,36 @@
-use Rattle.std.proofs.Common.{arith, length-take}
-use Rattle.gens.proofs.JointLaws.{last-within, no_record_lem, stands-there, record-there, record_missing}
+use Rattle.std.proofs.Common.{◌≡◌, arith, length, length-take-le, ap, sym, ◌∙◌, ◌≤◌}
+use Rattle.std.proofs.lemmas.List.{length-map}
+use Rattle.wire.specs.Positions.{gens_at}
+use Rattle.wire.specs.declared.kinds.Bucket.{Bucket}
+use Prim.Native.Nat.{ℕ}
+use Rattle.reader.specs.KeyHere.{key_here}
+use Rattle.reader.specs.ListedKeys.{keys_listed}
+use Rattle.reader.specs.Located.{no_key}
+use Rattle.reader.specs.declared.listed_keys.Keys.{Keys}
+use Rattle.gens.specs.Joint.{keys_up_to}
+use Rattle.gens.proofs.JointLaws.{up-to-within, no_record_lem, last-key, record-there, record_missing}
 use Rattle.gens.proofs.joint.record_up_to.Goals as goal
 
-pub slice_bounds-last-end : goal.slice_bounds-last-end
-slice_bounds-last-end c =
-    omega (arith, length-take c.args.k c.args.gens.now, last-within _ _ c.requires.0 c.requires.1 c.args.b _ c.requires.2)
+-- no more stand up to a position than there are keys
+inside : (gens : Keys) (b : Bucket) {k : ℕ} → k ≡ keys_up_to (gens_at b) (keys_listed gens) → k ≤ length gens.places.now
+inside gens b e =
+    omega (arith, up-to-within (gens_at b) no_key (keys_listed gens), length-map gens.places.now (key_here gens.list.now))
 
-pub returns-in_err-at : goal.returns-in_err-at
-returns-in_err-at c = rw c.from_residual.ensures (no_record_lem _ _ c.requires.0 c.requires.1 _ _ c.requires.2 c.in_err-at.ensures.item.3)
+pub up_to-requires : goal.up_to-requires
+up_to-requires c = inside c.args.gens c.args.b c.requires.1
 
-pub is_record-requires : goal.is_record-requires
-is_record-requires c =
-    let h = c.in_ok-at.ensures.item.3 in
-    stands-there _ _ c.requires.0 c.requires.1 _ _ c.requires.2 c.in_ok-at.field-0.now h.0 (h.1 0)
+pub returns-in_err-key : goal.returns-in_err-key
+returns-in_err-key c =
+    let n = length-take-le c.args.k c.args.gens.places.now (inside c.args.gens c.args.b c.requires.1) in
+    rw c.from_residual.ensures
+    (no_record_lem _ c.requires.0 c.args.b c.requires.1 (sym n ∙ ap length (sym c.up_to.ensures.1) ∙ ap length c.in_err-key.ensures))
 
-pub returns-then-is_record : goal.returns-then-is_record
-returns-then-is_record c =
-    let h = c.in_ok-at.ensures.item.3 in
-    record-there _ _ c.requires.0 c.requires.1 _ _ c.requires.2 c.in_ok-at.field-0.now h.0 (h.1 0) c.if-is_record.ensures
+pub returns-then-is_record_of : goal.returns-then-is_record_of
+returns-then-is_record_of c =
+    let x = last-key c.args.gens (inside c.args.gens c.args.b c.requires.1) c.up_to.ensures c.in_ok-key.ensures in
+    record-there _ c.requires.0 c.args.b c.requires.1 x.0 _ x.1 c.if-is_record_of.ensures
 
-pub returns-else-is_record : goal.returns-else-is_record
-returns-else-is_record c =
-    let h = c.in_ok-at.ensures.item.3 in
-    record_missing _ _ c.requires.0 c.requires.1 _ _ c.requires.2 c.in_ok-at.field-0.now h.0 (h.1 0) c.if-is_record.ensures
+pub returns-else-is_record_of : goal.returns-else-is_record_of
+returns-else-is_record_of c =
+    let x = last-key c.args.gens (inside c.args.gens c.args.b c.requires.1) c.up_to.ensures c.in_ok-key.ensures in
+    record_missing _ c.requires.0 c.args.b c.requires.1 x.0 _ x.1 c.if-is_record_of.ensures

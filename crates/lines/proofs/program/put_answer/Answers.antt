@@ -1,4 +1,4 @@
-use Rattle.std.proofs.Common.{arith, sym, ap, ◌∙◌, ◌≡◌}
+use Rattle.std.proofs.Common.{arith, sym, ap, ◌∙◌}
 use Rattle.wire.specs.Output.{with_bytes}
 use Rattle.wire.proofs.NumberLaws.{bytes-from}
 use Rattle.calls.specs.ChangeList.{change_laid_out}

@@ -1,23 +1,33 @@
-use Rattle.std.proofs.Common.{sym, arith, ◌∙◌}
-use Rattle.calls.proofs.lists.AllLaws.{all-nth}
-use Rattle.need_discard.proofs.ChosenLaws.{chosen-more, chosen-same, chosen-all}
+use Rattle.std.proofs.Common.{ℕ, List, refl, arith, sym, ap, ◌∙◌}
+use lib.ListN.{length-map}
+use Rattle.reader.specs.KeyHere.{key_here}
+use Rattle.need_discard.proofs.ChosenLaws.{choosing-start, choosing-more, choosing-same, chosen-whole, chosen-all}
 use Rattle.need_discard.proofs.discarded.discarded_keys.Goals as goal
-use Rattle.need_discard.proofs.discarded.discarded_keys.Goals.{then-is_discarded, else-is_discarded}
 
-pub is_discarded-requires : goal.is_discarded-requires
-is_discarded-requires c = (all-nth 0 c.requires.0 c.loop-o.o-index c.loop-o-test.true, c.requires.2)
+pub loop-key-init : goal.loop-key-init
+loop-key-init c =
+    let a = c.args.alloc in
+    rw (c.into_iter-key-iterator.ensures.into_iter_gives, c.iter-key-items.ensures)
+    (refl, choosing-start a.list.now c.args.waiting.now c.requires.0 (omega (arith, c.requires.1, length-map a.places.now (key_here a.list.now))))
 
-pub loop-o-preserved : goal.loop-o-preserved
-loop-o-preserved c =
-    let a = c.args in
-    let l = c.loop-o in
-    let t = c.is_discarded.ensures in
-    elim c.if-is_discarded.branch [
-      | then-is_discarded w ↦ rw (w.n-is, w.discarded-is) (omega arith, chosen-more a.s.now a.needs.now a.alloc.now l.discarded l.n l.o-index c.loop-o-test.true l.invariant.1 (omega arith) (sym t ∙ w.if-is_discarded.true))
-      | else-is_discarded w ↦ rw (w.n-is, w.discarded-is) (omega arith, chosen-same a.s.now a.needs.now a.alloc.now l.discarded l.n l.o-index c.loop-o-test.true l.invariant.1 (sym t ∙ w.if-is_discarded.false))
-    ]
+pub loop-key-preserved-then-is_discarded : goal.loop-key-preserved-then-is_discarded
+loop-key-preserved-then-is_discarded c =
+    let i = c.loop-key.invariant in
+    let s = c.in-Some.ensures.steps in
+    let e = s.list ∙ i.0 in
+    let k = c.in-Some.key in (
+      s.same ∙ i.0,
+      choosing-more s.keys i.1 k.at (rw e at k.whole) (ap (λ (l : List ℕ). key_here l k.at) (sym e)) (sym c.is_discarded.ensures ∙ c.if-is_discarded.true),
+    )
+
+pub loop-key-preserved : goal.loop-key-preserved
+loop-key-preserved c =
+    let i = c.loop-key.invariant in
+    let s = c.in-Some.ensures.steps in
+    (s.same ∙ i.0, choosing-same s.keys i.1 (sym c.is_discarded.ensures ∙ c.if-is_discarded.false))
+
+pub invariant_of-result : goal.invariant_of-result
+invariant_of-result c = record { whole = chosen-whole c.in-None.ensures.steps c.loop-key.invariant.1 }
 
 pub returns : goal.returns
-returns c =
-    let l = c.loop-o in
-    (omega arith, chosen-all c.args.s.now c.args.needs.now c.args.alloc.now l.discarded l.n l.o-index c.loop-o-test.false l.invariant.1)
+returns c = chosen-all c.in-None.ensures.steps c.loop-key.invariant.1

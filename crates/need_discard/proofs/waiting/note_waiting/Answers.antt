@@ -1,23 +1,37 @@
-use Rattle.std.proofs.Common.{ℕ, arith, ◌∙◌}
-use lib.ListN.{length-replicate}
+use Rattle.std.proofs.Common.{refl, arith, sym, subst}
+use lib.ListN.{length-map}
 use Rattle.calls.proofs.lists.AllLaws.{all-nth}
-use Rattle.need_discard.proofs.TableLaws.{empty-entries, noted-entries, noted-length, all-entries}
+use Rattle.reader.specs.KeyHere.{key_here}
+use Rattle.reader.specs.ListedKeys.{keys_listed}
+use Rattle.reader.specs.Located.{no_key}
+use Rattle.need_discard.specs.Kept.{NeedKept}
+use Rattle.need_discard.proofs.TableLaws.{empty-entries, noted-entries, all-entries, step-within, step-key, step-rest}
 use Rattle.need_discard.proofs.waiting.note_waiting.Goals as goal
 
 pub note-requires : goal.note-requires
-note-requires c = (all-nth 0 c.requires.0 c.loop-i.i c.loop-i-test.true, omega arith)
+note-requires c =
+    let i = c.loop-i.invariant in
+    let all = keys_listed c.args.keys.now in
+    let l = step-within all c.loop-i.i i.2 c.in-Some.ensures.steps.keys in (
+      subst NeedKept (sym (step-key all c.loop-i.i i.2 c.in-Some.ensures.steps.keys)) (all-nth no_key c.requires.0 c.loop-i.i l),
+      omega (arith, l, length-map c.args.keys.now.places.now (key_here c.args.keys.now.list.now)),
+    )
 
 pub loop-i-init : goal.loop-i-init
-loop-i-init c = rw c.requires.2 (length-replicate {A = ℕ} 65536 0, empty-entries c.args.s.now c.args.needs.now)
+loop-i-init c = (tt, tt, rw c.iter-key-items.ensures refl, c.told-table, rw c.requires.2 (empty-entries (keys_listed c.args.keys.now)))
 
 pub loop-i-preserved : goal.loop-i-preserved
 loop-i-preserved c =
-    let l = c.loop-i in
-    let s = c.args.s.now in
-    rw c.note.ensures
-    (noted-length s l.table _ l.i ∙ l.invariant.0, noted-entries s c.args.needs.now l.table l.i c.loop-i-test.true l.invariant.0 l.invariant.1)
+    let n = c.loop-i.i in
+    let i = c.loop-i.invariant in
+    let all = keys_listed c.args.keys.now in
+    let s = c.in-Some.ensures.steps.keys in (
+      tt,
+      tt,
+      step-rest all n i.2 s,
+      c.note.array_long,
+      rw (c.note.ensures, step-key all n i.2 s) (noted-entries all c.loop-i.table n (step-within all n i.2 s) i.3 i.4),
+    )
 
 pub returns : goal.returns
-returns c =
-    let l = c.loop-i in
-    (l.invariant.0, record { kept = c.requires.0; entries = λ z. all-entries c.args.s.now c.args.needs.now l.table l.i (omega arith) l.invariant.1 })
+returns c = let i = c.loop-i.invariant in all-entries (keys_listed c.args.keys.now) c.loop-i.table c.loop-i.i i.2 c.in-None.ensures.steps i.4

@@ -1,8 +1,13 @@
 -- The loop's invariant: the table is right for the keys passed.
-use Rattle.std.proofs.Common.{◌≡◌, length, take}
-use Rattle.reader.specs.KeyHere.{keys_here}
+use Rattle.std.proofs.Common.{◌≡◌, length, take, drop}
+use Rattle.reader.specs.ListedKeys.{keys_listed, keys_left}
 use Rattle.need_discard.specs.Table.{TableEntries}
 use Rattle.need_discard.proofs.waiting.note_waiting.Given as goal
 
 abbrev pub invariant-loop-i : goal.invariant-loop-i
-invariant-loop-i l = (length l.table ≡ 65536) × TableEntries l.s l.needs (keys_here l.s (take l.i l.needs)) l.table
+invariant-loop-i l =
+    goal.iterator-loop-i.can_next l.key-iterator
+    × goal.iterator-loop-i.is_finite l.key-iterator
+    × (keys_left l.key-iterator ≡ drop l.i (keys_listed l.keys))
+    × (length l.table ≡ 65536)
+    × TableEntries (keys_listed l.keys) (take l.i (keys_listed l.keys)) l.table

@@ -1,10 +1,10 @@
 -- `release::release_read` meets its contract.
 use Rattle.std.proofs.Common.{◌∙◌, sym}
-use Rattle.release.proofs.ReadLaws.{read-keyed, read-requested, read-outcome, scratch-long}
+use Rattle.release.proofs.ReadLaws.{read-ascend, read-requested, read-outcome, scratch-long}
 use Rattle.release.proofs.release.release_read.Goals as goal
 
-pub release_lists-requires-clause-keyed : goal.release_lists-requires-clause-keyed
-release_lists-requires-clause-keyed c = read-keyed c.requires.0
+pub release_lists-requires-clause-ascend : goal.release_lists-requires-clause-ascend
+release_lists-requires-clause-ascend c = read-ascend c.requires.0
 
 pub release_lists-requires-clause-requested : goal.release_lists-requires-clause-requested
 release_lists-requires-clause-requested c = let p = read-requested c.requires.0 in (p.0, p.1, c.requires.1)

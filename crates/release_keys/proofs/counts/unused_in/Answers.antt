@@ -1,41 +1,81 @@
--- `counts::unused_in` meets its contract.
-use Rattle.std.proofs.Common.{◌≡◌, ◌-◌, ◌∙◌, ap, arith, sym, drop_of_length-le, get_or}
-use mathlib.Core.Bool.{Bool, cond, true, false}
-use borrow.Author.Tests.{eq-eqb, ne_eqb}
+use Rattle.std.proofs.Common.{◌≡◌, ◌-◌, ◌∙◌, arith, ap, sym, length}
+use mathlib.Core.Bool.{Bool, true, false, cond}
+use Rattle.calls.specs.Lists.{total}
 use Rattle.calls.proofs.lists.TotalLaws.{total-next, total-none}
 use Rattle.release_keys.specs.Counting.{row_kept, row_lost}
-use Rattle.release_keys.specs.Tables.{no_row, row_dirty, row_emptied}
-use Rattle.release_keys.proofs.RowLaws.{rows-next, kept-are, lost-are}
+use Rattle.release_keys.specs.HeldOf.{held_left}
+use Rattle.release_keys.specs.Tables.{row_dirty, row_emptied}
+use Rattle.release_keys.proofs.RowLaws.{table-few, kept-are, lost-are}
 use Rattle.release_keys.proofs.counts.unused_in.Goals as goal
-use Rattle.release_keys.proofs.counts.unused_in.Goals.{then-f-dirty, else-f-dirty}
 
-pub loop-f-preserved : goal.loop-f-preserved
-loop-f-preserved c =
-    let f = get_or c.args.rows.now c.loop-f.f-index no_row in
-    let next = rows-next c.args.rows.now c.loop-f.f-index c.loop-f-test.true in
-    let kept = total-next (row_kept c.args.s.now) next in
-    let lost = total-next (row_lost c.args.s.now c.args.sectors) next in
-    let small = c.requires.1 c.loop-f.f-index c.loop-f-test.true in
-    let held = (c.requires.0 c.loop-f.f-index c.loop-f-test.true).held in
-    elim c.if-f-dirty.branch [
-      | then-f-dirty w ↦
-          let e : row_emptied c.args.s.now f ≡ true = eq-eqb _ _ (w.if-f-dirty.true ∙ c.dirty_of-dirty.ensures) in
-          let k = ap (λ (b : Bool). cond b 0 f.freed) e in
-          let l = ap (λ (b : Bool). cond b (c.args.sectors - row_dirty c.args.s.now f) 0) e in
-          rw w.u-is (omega (arith, kept, lost, k, l), omega (arith, c.dirty_of-dirty.ensures), omega (arith, kept, k), omega (arith, lost, l, c.dirty_of-dirty.ensures))
-      | else-f-dirty w ↦
-          let e : row_emptied c.args.s.now f ≡ false = ne_eqb _ _ (λ z. w.if-f-dirty.false (z ∙ sym c.dirty_of-dirty.ensures)) in
-          let k = ap (λ (b : Bool). cond b 0 f.freed) e in
-          let l = ap (λ (b : Bool). cond b (c.args.sectors - row_dirty c.args.s.now f) 0) e in
-          rw w.u-is (omega (arith, small, held), omega arith, omega (arith, kept, k), omega (arith, lost, l))
-    ]
+pub loop-h-init : goal.loop-h-init
+loop-h-init c =
+    let t = c.args.table.now.table in
+    let s = t.read.alloc.list.now in
+    let i = c.into_iter-h-iterator.ensures.into_iter_gives in
+    let e = ap held_left i ∙ c.iter-h-items.ensures.0 in (
+      rw i c.iter-h-items.ensures.1,
+      omega (arith, ap length e),
+      omega (arith, ap length e),
+      omega (arith, ap (total (row_kept s)) e),
+      omega (arith, ap (total (row_lost s t.read.head.bucket_sectors)) e),
+    )
+
+pub loop-h-preserved-then-is_emptied : goal.loop-h-preserved-then-is_emptied
+loop-h-preserved-then-is_emptied c =
+    let t = c.args.table.now.table in
+    let s = t.read.alloc.list.now in
+    let v = c.loop-h.invariant in
+    let w = c.in-Some.ensures.steps in
+    let h = c.in-Some.h in
+    let same = w.1.0 ∙ v.0.0 in
+    let e : row_emptied s h.freed ≡ true = rw same at (sym c.if-is_emptied.ensures) in
+    let kept = total-next (row_kept s) w.0 in
+    let lost = total-next (row_lost s t.read.head.bucket_sectors) w.0 in
+    let k = ap (λ (b : Bool). cond b 0 h.freed.sectors) e in
+    let l = ap (λ (b : Bool). cond b (t.read.head.bucket_sectors - row_dirty s h.freed) 0) e in
+    let d : c.dirty.result ≡ row_dirty s h.freed = rw same at c.dirty.ensures in
+    let few = ap length w.0 in
+    let size = w.1.1 ∙ v.0.1 in
+    ((w.2.0 ∙ v.0.0, w.2.1 ∙ v.0.1), omega (arith, v.1, few), omega (arith, v.2, few, size, t.checked.small), omega (arith, v.3, kept, k), omega (arith, v.4, lost, l, d, size))
+
+pub loop-h-preserved : goal.loop-h-preserved
+loop-h-preserved c =
+    let t = c.args.table.now.table in
+    let s = t.read.alloc.list.now in
+    let v = c.loop-h.invariant in
+    let w = c.in-Some.ensures.steps in
+    let h = c.in-Some.h in
+    let same = w.1.0 ∙ v.0.0 in
+    let e : row_emptied s h.freed ≡ false = rw same at (sym c.if-is_emptied.ensures) in
+    let kept = total-next (row_kept s) w.0 in
+    let lost = total-next (row_lost s t.read.head.bucket_sectors) w.0 in
+    let k = ap (λ (b : Bool). cond b 0 h.freed.sectors) e in
+    let l = ap (λ (b : Bool). cond b (t.read.head.bucket_sectors - row_dirty s h.freed) 0) e in
+    let few = ap length w.0 in
+    ((w.2.0 ∙ v.0.0, w.2.1 ∙ v.0.1), omega (arith, v.1, few, h.within, h.held.held, w.1.1, v.0.1, t.checked.small), omega (arith, v.2, few), omega (arith, v.3, kept, k), omega (arith, v.4, lost, l))
+
+pub overflow_add-u : goal.overflow_add-u
+overflow_add-u c =
+    let t = c.args.table.now.table in
+    let v = c.loop-h.invariant in
+    let w = c.in-Some.ensures.steps in
+    omega (arith, v.2, ap length w.0, w.1.1 ∙ v.0.1, t.checked.small, table-few t.checked t.tabled)
+
+pub overflow_add-u-else-is_emptied : goal.overflow_add-u-else-is_emptied
+overflow_add-u-else-is_emptied c =
+    let t = c.args.table.now.table in
+    let v = c.loop-h.invariant in
+    let w = c.in-Some.ensures.steps in
+    let h = c.in-Some.h in
+    omega (arith, v.1, ap length w.0, h.within, h.held.held, w.1.1 ∙ v.0.1, t.checked.small, table-few t.checked t.tabled)
 
 pub returns : goal.returns
 returns c =
-    let none = drop_of_length-le c.args.rows.now c.loop-f-test.false in
-    let kept = total-none (row_kept c.args.s.now) none in
-    let lost = total-none (row_lost c.args.s.now c.args.sectors) none in (
-      omega arith,
-      omega arith,
-      λ v rs t e. record { kept = omega (arith, kept, kept-are t); lost = omega (arith, lost, lost-are t e) },
-    )
+    let t = c.args.table.now.table in
+    let s = t.read.alloc.list.now in
+    let v = c.loop-h.invariant in
+    let few = table-few t.checked t.tabled in
+    let kept = total-none (row_kept s) c.in-None.ensures.steps in
+    let lost = total-none (row_lost s t.read.head.bucket_sectors) c.in-None.ensures.steps in
+    (omega (arith, v.1, few), omega (arith, v.2, few), record { kept = omega (arith, v.3, kept, kept-are t.tabled); lost = omega (arith, v.4, lost, lost-are t.tabled) })

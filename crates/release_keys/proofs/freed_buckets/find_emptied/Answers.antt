@@ -1,24 +1,61 @@
--- `freed_buckets::find_emptied` meets its contract.
-use Rattle.std.proofs.Common.{◌∙◌, arith, sym, drop_of_length-le}
-use borrow.Author.Tests.{eq-eqb, ne_eqb}
+use Rattle.std.proofs.Common.{◌<◌, ◌++◌, ◌∙◌, arith, ap, sym, map, length, length-set, take}
+use mathlib.Core.List.{append-nil}
+use Rattle.calls.specs.Lists.{those}
 use Rattle.calls.proofs.lists.ThoseLaws.{those-hit, those-miss, those-none}
-use Rattle.release_sums.proofs.FoundLaws.{pick-hit, pick-miss}
-use Rattle.release_keys.specs.Tables.{row_emptied}
-use Rattle.release_keys.proofs.RowLaws.{rows-next, listed-rows}
+use Rattle.release_keys.specs.HeldOf.{held_left}
+use Rattle.release_keys.specs.Tables.{row_emptied, row_gen}
+use Rattle.release_keys.proofs.RowLaws.{table-few, listed_more, emptied-are}
 use Rattle.release_keys.proofs.freed_buckets.find_emptied.Goals as goal
-use Rattle.release_keys.proofs.freed_buckets.find_emptied.Goals.{then-f-dirty_of, else-f-dirty_of}
 
-pub loop-f-preserved : goal.loop-f-preserved
-loop-f-preserved c =
-    let next = rows-next c.args.rows.now c.loop-f.f-index c.loop-f-test.true in
-    elim c.if-f-dirty_of.branch [
-      | then-f-dirty_of w ↦
-          rw (w.emptied-is, w.n-is, w.emptied_gen.ensures)
-          (omega arith, pick-hit c.loop-f.invariant.1 (those-hit (row_emptied c.args.s.now) next (eq-eqb _ _ (w.if-f-dirty_of.true ∙ c.dirty_of.ensures))) (omega arith))
-      | else-f-dirty_of w ↦
-          rw (w.emptied-is, w.n-is)
-          (omega arith, pick-miss c.loop-f.invariant.1 (those-miss (row_emptied c.args.s.now) next (ne_eqb _ _ (λ z. w.if-f-dirty_of.false (z ∙ sym c.dirty_of.ensures)))))
-    ]
+pub loop-h-init : goal.loop-h-init
+loop-h-init c =
+    let s = c.args.table.now.table.read.alloc.list.now in
+    let i = c.into_iter-h-iterator.ensures.into_iter_gives in
+    let e = ap held_left i ∙ c.iter-h-items.ensures.0 in
+    (rw i c.iter-h-items.ensures.1, omega arith, omega (arith, ap length e), ap (λ l. map (row_gen s) (those (row_emptied s) l)) e)
+
+pub offset_bounds-emptied-n : goal.offset_bounds-emptied-n
+offset_bounds-emptied-n c =
+    let t = c.args.table.now.table in
+    omega (arith, c.loop-h.invariant.2, table-few t.checked t.tabled, ap length c.in-Some.ensures.steps.0)
+
+pub bounds-emptied-n : goal.bounds-emptied-n
+bounds-emptied-n c =
+    let t = c.args.table.now.table in
+    omega (arith, c.loop-h.invariant.2, table-few t.checked t.tabled, ap length c.in-Some.ensures.steps.0)
+
+pub loop-h-preserved-then-is_emptied : goal.loop-h-preserved-then-is_emptied
+loop-h-preserved-then-is_emptied c =
+    let t = c.args.table.now.table in
+    let s = t.read.alloc.list.now in
+    let v = c.loop-h.invariant in
+    let w = c.in-Some.ensures.steps in
+    let few = table-few t.checked t.tabled in
+    let same = w.1.0 ∙ v.0.0 in
+    let hit = those-hit (row_emptied s) w.0 (rw same at (sym c.if-is_emptied.ensures)) in
+    let room : c.loop-h.n < length c.loop-h.emptied = omega (arith, v.1, v.2, few, ap length w.0) in (
+      (w.2.0 ∙ v.0.0, w.2.1 ∙ v.0.1),
+      length-set _ _ _ ∙ v.1,
+      omega (arith, v.2, ap length w.0),
+      rw (c.emptied_gen.ensures, same) (listed_more c.loop-h.emptied c.loop-h.n (row_gen s c.in-Some.h.freed) _ room (sym (ap (λ l. take c.loop-h.n c.loop-h.emptied ++ map (row_gen s) l) hit) ∙ v.3)),
+    )
+
+pub loop-h-preserved : goal.loop-h-preserved
+loop-h-preserved c =
+    let s = c.args.table.now.table.read.alloc.list.now in
+    let v = c.loop-h.invariant in
+    let w = c.in-Some.ensures.steps in
+    let miss = those-miss (row_emptied s) w.0 (rw (w.1.0 ∙ v.0.0) at (sym c.if-is_emptied.ensures)) in
+    ((w.2.0 ∙ v.0.0, w.2.1 ∙ v.0.1), v.1, omega (arith, v.2, ap length w.0), sym (ap (λ l. take c.loop-h.n c.loop-h.emptied ++ map (row_gen s) l) miss) ∙ v.3)
+
+pub shared_ref_as_front-result : goal.shared_ref_as_front-result
+shared_ref_as_front-result c =
+    let t = c.args.table.now.table in
+    omega (arith, c.loop-h.invariant.2, table-few t.checked t.tabled)
 
 pub returns : goal.returns
-returns c v rs t = listed-rows t c.loop-f.invariant.1 (those-none (row_emptied c.args.s.now) (drop_of_length-le c.args.rows.now c.loop-f-test.false))
+returns c =
+    let t = c.args.table.now.table in
+    let s = t.read.alloc.list.now in
+    let none = those-none (row_emptied s) c.in-None.ensures.steps in
+    sym (append-nil (take c.loop-h.n c.loop-h.emptied)) ∙ sym (ap (λ l. take c.loop-h.n c.loop-h.emptied ++ map (row_gen s) l) none) ∙ c.loop-h.invariant.3 ∙ emptied-are t.tabled

@@ -1,16 +1,28 @@
--- `lru_keys::put_bucket_lru` meets its contract.
-use Rattle.std.proofs.Common.{◌-◌}
+use Rattle.std.proofs.Common.{◌-◌, sym}
 use Rattle.wire.proofs.AppendLaws.{with-with}
 use Rattle.calls.specs.Lru.{lru_keys, lru_deletions}
+use Rattle.release_keys.specs.Tables.{row_dirty, row_emptied}
 use Rattle.release_keys.proofs.KeyLaws.{lru-emptied, lru-left}
 use Rattle.release_keys.proofs.lru_keys.put_bucket_lru.Goals as goal
 
-pub returns-then-f-dirty : goal.returns-then-f-dirty
-returns-then-f-dirty c =
-    let a = c.args in
-    rw (lru-left (lru_deletions a.sectors a.f.bucket a.dirty) (lru_keys a.sectors a.f.bucket (a.dirty - a.f.freed)) a.f.freed a.dirty c.if-f-dirty.true, c.put_lru_key.ensures, c.put_lru_deletion.ensures, with-with)
+pub returns-then-not-is_emptied : goal.returns-then-not-is_emptied
+returns-then-not-is_emptied c =
+    let h = c.args.h in
+    let d = row_dirty h.list.now h.freed in
+    rw (
+      c.put_lru_key.ensures,
+      c.put_lru_deletion.ensures,
+      c.dirty-dirty.ensures,
+      lru-left (lru_deletions h.bucket_sectors h.freed.bucket d) (lru_keys h.bucket_sectors h.freed.bucket (d - h.freed.sectors)) (row_emptied h.list.now h.freed) (sym c.if-not-is_emptied.ensures),
+      with-with,
+    )
 
-pub returns-else-f-dirty : goal.returns-else-f-dirty
-returns-else-f-dirty c =
-    let a = c.args in
-    rw (lru-emptied (lru_deletions a.sectors a.f.bucket a.dirty) (lru_keys a.sectors a.f.bucket (a.dirty - a.f.freed)) a.f.freed a.dirty c.if-f-dirty.false) c.put_lru_deletion.ensures
+pub returns-else-not-is_emptied : goal.returns-else-not-is_emptied
+returns-else-not-is_emptied c =
+    let h = c.args.h in
+    let d = row_dirty h.list.now h.freed in
+    rw (
+      c.put_lru_deletion.ensures,
+      c.dirty-dirty.ensures,
+      lru-emptied (lru_deletions h.bucket_sectors h.freed.bucket d) (lru_keys h.bucket_sectors h.freed.bucket (d - h.freed.sectors)) (row_emptied h.list.now h.freed) (sym c.if-not-is_emptied.ensures),
+    )

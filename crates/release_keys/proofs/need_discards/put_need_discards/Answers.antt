@@ -5,12 +5,12 @@ use Rattle.wire.proofs.EncodeLaws.{encode-none, encode-next}
 use Rattle.calls.specs.Lru.{need_discard_key}
 use Rattle.change_fields.specs.FieldBytes.{keys_bytes}
 use Rattle.release_keys.specs.Emptied.{emptied_buckets}
-use Rattle.release_keys.specs.declared.freed_buckets.Emptied.{Emptied}
+use Rattle.release_keys.specs.declared.freed_buckets.EmptiedBucket.{EmptiedBucket}
 use Rattle.release_keys.proofs.GenRecordLaws.{no_emptied}
 use Rattle.release_keys.proofs.KeyLaws.{wait-is}
 use Rattle.release_keys.proofs.need_discards.put_need_discards.Goals as goal
 
-abbrev bytes : ℕ → List Emptied → List ℕ
+abbrev bytes : ℕ → List EmptiedBucket → List ℕ
 bytes journal rows = keys_bytes 12 (map (need_discard_key journal) (emptied_buckets rows))
 
 pub loop-e-preserved : goal.loop-e-preserved

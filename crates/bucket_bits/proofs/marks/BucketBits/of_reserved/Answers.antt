@@ -1,20 +1,19 @@
-use Rattle.std.proofs.Common.{arith}
-use Rattle.wire.specs.Kinds.{same_bucket}
+use Rattle.wire.specs.Kinds.{same_bucket, bucket_in_range}
 use Rattle.calls.specs.Freespace.{is_in}
-use Rattle.bucket_bits.proofs.MarkLaws.{marking-start, marking-end, reserved-small, reserved-more}
+use Rattle.bucket_bits.proofs.MarkLaws.{marking-start, marking-end, first-ranged, reserved-more}
 use Rattle.bucket_bits.proofs.marks.BucketBits.of_reserved.Goals as goal
 
-pub loop-at-init : goal.loop-at-init
-loop-at-init c = marking-start (λ a b. same_bucket a b) _ _ c.new-bits.ensures
+pub loop-b-init : goal.loop-b-init
+loop-b-init c =
+    rw (c.into_iter-b-iterator.ensures.into_iter_gives, c.iter-b-items.ensures)
+    (marking-start (λ a b. same_bucket a b) bucket_in_range _ _ c.new-bits.ensures c.requires.range)
 
 pub mark-requires : goal.mark-requires
-mark-requires c = rw c.read_bucket.ensures (reserved-small c.requires.0 c.requires.1 c.loop-at.at-index c.loop-at-test.true)
+mark-requires c = first-ranged (λ a b. same_bucket a b) bucket_in_range _ c.loop-b.invariant c.in-Some.ensures.steps
 
-pub loop-at-preserved : goal.loop-at-preserved
-loop-at-preserved c =
-    rw (c.mark.ensures, c.read_bucket.ensures)
-    (reserved-more c.requires.0 c.requires.1 c.loop-at.at-index c.loop-at-test.true c.loop-at.invariant)
+pub loop-b-preserved : goal.loop-b-preserved
+loop-b-preserved c = rw c.mark.ensures (reserved-more c.loop-b.invariant c.in-Some.ensures.steps)
 
 pub returns : goal.returns
 unfolding is_in
-returns c = marking-end (λ a b. same_bucket a b) _ c.loop-at.at-index (omega (arith, c.requires.1.count)) c.loop-at.invariant
+returns c = marking-end (λ a b. same_bucket a b) bucket_in_range _ c.loop-b.invariant c.in-None.ensures.steps.0

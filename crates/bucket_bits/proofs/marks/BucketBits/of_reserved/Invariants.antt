@@ -1,10 +1,8 @@
-use Rattle.std.proofs.Common.{drop}
-use Rattle.wire.specs.Kinds.{same_bucket}
-use Rattle.calls.specs.Answers.{read_volume}
+use Rattle.wire.specs.Kinds.{same_bucket, bucket_in_range}
+use Rattle.reader.specs.ListedBuckets.{buckets_listed, buckets_left}
 use Rattle.bucket_bits.proofs.MarkLaws.{Marking}
 use Rattle.bucket_bits.proofs.marks.BucketBits.of_reserved.Given as goal
 
-abbrev pub invariant-loop-at : goal.invariant-loop-at
-invariant-loop-at l =
-    let bs = (read_volume l.s).reserved in
-    Marking (λ a b. same_bucket a b) bs (drop l.at-index bs) l.bits
+abbrev pub invariant-loop-b : goal.invariant-loop-b
+invariant-loop-b l =
+    Marking (λ a b. same_bucket a b) bucket_in_range (buckets_listed l.fn.reserved) (buckets_left l.b-iterator) l.bits

@@ -18,5 +18,5 @@ returns-in-Some c =
 
 pub returns-in-None : goal.returns-in-None
 returns-in-None c =
-    key-alone _ _ _ _ c.args.from _ (sym c.began_early.ensures ∙ c.if-began_early.false) c.requires.most
-    (sym c.run_of.ensures ∙ c.in-None.is)
+    rw c.past_key.ensures
+    (key-alone _ _ _ _ c.args.from _ (sym c.began_early.ensures ∙ c.if-began_early.false) c.requires.most (sym c.run_of.ensures ∙ c.in-None.is))

@@ -1,28 +1,45 @@
-use Rattle.std.proofs.Common.{◌||◌, arith, sym, ap, ◌∙◌}
-use Rattle.freespace.proofs.WalkLaws.{ahead-skip, ahead-take, ahead-full, ahead-done}
+use Rattle.std.proofs.Common.{arith, sym, refl, ◌∙◌}
+use Rattle.freespace.proofs.WalkLaws.{ahead-skip, ahead-take, ahead-used, ahead-full, ahead-done}
 use Rattle.freespace.proofs.take.Walker.walk_run.Goals as goal
-use Rattle.freespace.proofs.take.Walker.walk_run.Goals.{then-not-is_marked, else-not-is_marked, else-loop-number-test, then-loop-number-test+then-count-self}
+
+pub loop-number-init : goal.loop-number-init
+loop-number-init c =
+    rw c.past_key-walked.ensures
+    (record {
+      ahead = record { most = c.requires.1; size = refl; taken = refl; many = refl; left = refl; used = refl };
+      passed = refl;
+      left = refl;
+    })
+
+pub returns-then-walked-self : goal.returns-then-walked-self
+returns-then-walked-self c =
+    ahead-full _ _ c.loop-number.invariant.ahead c.loop-number.invariant.passed c.if-walked-self.true c.buckets_between.ensures
+
+pub loop-number-preserved-then-is_marked : goal.loop-number-preserved-then-is_marked
+loop-number-preserved-then-is_marked c =
+    let v = c.loop-number.invariant in
+    record {
+      ahead = ahead-skip _ _ v.ahead (omega arith) (omega arith) (sym c.is_marked.ensures ∙ c.if-is_marked.true);
+      passed = v.passed;
+      left = v.left;
+    }
+
+pub returns-then-is_marked-2 : goal.returns-then-is_marked-2
+returns-then-is_marked-2 c =
+    ahead-used _ _ c.loop-number.invariant.ahead (omega arith) (omega arith) (sym c.is_marked.ensures ∙ c.if-is_marked.false)
+    (sym c.is_marked-in-loop-number.ensures ∙ c.if-is_marked-2.true)
 
 pub loop-number-preserved : goal.loop-number-preserved
 loop-number-preserved c =
-    let a = c.loop-number.invariant.ahead in
+    let v = c.loop-number.invariant in
     record {
       ahead =
-          elim c.if-not-is_marked.branch [
-            | then-not-is_marked w ↦
-                rw (w.taken-is, w.count-is, w.met_used-is)
-                (ahead-take _ _ a _ (omega arith) c.requires.2 (omega arith) (sym c.is_marked.ensures ∙ w.if-not-is_marked.true) (ap (◌||◌ c.loop-number.met_used) w.is_marked-met_used.ensures))
-            | else-not-is_marked w ↦
-                rw (w.taken-is, w.count-is, w.met_used-is) (ahead-skip _ _ a (omega arith) (omega arith) (sym c.is_marked.ensures ∙ w.if-not-is_marked.false))
-          ];
-      left = c.loop-number.invariant.left;
+          ahead-take _ _ v.ahead (omega arith) (omega arith) (sym c.is_marked.ensures ∙ c.if-is_marked.false) c.requires.2
+          (sym c.is_marked-in-loop-number.ensures ∙ c.if-is_marked-2.false);
+      passed = v.passed;
+      left = v.left;
     }
 
 pub returns : goal.returns
 returns c =
-    let a = c.loop-number.invariant.ahead in
-    elim c.loop-number-test.branch [
-      | else-loop-number-test w ↦ rw (w.left-is, c.loop-number.invariant.left) (ahead-done _ _ a c.if-met_used.false w.loop-number-test.false)
-      | then-loop-number-test+then-count-self w ↦
-          rw w.left-is (ahead-full _ _ a c.if-met_used.false w.if-count-self.true w.buckets_between-left.ensures)
-    ]
+    ahead-done _ _ c.loop-number.invariant.ahead c.loop-number.invariant.passed c.loop-number-test.false c.loop-number.invariant.left

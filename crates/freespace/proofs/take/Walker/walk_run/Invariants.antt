@@ -1,4 +1,4 @@
-use Rattle.std.proofs.Common.{◌-◌, ◌≡◌}
+use Rattle.std.proofs.Common.{◌-◌, ◌+◌, ◌≡◌}
 use Rattle.wire.specs.Kinds.{bucket_is, buckets_up_to}
 use Rattle.calls.specs.Freespace.{pass}
 use Rattle.bucket_bits.specs.Bits.{marked}
@@ -9,6 +9,7 @@ abbrev pub invariant-loop-number : goal.invariant-loop-number
 invariant-loop-number l =
     let all = pass (marked l.self.reserved.now) (marked l.self.used.now) (l.self.wanted - l.fn.from.count) (buckets_up_to l.run.start l.run.end) in
     record {
-      ahead : Ahead (marked l.self.reserved.now) (marked l.self.used.now) all l.self.wanted l.fn.from l.fn.taken l.run.end (bucket_is l.number) l.count l.met_used l.taken;
-      left : l.left ≡ 0;
+      ahead : Ahead (marked l.self.reserved.now) (marked l.self.used.now) all l.self.wanted l.fn.from l.fn.taken l.run.end (bucket_is l.number) l.walked.count l.taken;
+      passed : l.walked.passed ≡ l.fn.from.passed + 1;
+      left : l.walked.left ≡ 0;
     }

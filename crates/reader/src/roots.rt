@@ -1,0 +1,69 @@
+// The roots that field 1 names by its bits, and fields 70 by an id.
+ghost use Rattle.std.specs.Prelude.{◌≡◌, ◌^◌};
+ghost use Rattle.calls.specs.Place.{root_missing};
+ghost use Rattle.calls.specs.Apply.{root_bit};
+ghost use Rattle.reader.specs.Roots.{root_id, RootNamed, with_root};
+
+use wire::trees::Tree;
+
+// The trees whose roots may be missing.
+#[derive(Clone, Copy, PartialEq, Eq, Debug, Drop)]
+pub enum Root {
+    // The LRU's: bit 0.
+    Lru,
+    // That of the need-discard keys: bit 1.
+    NeedDiscard,
+    // That of the generation records: bit 2.
+    BucketGens,
+}
+
+impl Root {
+    // Its id: the tag of its tree.
+    pub fn id(self) -> u8
+        ensures { result ≡ root_id self }
+    {
+        match self {
+            Root::Lru => Tree::Lru.tag(),
+            Root::NeedDiscard => Tree::NeedDiscard.tag(),
+            Root::BucketGens => Tree::BucketGens.tag(),
+        }
+    }
+
+    // The root with an id.
+    #[tactic(auto, unfolding(crate::specs::Roots::is_root))]
+    pub fn of_id(id: u8) -> Option<Root>
+        ensures { RootNamed id result }
+    {
+        match id {
+            10 => Some(Root::Lru),
+            12 => Some(Root::NeedDiscard),
+            14 => Some(Root::BucketGens),
+            _ => None,
+        }
+    }
+
+    // Its bit.
+    fn bit(self) -> u8
+        ensures { result ≡ 2 ^ root_bit (root_id self) }
+    {
+        match self {
+            Root::Lru => 1,
+            Root::NeedDiscard => 2,
+            Root::BucketGens => 4,
+        }
+    }
+}
+
+// Whether a root is missing.
+pub fn is_missing(roots: u8, root: Root) -> bool
+    ensures { result ≡ root_missing roots (root_bit (root_id root)) }
+{
+    roots & root.bit() == 0
+}
+
+// The roots with one more, unless they have it.
+pub fn with_root(roots: u8, root: Root) -> u8
+    ensures { result ≡ with_root roots (root_id root) }
+{
+    roots | root.bit()
+}

@@ -1,0 +1,149 @@
+// The table of a release: the freed buckets, before refusals 15 to 19 and after them.
+ghost use Rattle.std.specs.Prelude.{◌≡◌, ◌<◌, ◌≤◌, map};
+ghost use Rattle.calls.specs.Refusals.{verdict};
+ghost use Rattle.calls.specs.Release.{bucket_refusal, freed_buckets};
+ghost use Rattle.release_keys.specs.Given.{volume_in, requests_in, RequestsChecked};
+ghost use Rattle.release_keys.specs.Tables.{FreedTables, RowHeld, RowsHeld, RowsWithin, row_dirty};
+
+use format::alloc;
+use reader::key::ListedKey;
+use reader::read_list::ReadList;
+use release_sums::requests::Freeds;
+use wire::kinds::Bucket;
+
+// A bucket of which something is freed, how many sectors of it, and the place of its alloc key, or none where it has none. A place takes four bytes, where a `ListedKey` would take 24 in each of the 1,024.
+#[derive(Clone, Copy, Drop)]
+pub struct FreedBucket {
+    pub bucket: Bucket,
+    pub sectors: u32,
+    pub place: Option<u32>,
+}
+
+// The freed buckets of a list that was read, whose requests refusals 4 and 14 passed.
+#[derive(Clone, Copy, Drop)]
+pub struct FreedTable<'a> {
+    pub read: ReadList<'a>,
+    pub buckets: &'a [FreedBucket],
+    pub ghost checked: { RequestsChecked read },
+    pub ghost tabled: { FreedTables read.alloc.list.now (volume_in read) (requests_in read) buckets.now },
+}
+
+// A table that refusals 15 to 19 passed.
+#[derive(Clone, Copy, Drop)]
+pub struct HeldTable<'a> {
+    pub table: FreedTable<'a>,
+    pub ghost none_refuses: { verdict (map (bucket_refusal (volume_in table.read) (requests_in table.read)) (freed_buckets table.read.head.bucket_sectors (requests_in table.read))) ≡ 0 },
+}
+
+// A freed bucket of it: its alloc key is there, and it holds what is freed of it and no more than fits.
+#[derive(Clone, Copy, Drop)]
+pub struct HeldBucket<'a> {
+    pub list: &'a [u8],
+    pub bucket_sectors: u16,
+    pub freed: FreedBucket,
+    pub ghost held: { RowHeld list.now freed },
+    pub ghost within: { row_dirty list.now freed ≤ bucket_sectors },
+    pub ghost some_sectors: { 0 < bucket_sectors },
+}
+
+// Those of them that are left.
+#[derive(Drop)]
+pub struct HeldLeft<'a> {
+    pub list: &'a [u8],
+    pub bucket_sectors: u16,
+    pub buckets: &'a [FreedBucket],
+    pub ghost held: { RowsHeld list.now buckets.now },
+    pub ghost within: { RowsWithin list.now bucket_sectors buckets.now },
+    pub ghost some_sectors: { 0 < bucket_sectors },
+}
+
+impl<'a> FreedTable<'a> {
+    ghost use Rattle.release_sums.specs.FreedsOf.{freeds_of};
+
+    // The requests.
+    pub fn freeds(&self) -> Freeds<'a>
+        ensures { freeds_of result ≡ requests_in self.now.read }
+    {
+        Freeds {
+            list: self.read.list,
+            places: self.read.requests,
+        }
+    }
+}
+
+impl<'a> HeldTable<'a> {
+    ghost use Rattle.release_keys.specs.HeldOf.{held_left, LeftOf};
+
+    // The freed buckets, from the first on.
+    pub fn iter(&self) -> HeldLeft<'a>
+        ensures { (held_left result ≡ self.now.table.buckets.now) × LeftOf self.now result }
+    {
+        let table = &self.table;
+        HeldLeft {
+            list: table.read.alloc.list,
+            bucket_sectors: table.read.head.bucket_sectors,
+            buckets: table.buckets,
+        }
+    }
+}
+
+impl<'a> HeldBucket<'a> {
+    ghost use Rattle.reader.specs.ListedKeys.{key_listed};
+    ghost use Rattle.format.specs.Packing.{get};
+    ghost use Rattle.format.specs.AllocV4.{gen, next_gen};
+    ghost use Rattle.release_keys.specs.Tables.{row_key, row_emptied};
+
+    // Its alloc key.
+    pub fn key(&self) -> ListedKey<'a>
+        ensures { key_listed result ≡ row_key self.now.list.now self.now.freed }
+    {
+        ListedKey {
+            list: self.list,
+            at: self.freed.place.unwrap(),
+        }
+    }
+
+    // How many sectors it holds.
+    pub fn dirty(&self) -> u32
+        ensures { result ≡ row_dirty self.now.list.now self.now.freed }
+    {
+        alloc::dirty_sectors(self.key().value(), 0)
+    }
+
+    // Whether all that it holds is freed.
+    pub fn is_emptied(&self) -> bool
+        ensures { result ≡ row_emptied self.now.list.now self.now.freed }
+    {
+        self.freed.sectors == self.dirty()
+    }
+
+    // Its generation after it is emptied.
+    pub fn emptied_gen(&self) -> u8
+        ensures { result ≡ next_gen (get gen (row_key self.now.list.now self.now.freed).value) }
+    {
+        alloc::next_gen(alloc::generation(self.key().value(), 0))
+    }
+}
+
+impl<'a> Iterator for HeldLeft<'a> {
+    ghost use Rattle.std.specs.Iterator.{item_count};
+    ghost use Rattle.release_keys.specs.HeldOf.{held_left, HeldStepped};
+
+    type Item = HeldBucket<'a>;
+
+    ghost next_gives = { λ before held after. HeldStepped before held after };
+
+    ghost remaining = { item_count held_left };
+
+    // The next one, if one is left.
+    fn next(&mut self) -> Option<HeldBucket<'a>> {
+        let (first, others) = self.buckets.split_first()?;
+        let held = HeldBucket {
+            list: self.list,
+            bucket_sectors: self.bucket_sectors,
+            freed: *first,
+        };
+        self.buckets = others;
+        Some(held)
+    }
+}
