@@ -13,6 +13,7 @@ ghost use Rattle.format.specs.Lru.{fragmentation};
 ghost use Rattle.format_c.specs.Sized.{where_sized};
 
 use format::{alloc, backpointer, entries, gens, lru};
+use std::num::NonZero;
 use wire::bpos::Bpos;
 use wire::keys::Value;
 use wire::kinds::{Bucket, DeviceSector};
@@ -141,5 +142,5 @@ pub extern "C" fn format_with_gen(value: &mut [u8], bucket: u64, generation: u8)
 pub extern "C" fn format_fragmentation(dirty: u32, sectors: u64) -> u64
     ensures { result ≡ fragmentation dirty (sectors % 65535 + 1) }
 {
-    lru::fragmentation(dirty, sectors % 65535 + 1)
+    lru::fragmentation(dirty, NonZero::<u64>::MIN.saturating_add(sectors % 65535))
 }

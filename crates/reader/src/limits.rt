@@ -1,6 +1,7 @@
 // The limits of FORMAT.md on one key and on one field.
 ghost use Rattle.std.specs.Prelude.{◌≡◌, ◌≤◌, length};
 ghost use Rattle.wire.specs.FieldsFound.{field_in};
+ghost use Rattle.wire.specs.Tags.{tag_number};
 ghost use Rattle.reader.specs.CallFields.{key_fits, field_within, least_of};
 
 use wire::bpos::Bpos;
@@ -10,14 +11,11 @@ use wire::tags::Tag;
 use wire::trees::Tree;
 use wire::{keys, kinds, positions};
 
-// Whether a key of a section, by its type and its position, is within the limits. A reserved bucket is a key at inode 0 and its number.
+// Whether a key of a tag, by its type and its position, is within the limits. A reserved bucket is a key at inode 0 and its number, here and below.
 #[tactic(auto, unfolding(crate::specs::CallFields::key_fits))]
-pub fn key_fits(section: u8, key_type: u8, pos: Bpos) -> bool
-    ensures { result ≡ key_fits section key_type pos }
+fn key_within(tag: Tag, key_type: u8, pos: Bpos) -> bool
+    ensures { result ≡ key_fits (tag_number tag) key_type pos }
 {
-    let Some(tag) = Tag::named(section) else {
-        return true;
-    };
     let b = positions::bucket_in(pos);
     let is_set = key_type == KeyType::Set.number();
     match tag {
@@ -27,6 +25,16 @@ pub fn key_fits(section: u8, key_type: u8, pos: Bpos) -> bool
         Tag::Key(Tree::Freespace) => !is_set || pos.inode != 0 || kinds::run_end_in_range(b),
         _ => true,
     }
+}
+
+// The same of a key of a section, by its tag's number.
+pub fn key_fits(section: u8, key_type: u8, pos: Bpos) -> bool
+    ensures { result ≡ key_fits section key_type pos }
+{
+    let Some(tag) = Tag::named(section) else {
+        return true;
+    };
+    key_within(tag, key_type, pos)
 }
 
 // Whether a field after field 1 keeps the limits. The length that its tag asks shows the bound.
@@ -39,8 +47,8 @@ pub fn field_within(field: Field) -> bool
         return true;
     };
     match tag {
-        Tag::Key(_) => key_fits(
-            field.tag,
+        Tag::Key(_) => key_within(
+            tag,
             keys::type_at(field.body, 0),
             keys::pos_at(field.body, 0),
         ),

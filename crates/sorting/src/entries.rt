@@ -3,23 +3,27 @@ ghost use Rattle.std.specs.Prelude.{◌≡◌, ◌+◌, ◌≤◌, ◌<◌, leng
 ghost use Rattle.sorting.specs.Entries.{sections, is_bucket, is_entry};
 ghost use Rattle.sorting.specs.EntryPlaces.{EntryAt, entry_from};
 
+use crate::places;
 use wire::bpos::Bpos;
 use wire::fields::{Field, Fields};
 use wire::key_types::KeyType;
+use wire::tags::Tag;
+use wire::trees::Tree;
 use wire::{fields, keys, kinds, positions};
 
-// The section of the reserved buckets, and the tag of one in a volume.
+// The section of the reserved buckets: `Tag::Reserved`, by its number, as a constant may call no function.
 pub const BUCKETS: u8 = 64;
 
-// The tag of a bucket that a change list reserves.
-pub const TAKEN: u8 = 71;
-
-// The tag of a bucket that it unreserves.
-pub const UNRESERVED: u8 = 75;
-
-// The sections in the order of a volume: the tags of the keys of each tree, from `Tree::Alloc` to `Tree::BucketGens`, and of the reserved buckets. In numbers: a constant may call no
-// function, and `Tree::tag` is one.
-pub const SECTIONS: [u8; 7] = [4, 10, 11, 12, 13, 14, BUCKETS];
+// The sections in the order of a volume: the tags of the keys of each tree, and of the reserved buckets.
+pub const SECTIONS: [u8; 7] = [
+    Tree::Alloc as u8,
+    Tree::Lru as u8,
+    Tree::Freespace as u8,
+    Tree::NeedDiscard as u8,
+    Tree::Backpointers as u8,
+    Tree::BucketGens as u8,
+    BUCKETS,
+];
 
 // The section at an index of them. The caller's loop shows the bound.
 pub fn section_at(i: usize) -> u8
@@ -30,11 +34,11 @@ pub fn section_at(i: usize) -> u8
 }
 
 // Whether a field is a bucket that is reserved, in a volume or by a change list, or unreserved.
-#[tactic(auto, unfolding(crate::specs::Entries::is_bucket))]
+#[tactic(auto, unfolding(crate::specs::Entries::is_bucket, crate::specs::Places::section_of))]
 fn is_bucket(tag: u8, len: usize) -> bool
     ensures { result ≡ is_bucket tag len }
 {
-    len == 4 && matches!(tag, BUCKETS | TAKEN | UNRESERVED)
+    len == 4 && places::section_of(tag) == BUCKETS
 }
 
 // Whether a field with a tag and a length is of a section.
@@ -71,7 +75,7 @@ pub fn type_at(s: &[u8], o: usize, section: u8) -> u8
 {
     if section != BUCKETS {
         keys::type_at(s, o)
-    } else if fields::tag_at(s, o) == UNRESERVED {
+    } else if fields::tag_at(s, o) == Tag::Unreserved.number() {
         KeyType::Deleted.number()
     } else {
         RESERVED_TYPE

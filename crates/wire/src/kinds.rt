@@ -1,8 +1,10 @@
 // Bucket numbers, device sectors and file sectors, each of a kind of its own, and the only ways from one to another.
 ghost use Rattle.std.specs.Prelude.{◌≡◌, ◌+◌, ◌<◌, ◌≤◌, ◌^◌, length, drop};
+ghost use Rattle.std.specs.Int.NonZero.{non_zero_u64_get};
 ghost use Rattle.wire.specs.Kinds.{sector_at, bucket_of, offset_in, extent_end, next_bucket, bucket_in_range, run_end_in_range, run_start, began_before, buckets_up_to, bucket_read, base_in_range};
 
 use crate::le;
+use std::num::NonZero;
 
 #[derive(Clone, Copy, PartialEq, Eq, PartialOrd, Ord, Drop)]
 pub struct Bucket(pub u64);
@@ -21,18 +23,16 @@ pub fn sector_at(b: Bucket, sectors: u64, offset: u64) -> DeviceSector
     DeviceSector(b.0 * sectors + offset)
 }
 
-// The bucket that a sector lies in. Refusal 4 shows that a bucket has sectors.
-pub fn bucket_of(d: DeviceSector, sectors: u64) -> Bucket
-    requires { 0 < sectors }
-    ensures { result ≡ bucket_of d sectors }
+// The bucket that a sector lies in.
+pub fn bucket_of(d: DeviceSector, sectors: NonZero<u64>) -> Bucket
+    ensures { result ≡ bucket_of d (non_zero_u64_get sectors) }
 {
     Bucket(d.0 / sectors)
 }
 
 // How far into its bucket a sector lies.
-pub fn offset_in(d: DeviceSector, sectors: u64) -> u64
-    requires { 0 < sectors }
-    ensures { result ≡ offset_in d sectors }
+pub fn offset_in(d: DeviceSector, sectors: NonZero<u64>) -> u64
+    ensures { result ≡ offset_in d (non_zero_u64_get sectors) }
 {
     d.0 % sectors
 }

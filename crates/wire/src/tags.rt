@@ -1,6 +1,6 @@
 // The tags of fields, by name.
 ghost use Rattle.std.specs.Prelude.{◌≡◌};
-ghost use Rattle.wire.specs.Tags.{tag_number, TreeNamed, TagNamed};
+ghost use Rattle.wire.specs.Tags.{tag_number, TagNamed};
 
 use crate::trees::Tree;
 
@@ -33,24 +33,6 @@ pub enum Tag {
     End,
 }
 
-impl Tree {
-    // The tree whose keys have a tag, if one has.
-    pub fn named(tag: u8) -> Option<Tree>
-        ensures { TreeNamed tag result }
-    {
-        match tag {
-            0 => Some(Tree::Extents),
-            4 => Some(Tree::Alloc),
-            10 => Some(Tree::Lru),
-            11 => Some(Tree::Freespace),
-            12 => Some(Tree::NeedDiscard),
-            13 => Some(Tree::Backpointers),
-            14 => Some(Tree::BucketGens),
-            _ => None,
-        }
-    }
-}
-
 impl Tag {
     // The tag with a number, if one has it.
     pub fn named(number: u8) -> Option<Tag>
@@ -72,7 +54,7 @@ impl Tag {
         }
     }
 
-    // Its number.
+    // Its number. Each stands here and in `named`: a variant that holds a tree leaves the others no discriminants, and a table of them would have to be searched at each field.
     pub fn number(self) -> u8
         ensures { result ≡ tag_number self }
     {

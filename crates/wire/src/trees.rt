@@ -1,6 +1,7 @@
 // The trees of the keys in a list, and their tags.
 ghost use Rattle.std.specs.Prelude.{◌≡◌};
 ghost use Rattle.wire.specs.TreeTags.{tree_tag};
+ghost use Rattle.wire.specs.Tags.{TreeNamed};
 
 // The trees. Extents stand in change lists alone.
 #[derive(Clone, Copy, PartialEq, Eq, Debug, Drop)]
@@ -27,5 +28,21 @@ impl Tree {
         ensures { result ≡ tree_tag self }
     {
         self as u8
+    }
+
+    // The tree whose keys have a tag, if one has. In numbers: no pattern may be a cast.
+    pub fn named(tag: u8) -> Option<Tree>
+        ensures { TreeNamed tag result }
+    {
+        match tag {
+            0 => Some(Tree::Extents),
+            4 => Some(Tree::Alloc),
+            10 => Some(Tree::Lru),
+            11 => Some(Tree::Freespace),
+            12 => Some(Tree::NeedDiscard),
+            13 => Some(Tree::Backpointers),
+            14 => Some(Tree::BucketGens),
+            _ => None,
+        }
     }
 }
