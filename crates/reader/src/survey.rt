@@ -66,7 +66,10 @@ fn survey_any(s: &[u8], asked: Option<u8>, index: &mut [u32]) -> Option<Laid>
         if order::call_field_ok(asked, field) {
             over = passes(over, field, &mut table);
         } else {
-            if field.tag != Tag::Head.number() || head.is_some() || !head_field_ok(asked, field.body) {
+            if field.tag != Tag::Head.number()
+                || head.is_some()
+                || !head_field_ok(asked, field.body)
+            {
                 return None;
             }
             head = Some(field.start);
