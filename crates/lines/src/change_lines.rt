@@ -10,7 +10,7 @@ use wire::fields::Fields;
 use wire::le;
 use wire::output::Output;
 
-// The line of a field, by its tag. The layout of a change list shows the shape.
+// The line of a field, by its tag. The layout of a change list shows the shape. By number and not by name: each other tag is a tree's, and the line of a key prints it.
 fn put_line(out: &mut Output, tag: u8, body: &[u8])
     requires { change_field_ok (record { tag = tag; body = body.now }) ≡ true }
     ensures { out.new ≡ with_bytes out.old (line (field_words (record { tag = tag; body = body.now }))) }

@@ -31,7 +31,7 @@ pub struct Head {
 pub fn call_byte(s: &[u8]) -> u8
     ensures { result ≡ call_byte s.now }
 {
-    // A loop and not `find`: tried, and the proof did not close: that the fields passed hold no field 1 is an induction over the run that std tells of, where here it is the loop's invariant.
+    // A loop and not `find`: tried, and the proof did not close. That the fields passed hold no field 1 is the loop's invariant; of `find` it is an induction over the run that std tells of.
     for field in Fields::of(s) {
         if field.tag == Tag::Head.number() {
             return if field.body.is_empty() {

@@ -29,5 +29,11 @@ pub fn release(list: &[u8], scratch: &mut [u32], out: &mut [u8]) -> Result<usize
         return Err(Refusal::ShortScratch);
     }
     sums::clear(scratch);
-    call::with_list(list, Some(Call::Release.number()), scratch, out, release_read)
+    call::with_list(
+        list,
+        Some(Call::Release.number()),
+        scratch,
+        out,
+        release_read,
+    )
 }
