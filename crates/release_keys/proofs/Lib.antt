@@ -5,3 +5,4 @@ pub mod RowLaws
 pub mod KeyLaws
 pub mod GenRecordLaws
 pub mod RootLaws
+pub mod CountLaws

@@ -55,7 +55,7 @@ fn list_sums<'a>(
 {
     let mut keys = alloc;
     let mut n: usize = 0;
-    // By an index beside: nothing is known of what a slice holds after `iter_mut().zip(..)`.
+    // By index: nothing is known of what a slice holds after `iter_mut().zip(..)`.
     while let Some(sum) = sums.next() {
         let p = positions::alloc_at(sum.bucket);
         keys = skip_below(keys, p);

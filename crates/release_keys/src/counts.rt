@@ -18,11 +18,7 @@ pub struct Unused {
 pub fn total_freed(table: &FreedTable) -> u64
     ensures { (result < 2 ^ 62) × (result ≡ total (λ x. x.sectors) (requests_in table.now.read)) }
 {
-    let mut sum: u64 = 0;
-    for r in table.freeds().iter() {
-        sum += r.sectors as u64;
-    }
-    sum
+    table.freeds().iter().map(|r| r.sectors as u64).sum()
 }
 
 // The two sums over all freed buckets.
@@ -30,6 +26,7 @@ pub fn unused_in(table: &HeldTable) -> Unused
     ensures { (result.kept < 2 ^ 62) × (result.lost < 2 ^ 62) × Unused-of (volume_in table.now.table.read) (requests_in table.now.table.read) (freed_buckets table.now.table.read.head.bucket_sectors (requests_in table.now.table.read)) result }
 {
     let mut u = Unused { kept: 0, lost: 0 };
+    // A loop: in a `fold` nothing is known that bounds the totals so far, and two chains would pass over the buckets twice.
     for h in table.iter() {
         if h.is_emptied() {
             u.lost += h.bucket_sectors as u64 - h.dirty() as u64;

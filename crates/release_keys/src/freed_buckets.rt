@@ -23,7 +23,7 @@ pub fn find_emptied<'r>(
     ensures { result.now ≡ map (emptied_row (emptied_gen (volume_in table.now.table.read).trees)) (those (is_emptied (volume_in table.now.table.read) (requests_in table.now.table.read)) (freed_buckets table.now.table.read.head.bucket_sectors (requests_in table.now.table.read))) }
 {
     let mut n: usize = 0;
-    // By an index beside: nothing is known of what a slice holds after `iter_mut().zip(..)`.
+    // By index: nothing is known of what a slice holds after `iter_mut().zip(..)`.
     for h in table.iter() {
         if h.is_emptied() {
             emptied[n] = EmptiedBucket {

@@ -1,35 +1,31 @@
-use Rattle.std.proofs.Common.{◌∙◌, ap, arith, length}
+use Rattle.std.proofs.Common.{rules, tests, ◌<◌, ◌∙◌, ap, arith}
+use Rattle.std.specs.List.{sum_by}
+use Rattle.std.proofs.lemmas.Iterator.{YieldsList-from_map}
+use Rattle.std.proofs.lemmas.Iterator.Consumers.{YieldsList-from_first, sum_by_from_yields_List, fits_by_from_yields_list}
 use Rattle.calls.specs.CallList.{Freed}
-use Rattle.calls.specs.Lists.{all_of, total}
-use Rattle.calls.specs.Release.{freed_ok}
-use Rattle.calls.proofs.lists.TotalLaws.{total-next, total-none}
+use Rattle.release_sums.specs.Freeds.{freed_held}
 use Rattle.release_sums.specs.FreedsOf.{freeds_left}
-use Rattle.release_sums.proofs.FreedLaws.{first-within, rest-ok}
+use Rattle.release_keys.specs.Given.{requests_in}
+use Rattle.release_keys.proofs.CountLaws.{sum-total, total-most}
 use Rattle.release_keys.proofs.counts.total_freed.Goals as goal
 
-pub loop-r-init : goal.loop-r-init
-loop-r-init c =
+pub sum-requires-clause-fits : goal.sum-requires-clause-fits
+sum-requires-clause-fits c =
     let t = c.args.table.now in
-    let e = ap freeds_left c.into_iter-r-iterator.ensures.into_iter_gives ∙ c.iter-r-items.ensures ∙ c.freeds.ensures in
-    (ap (all_of (freed_ok t.read.head.bucket_sectors)) e ∙ t.checked.checked, omega (arith, ap length e), omega (arith, ap (total (λ (x : Freed). x.sectors)) e))
-
-pub overflow_add-sum : goal.overflow_add-sum
-overflow_add-sum c =
-    let p = c.args.table.now.checked in
-    let few = (first-within c.args.table.now.read.head.bucket_sectors c.loop-r.invariant.0 c.in-Some.ensures.steps).few in
-    omega (arith, few, p.requested.count, p.few, ap length c.in-Some.ensures.steps)
-
-pub loop-r-preserved : goal.loop-r-preserved
-loop-r-preserved c =
-    let n = c.args.table.now.read.head.bucket_sectors in
-    let v = c.loop-r.invariant in
-    let s = c.in-Some.ensures.steps in
-    let few = (first-within n v.0 s).few in
-    let next = total-next (λ (x : Freed). x.sectors) s in
-    (rest-ok n v.0 s, omega (arith, few, ap length s), omega (arith, next))
+    let rs = requests_in t.read in
+    let p = t.checked in
+    let few : sum_by (λ (x : Freed). x.sectors) rs < 18446744073709551616 =
+    omega (arith, sum-total (λ (x : Freed). x.sectors) rs, total-most t.read.head.bucket_sectors rs p.checked, p.requested.count, p.few) in
+    fits_by_from_yields_list (λ (x : Freed). x.sectors) rs _ _
+    (YieldsList-from_map _ (λ (x : Freed). x.sectors) (YieldsList-from_first freed_held freeds_left rs (ap freeds_left c.map.ensures.source ∙ c.iter.ensures ∙ c.freeds.ensures)) c.map.ensures.closure (λ x r q k. search (rules, tests)))
+    few
 
 pub returns : goal.returns
 returns c =
-    let p = c.args.table.now.checked in
-    let none = total-none (λ (x : Freed). x.sectors) c.in-None.ensures.steps.0 in
-    (omega (arith, p.requested.count, p.few), omega (arith, none))
+    let t = c.args.table.now in
+    let rs = requests_in t.read in
+    let p = t.checked in
+    let e = sum_by_from_yields_List (λ (x : Freed). x.sectors) rs _ c.sum.result c.sum.ensures.ran
+    (YieldsList-from_map _ (λ (x : Freed). x.sectors) (YieldsList-from_first freed_held freeds_left rs (ap freeds_left c.map.ensures.source ∙ c.iter.ensures ∙ c.freeds.ensures)) c.map.ensures.closure (λ x r q k. search (rules, tests)))
+    ∙ sum-total (λ (x : Freed). x.sectors) rs in
+    (omega (arith, e, total-most t.read.head.bucket_sectors rs p.checked, p.requested.count, p.few), e)
