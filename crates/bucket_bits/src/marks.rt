@@ -8,6 +8,7 @@ ghost use Rattle.reader.specs.Checked.{AllocChecked, ReservedChecked, in_range};
 ghost use Rattle.bucket_bits.specs.Bits.{has_bit, with_bit, marked, with_mark, holds_data, in_use, used_mark, Marks};
 
 use format::alloc;
+use format::data_types::DataType;
 use reader::key::ListedKey;
 use reader::listed_keys::Keys;
 use reader::reserved_buckets::ReservedBuckets;
@@ -40,7 +41,7 @@ fn holds_data(key: ListedKey) -> bool
     ensures { result ≡ holds_data (key_listed key.entry).value }
 {
     let value = key.value();
-    value.len() >= 16 && alloc::data_type(value, 0) != 0
+    value.len() >= 16 && alloc::data_type(value, 0) != DataType::Free.number()
 }
 
 // Whether it is an alloc key at inode 0 whose bucket is in use.

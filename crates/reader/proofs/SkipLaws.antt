@@ -7,11 +7,8 @@ use native.Mathlib.Omega.{arith}
 use lib.ListN.{length, take, drop, get_or}
 use Rattle.std.specs.List.{prefix_len}
 use Rattle.wire.specs.Bytes.{All, none, more}
-use Rattle.wire.specs.Keys.{Key}
 use Rattle.wire.proofs.NumberLaws.{all_take, all_drop}
 use Rattle.calls.proofs.lists.ListedLaws.{all-place}
-use Rattle.reader.specs.KeyHere.{Whole}
-use Rattle.reader.specs.Located.{KeysAt}
 
 -- what holds of each element holds of one that the walk comes to
 pub all-walked : {A : Type 0} {P : A → Type 0} {l : List A} → All P l → (from k : ℕ) (x : A) → k < length (take (length l - from) (drop from l))
@@ -29,15 +26,6 @@ walk-on t (x ∷ l) (suc n) h = go (t x) h (walk-on t l n)
     go true h ih = omega (arith, ih (omega arith))
     go false h ih = absurd (omega arith)
 
--- the same test of two lists, one for one
-pub prefix-alike : {A B : Type 0} (t : A → Bool) (u : B → Bool) (d : A) (e : B) (xs : List A) (ys : List B) → length xs ≡ length ys
-    → ((i : ℕ) → i < length xs → t (get_or xs i d) ≡ u (get_or ys i e)) → prefix_len t xs ≡ prefix_len u ys
-prefix-alike t u d e [] [] h same = refl
-prefix-alike t u d e [] (y ∷ ys) h same = absurd (omega arith)
-prefix-alike t u d e (x ∷ xs) [] h same = absurd (omega arith)
-prefix-alike t u d e (x ∷ xs) (y ∷ ys) h same =
-    rw (same 0 (omega arith), prefix-alike t u d e xs ys (omega arith) (λ i k. same (suc i) (omega arith))) refl
-
 -- a test of a list that a function makes
 pub prefix-map : {A B : Type 0} (t : B → Bool) (f : A → B) (l : List A) → prefix_len (λ x. t (f x)) l ≡ prefix_len t (map f l)
 prefix-map t f [] = refl
@@ -47,10 +35,6 @@ prefix-map t f (x ∷ l) = ap (λ n. cond (t (f x)) (1 + n) 0) (prefix-map t f l
 pub all-indexed : {A : Type 0} {P : A → Type 0} (d : A) (l : List A) → ((i : ℕ) → i < length l → P (get_or l i d)) → All P l
 all-indexed d [] h = none
 all-indexed d (x ∷ l) h = more (h 0 (omega arith)) (all-indexed d l (λ i k. h (suc i) (omega arith)))
-
--- a whole key stands at each place
-pub keys-whole : {s places : List ℕ} {ks : List Key} → KeysAt s places ks → All (Whole s) places
-keys-whole f = all-indexed 0 _ (λ i k. (f.at i k).whole)
 
 pub prefix-within : {A : Type 0} (t : A → Bool) (l : List A) → prefix_len t l ≤ length l
 prefix-within t [] = omega arith

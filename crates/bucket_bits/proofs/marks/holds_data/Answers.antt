@@ -6,4 +6,4 @@ use Rattle.bucket_bits.proofs.marks.holds_data.Goals as goal
 pub returns-then-value-ge16 : goal.returns-then-value-ge16
 returns-then-value-ge16 c =
     let h : 16 ≤ length (key_listed c.args.key).value = rw c.value-value.ensures at c.if-value-ge16.true in
-    rw (c.data_type.ensures, c.value-value.ensures, type-in (key_listed c.args.key).value, le-leb 16 _ h)
+    rw (c.data_type.ensures, c.number.ensures, c.value-value.ensures, type-in (key_listed c.args.key).value, le-leb 16 _ h)
