@@ -69,19 +69,19 @@ section-placed {vol} {os} {t} s p =
 
 -- the places of the sections of a list that was read
 abbrev pub section_places : ReadList → List (Bor (List ℕ))
-section_places r = r.alloc ∷ r.lru ∷ r.freespace ∷ r.need_discard ∷ r.backpointers ∷ r.gens ∷ r.reserved ∷ []
+section_places r = r.alloc.places ∷ r.lru.places ∷ r.freespace.places ∷ r.need_discard.places ∷ r.backpointers.places ∷ r.gens.places ∷ r.reserved.places ∷ []
 
 -- section number i
 pub section-at :
     {r : ReadList} {call : ℕ} → All (SectionOf r.list.now) sections → Read call r → (i : ℕ) → i < 7 → (d : Bor (List ℕ))
     → SectionAt r.list.now (get_or sections i 0) (get_or (section_places r) i d).now
-section-at p q zero l d = section-placed (all-nth 0 p 0 (omega arith)) q.alloc
-section-at p q (suc zero) l d = section-placed (all-nth 0 p 1 (omega arith)) q.lru
-section-at p q (suc (suc zero)) l d = section-placed (all-nth 0 p 2 (omega arith)) q.freespace
-section-at p q (suc (suc (suc zero))) l d = section-placed (all-nth 0 p 3 (omega arith)) q.need_discard
-section-at p q (suc (suc (suc (suc zero)))) l d = section-placed (all-nth 0 p 4 (omega arith)) q.backpointers
-section-at p q (suc (suc (suc (suc (suc zero))))) l d = section-placed (all-nth 0 p 5 (omega arith)) q.gens
-section-at p q (suc (suc (suc (suc (suc (suc zero)))))) l d = section-placed (all-nth 0 p 6 (omega arith)) q.reserved
+section-at p q zero l d = section-placed (all-nth 0 p 0 (omega arith)) q.alloc.places
+section-at p q (suc zero) l d = section-placed (all-nth 0 p 1 (omega arith)) q.lru.places
+section-at p q (suc (suc zero)) l d = section-placed (all-nth 0 p 2 (omega arith)) q.freespace.places
+section-at p q (suc (suc (suc zero))) l d = section-placed (all-nth 0 p 3 (omega arith)) q.need_discard.places
+section-at p q (suc (suc (suc (suc zero)))) l d = section-placed (all-nth 0 p 4 (omega arith)) q.backpointers.places
+section-at p q (suc (suc (suc (suc (suc zero))))) l d = section-placed (all-nth 0 p 5 (omega arith)) q.gens.places
+section-at p q (suc (suc (suc (suc (suc (suc zero)))))) l d = section-placed (all-nth 0 p 6 (omega arith)) q.reserved.places
 section-at p q (suc (suc (suc (suc (suc (suc (suc i))))))) l d = absurd (omega arith)
 
 -- each of a section's keys is within its limits, where the section is

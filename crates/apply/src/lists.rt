@@ -59,13 +59,13 @@ impl<'a> NextVolume<'a> {
     {
         let r = &self.read;
         let sections = [
-            r.alloc,
-            r.lru,
-            r.freespace,
-            r.need_discard,
-            r.backpointers,
-            r.gens,
-            r.reserved,
+            r.alloc.places,
+            r.lru.places,
+            r.freespace.places,
+            r.need_discard.places,
+            r.backpointers.places,
+            r.gens.places,
+            r.reserved.places,
         ];
         sections[i]
     }

@@ -68,7 +68,7 @@ pub record Found (s alloc needs : List ℕ) : Type 0 where
   pub few_allocs : length alloc ≤ 4096
   pub few_waits : length needs ≤ 4096
 
-pub ready-found : {r : ReadList} → DiscardGiven r → Found r.list.now r.alloc.now r.need_discard.now
+pub ready-found : {r : ReadList} → DiscardGiven r → Found r.list.now r.alloc.places.now r.need_discard.places.now
 unfolding volume_within counts_ok few_keys buckets_ok
 ready-found {r} q =
     let v = read_volume r.list.now in
@@ -122,13 +122,13 @@ module _ (t : Trees) (s needs : List ℕ) (e : t.need_discard ≡ keys_here s ne
       (map-map (discard_batch (need_trees s needs)) (map (key_here s)) (chunks (length os) size os))
 
 pub changes-are : {r : ReadList} → DiscardGiven r
-    → changes_from r.list.now r.need_discard.now r.head.batch (discarded_from r.list.now r.need_discard.now r.alloc.now)
+    → changes_from r.list.now r.need_discard.places.now r.head.batch (discarded_from r.list.now r.need_discard.places.now r.alloc.places.now)
     ≡ change_bytes (discard_batches (read_volume r.list.now))
 unfolding discard_batches
 changes-are {r} q =
     let v = read_volume r.list.now in
     let b : r.head.batch ≡ v.head.batch = ap (λ h. h.batch) q.headed in
-    ap change_bytes (rw b (sym (batches-are v.trees r.list.now r.need_discard.now (keys-here q.needs_at) r.alloc.now v.head.batch (keys-here q.alloc_at))))
+    ap change_bytes (rw b (sym (batches-are v.trees r.list.now r.need_discard.places.now (keys-here q.needs_at) r.alloc.places.now v.head.batch (keys-here q.alloc_at))))
 
 -- the answer of the definition: the tests of the reader, then 20, then 21
 module _ (s : List ℕ) (room : ℕ) where

@@ -13,8 +13,8 @@ use Rattle.discard.specs.declared.batch.Discarded.{Discarded}
 -- A list of a discard: its head, where its alloc and need-discard keys stand, its limits (refusal 3), and a batch that is not 0 (refusal 20).
 pub record DiscardGiven (r : ReadList) : Type 0 where
   pub headed : head_in r.head ≡ (read_volume r.list.now).head
-  pub alloc_at : KeysAt r.list.now r.alloc.now (read_volume r.list.now).trees.alloc
-  pub needs_at : KeysAt r.list.now r.need_discard.now (read_volume r.list.now).trees.need_discard
+  pub alloc_at : KeysAt r.list.now r.alloc.places.now (read_volume r.list.now).trees.alloc
+  pub needs_at : KeysAt r.list.now r.need_discard.places.now (read_volume r.list.now).trees.need_discard
   pub within : volume_within (read_volume r.list.now) ≡ true
   pub batched : r.head.batch ≡ 0 → ⊥
 

@@ -73,14 +73,14 @@ fn discard_into(
     table: &[u16],
     out: &mut [u8],
 ) -> Result<usize, Refusal>
-    requires { DiscardGiven read.now × WaitingTable read.now.list.now read.now.need_discard.now table.now × (length read.now.alloc.now ≤ length room.old) }
+    requires { DiscardGiven read.now × WaitingTable read.now.list.now read.now.need_discard.places.now table.now × (length read.now.alloc.places.now ≤ length room.old) }
     ensures { made_by result out.new ≡ outcome (answer [] (change_bytes (discard_batches (read_volume read.now.list.now))) (length out.old)) out.old }
 {
-    let n = discarded::discarded_keys(room, read.list, read.alloc, read.need_discard, table);
+    let n = discarded::discarded_keys(room, read.list, read.alloc.places, read.need_discard.places, table);
     let d = Discarded {
         list: read.list,
         offsets: &room[..n],
-        needs: read.need_discard,
+        needs: read.need_discard.places,
         table,
     };
     answer::written(&Changes::new(read.head.batch, d), out)
@@ -88,10 +88,10 @@ fn discard_into(
 
 // The answer to a discard, with its table: little room is cleared where the alloc keys are few.
 fn discard_tabled(read: &ReadList, table: &[u16], out: &mut [u8]) -> Result<usize, Refusal>
-    requires { DiscardGiven read.now × WaitingTable read.now.list.now read.now.need_discard.now table.now }
+    requires { DiscardGiven read.now × WaitingTable read.now.list.now read.now.need_discard.places.now table.now }
     ensures { made_by result out.new ≡ outcome (answer [] (change_bytes (discard_batches (read_volume read.now.list.now))) (length out.old)) out.old }
 {
-    if read.alloc.len() <= 64 {
+    if read.alloc.places.len() <= 64 {
         discard_into(&mut [0u32; 64], read, table, out)
     } else {
         discard_into(&mut [0u32; 4096], read, table, out)
@@ -104,7 +104,7 @@ fn discard_many(read: &ReadList, out: &mut [u8]) -> Result<usize, Refusal>
     ensures { made_by result out.new ≡ outcome (answer [] (change_bytes (discard_batches (read_volume read.now.list.now))) (length out.old)) out.old }
 {
     let mut table = [0u16; 65536];
-    waiting_keys::note_waiting(&mut table, read.list, read.need_discard);
+    waiting_keys::note_waiting(&mut table, read.list, read.need_discard.places);
     discard_tabled(read, &table, out)
 }
 
@@ -113,7 +113,7 @@ pub fn discard_lists(read: &ReadList, out: &mut [u8]) -> Result<usize, Refusal>
     requires { DiscardGiven read.now }
     ensures { made_by result out.new ≡ outcome (answer [] (change_bytes (discard_batches (read_volume read.now.list.now))) (length out.old)) out.old }
 {
-    if read.alloc.len() > 64 || read.need_discard.len() > 16 {
+    if read.alloc.places.len() > 64 || read.need_discard.places.len() > 16 {
         discard_many(read, out)
     } else {
         discard_tabled(read, &[0u16], out)

@@ -23,7 +23,7 @@ fn look_up(read: &ReadList, buckets: &[u32], out: &mut [u8]) -> Result<usize, Re
     if out.len() < buckets.len() {
         return Err(Refusal::ShortOutput);
     }
-    Ok(joint::bucket_gens(out, read.list, read.gens, buckets))
+    Ok(joint::bucket_gens(out, read.list, read.gens.places, buckets))
 }
 
 // Generations: for any volume, buckets and output, how many keys are visited or the refusal, and the output, that the definition gives.

@@ -80,7 +80,7 @@ taken-once R U n l sorted apart b = go (R (bucket b)) refl
 pub record Choice (l : ReadList) (numbers : List ℕ) (table : List Bucket) (r : Walked) : Type 0 where
   pub few : r.count ≤ 1024
   pub plan : PlanFor l.list.now l.head l.requests.now numbers (take r.count table)
-  pub walk : Walk l.list.now l.freespace.now r.passed r.left
+  pub walk : Walk l.list.now l.freespace.places.now r.passed r.left
 
 module _
     {l : ReadList} {before table : List Bucket} {numbers : List ℕ} {r : Walked} (q : Called l) (o : ChosenIs l.list.now before table numbers (Ok r)) where

@@ -26,7 +26,7 @@ fn fill_gens(read: &ReadList, taken: &[Bucket], out: &mut [u8])
     ensures { take (length taken.now) out.new ≡ map (gen_of (read_volume read.now.list.now).trees.gens) taken.now }
 {
     let mut records = [0u32; 256];
-    records::find_records(read.list, read.gens, &mut records);
+    records::find_records(read.list, read.gens.places, &mut records);
     generations::fill_gens(out, read.list, &records, taken);
 }
 
@@ -55,10 +55,10 @@ fn place_read(read: &ReadList, out: &mut [u8]) -> Result<usize, Refusal>
     let list = ChangeList {
         plan: &plan,
         dirty: &dirty,
-        runs: read.freespace,
+        runs: read.freespace.places,
         walked: w,
         tallies: tally::tally_pieces(read.list, read.requests),
-        clock: clock::write_clock(read.list, read.alloc),
+        clock: clock::write_clock(read.list, read.alloc.places),
     };
     answer::written(&list, out)
 }

@@ -10,9 +10,9 @@ use Rattle.reader.specs.Checked.{Checked}
 pub record Called (r : ReadList) : Type 0 where
   pub checked : Checked r.list.now
   pub head : head_in r.head ≡ (read_volume r.list.now).head
-  pub alloc : KeysAt r.list.now r.alloc.now (read_volume r.list.now).trees.alloc
-  pub runs : KeysAt r.list.now r.freespace.now (read_volume r.list.now).trees.freespace
-  pub reserved : BucketsAt r.list.now r.reserved.now (read_volume r.list.now).reserved
+  pub alloc : KeysAt r.list.now r.alloc.places.now (read_volume r.list.now).trees.alloc
+  pub runs : KeysAt r.list.now r.freespace.places.now (read_volume r.list.now).trees.freespace
+  pub reserved : BucketsAt r.list.now r.reserved.places.now (read_volume r.list.now).reserved
   pub pieces : PiecesAt r.list.now r.requests.now (read_call r.list.now).pieces
   -- refusal 3: at most 1,024 pieces, the base below 2^40
   pub few : length r.requests.now ≤ 1024

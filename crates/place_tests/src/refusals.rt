@@ -54,7 +54,7 @@ fn enough_free(read: &ReadList, n: usize) -> bool
     ensures { result ≡ leb (wanted n read.now.head.reserve) (free_count (is_in (read_volume read.now.list.now).reserved) (runs_of (read_volume read.now.list.now).trees.freespace)) }
 {
     let wanted = n as u64 + 32 + read.head.reserve as u64;
-    wanted <= runs::free_count(read.list, read.freespace, read.reserved)
+    wanted <= runs::free_count(read.list, read.freespace.places, read.reserved.places)
 }
 
 // The slots and the buckets of the pieces: the first refusal of 4 to 13, or the buckets taken. The reader and the lent tables show what is required.
@@ -69,7 +69,7 @@ pub fn choose_buckets(
     // 4 to 9: what is asked
     refuse_requests(read)?;
     // 10: two runs overlap
-    if runs::overlaps(read.list, read.freespace) {
+    if runs::overlaps(read.list, read.freespace.places) {
         return Err(Refusal::RunsOverlap);
     }
     // 11: too few buckets are free
@@ -80,9 +80,9 @@ pub fn choose_buckets(
     // 12 and 13: the walk meets a run begun before bucket 0, or a used bucket
     take::walk_runs(
         read.list,
-        read.alloc,
-        read.freespace,
-        read.reserved,
+        read.alloc.places,
+        read.freespace.places,
+        read.reserved.places,
         n,
         taken,
     )

@@ -2,6 +2,8 @@ pub mod BoolLaws
 pub mod ChangeLaws
 pub mod HeadLaws
 pub mod KeyHereLaws
+pub mod ListedKeyLaws
+pub mod CutLaws
 pub mod ListedLaws
 pub mod FollowsLaws
 pub mod LayoutLaws

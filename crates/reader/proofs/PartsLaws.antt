@@ -1,30 +1,28 @@
 -- What a list that was read shows: that it meets none of 2, 22 and 3, and where its keys, its reserved buckets and its requests stand.
 use Prim.Native.Nat.{ℕ, ◌≤◌, ◌<◌}
 use native.Mathlib.Omega.{arith}
-use mathlib.Core.Path.{◌≡◌, refl, sym, ap, ◌∙◌}
+use mathlib.Core.Path.{◌≡◌, refl, sym, ap, ◌∙◌, subst}
 use mathlib.Core.Bool.{Bool, true, false}
 use Rattle.std.proofs.Common.{Option, Some, None}
-use mathlib.Core.List.{List, [], ◌∷◌, map}
+use mathlib.Core.List.{List, [], ◌∷◌}
 use lib.ListN.{length}
-use Rattle.wire.specs.Fields.{fields}
-use Rattle.wire.specs.Keys.{key_of}
-use Rattle.calls.specs.CallList.{bodies, key_below, keys_of, sorted_trees, reserved_of, call_list_of, call_laid_out, volume_laid_out, none_twice}
-use Rattle.calls.specs.Sorting.{sorted_by}
+use Rattle.wire.specs.Keys.{Key}
+use Rattle.calls.specs.CallList.{call_list_of, call_laid_out, volume_laid_out, none_twice}
 use Rattle.calls.specs.Limits.{volume_within, list_within}
 use Rattle.calls.specs.Refusals.{test, verdict}
 use Rattle.calls.specs.Answers.{Answer, answer, read_call, read_volume}
 use Rattle.calls.proofs.encoding.KeyFitsLaws.{list-within}
 use Rattle.calls.proofs.answers.RefusalLaws.{verdict-ok, test-ok}
 use Rattle.calls.proofs.answers.OutcomeLaws.{answer-next, answer-stops}
-use Rattle.reader.specs.Table.{sorted_bodies}
-use Rattle.reader.specs.Collected.{PlacesOf}
-use Rattle.reader.specs.Readings.{call_refusal, volume_refusal, list_refusal, Read, ReadAs}
+use Rattle.reader.specs.Readings.{call_refusal, volume_refusal, list_refusal, KeysRead, BucketsRead, ReadAs}
 use Rattle.reader.specs.Located.{KeysAt, BucketsAt, PiecesAt, FreedsAt}
+use Rattle.reader.specs.declared.listed_keys.Keys.{Keys}
+use Rattle.reader.specs.declared.reserved_buckets.ReservedBuckets.{ReservedBuckets}
 use Rattle.reader.specs.declared.read_list.ReadList.{ReadList}
 use Rattle.reader.proofs.VolumeLaws.{volume-refusal}
 use Rattle.reader.proofs.OfferedLaws.{call_kept, limits-kept}
-use Rattle.reader.proofs.SortedBodyLaws.{keys-sorted-are, buckets-sorted-are}
-use Rattle.reader.proofs.LocatedLaws.{keys-located, buckets-located, pieces-located, freeds-located}
+use Rattle.reader.proofs.LocatedLaws.{pieces-located, freeds-located}
+use Rattle.reader.proofs.ListedKeyLaws.{keys-at, buckets-at}
 
 -- a list that `read_call` read meets none of 2, 22 and 3
 pub record CallPassed (call : ℕ) (s : List ℕ) : Type 0 where
@@ -107,34 +105,30 @@ module _ (call : ℕ) (s ts bytes : List ℕ) (room : ℕ) where
 
 -- where the keys of trees 4, 11, 12 and 14 and the reserved buckets of a list that was read stand
 pub record Located (r : ReadList) : Type 0 where
-  pub alloc : KeysAt r.list.now r.alloc.now (read_volume r.list.now).trees.alloc
-  pub freespace : KeysAt r.list.now r.freespace.now (read_volume r.list.now).trees.freespace
-  pub need_discard : KeysAt r.list.now r.need_discard.now (read_volume r.list.now).trees.need_discard
-  pub gens : KeysAt r.list.now r.gens.now (read_volume r.list.now).trees.gens
-  pub reserved : BucketsAt r.list.now r.reserved.now (read_volume r.list.now).reserved
+  pub alloc : KeysAt r.list.now r.alloc.places.now (read_volume r.list.now).trees.alloc
+  pub freespace : KeysAt r.list.now r.freespace.places.now (read_volume r.list.now).trees.freespace
+  pub need_discard : KeysAt r.list.now r.need_discard.places.now (read_volume r.list.now).trees.need_discard
+  pub gens : KeysAt r.list.now r.gens.places.now (read_volume r.list.now).trees.gens
+  pub reserved : BucketsAt r.list.now r.reserved.places.now (read_volume r.list.now).reserved
 
-module _ (call : ℕ) (any : Bool) (r : ReadList) (kept : 0 ≡ list_refusal call any r.list.now) (q : Read call r) where
-  abbrev s : List ℕ
-  s = r.list.now
+tree-located : {s : List ℕ} {t : ℕ} {ks : List Key} {r : Keys} → KeysRead s t ks r → KeysAt s r.places.now ks
+tree-located {ks = ks} {r} q =
+    subst (λ l. KeysAt l r.places.now ks) q.list (subst (λ l. KeysAt r.list.now r.places.now l) q.are (keys-at r.whole))
 
-  -- the keys of a tree
-  keys_at : {os : List ℕ} (t : ℕ) → 1 < t → t ≤ 14 → PlacesOf s t os (sorted_bodies t (fields s)) → KeysAt s os (sorted_by key_below (map key_of (bodies t (fields s))))
-  keys_at t l m p = rw (← keys-sorted-are t m (fields s)) (keys-located call any s kept l m p)
-
-  located_as : Located r
-  unfolding call_list_of sorted_trees keys_of reserved_of
-  located_as =
-      record {
-        alloc = keys_at 4 (omega arith) (omega arith) q.alloc;
-        freespace = keys_at 11 (omega arith) (omega arith) q.freespace;
-        need_discard = keys_at 12 (omega arith) (omega arith) q.need_discard;
-        gens = keys_at 14 (omega arith) (omega arith) q.gens;
-        reserved = rw (← buckets-sorted-are (fields s)) (buckets-located call any s kept q.reserved);
-      }
+reserved-located : {s : List ℕ} {r : ReservedBuckets} → BucketsRead s r → BucketsAt s r.places.now (read_volume s).reserved
+reserved-located {s} {r} q =
+    subst (λ l. BucketsAt l r.places.now (read_volume s).reserved) q.list
+    (subst (λ l. BucketsAt r.list.now r.places.now l) q.are (buckets-at r.whole))
 
 pub located : {asked : Option ℕ} {r : ReadList} → ReadAs asked r → Located r
-located {asked = Some call} {r} c = located_as call false r (call_kept call r.list.now c.passed) c.read
-located {asked = None} {r} c = located_as 0 true r (volume-kept r.list.now c.passed) c.read
+located c =
+    record {
+      alloc = tree-located c.read.alloc;
+      freespace = tree-located c.read.freespace;
+      need_discard = tree-located c.read.need_discard;
+      gens = tree-located c.read.gens;
+      reserved = reserved-located c.read.reserved;
+    }
 
 -- the requests of a placement, at most 1,024
 pub pieces-read : {r : ReadList} → ReadAs (Some 1) r → PiecesAt r.list.now r.requests.now (read_call r.list.now).pieces × (length r.requests.now ≤ 1024)

@@ -6,16 +6,15 @@ use mathlib.Core.Path.{◌≡◌, refl, sym, ◌∙◌, ap}
 use mathlib.Core.List.{List, [], ◌∷◌, ◌++◌, map}
 use lib.ListN.{length, take, drop, get_or, length-map, length-take, length-drop}
 use lib.Seq.{get_or-take, get_or-drop, take-add, drop-drop}
-use Rattle.wire.specs.Bytes.{none, more, Bytes}
+use Rattle.wire.specs.Bytes.{none, more}
 use Rattle.wire.specs.Fields.{fields}
 use Rattle.calls.specs.CallList.{bodies}
 use Rattle.calls.proofs.lists.AllLaws.{all-nth}
 use Rattle.reader.specs.Table.{FieldHere, Tabled, InTurn, between, sorted_bodies, request_bodies}
 use Rattle.reader.specs.Collected.{body_at, TagHere, PlacesOf}
-use Rattle.reader.specs.Readings.{TableRead, Read}
+use Rattle.reader.specs.Readings.{TableRead}
 use Rattle.reader.specs.declared.head.Head.{Head}
 use Rattle.reader.specs.declared.table.Ends.{Ends}
-use Rattle.reader.specs.declared.read_list.ReadList.{ReadList}
 use Rattle.reader.proofs.SortedBodyLaws.{sorted-length}
 
 -- by index
@@ -80,17 +79,16 @@ module _ {call : ℕ} {s index : List ℕ} {h : Head} {e : Ends} (q : TableRead 
       }
 
   -- the bodies of a section
-  section : (from to t : ℕ) → to ≡ from + length (bodies t (fields s)) → to ≤ length index → Tabled s index from t (sorted_bodies t (fields s))
+  pub section : (from to t : ℕ) → to ≡ from + length (bodies t (fields s)) → to ≤ length index → Tabled s index from t (sorted_bodies t (fields s))
       → PlacesOf s t (between from to index) (sorted_bodies t (fields s))
   section from to t m l h = part-placed index from to (sorted_bodies t (fields s)) (omega (arith, sorted-length t (fields s))) l h
 
   -- the places of all, one part after the other
-  all-places : take e.requests index
-      ≡ take e.alloc index ++ (between e.alloc e.lru index ++ (between e.lru e.freespace index ++ (between e.freespace e.need_discard index
+  pub all-places : take e.requests index
+      ≡ between 0 e.alloc index ++ (between e.alloc e.lru index ++ (between e.lru e.freespace index ++ (between e.freespace e.need_discard index
       ++ (between e.need_discard e.backpointers index ++ (between e.backpointers e.gens index ++ (between e.gens e.reserved index ++ between e.reserved e.requests index))))))
   all-places =
       let t = in_turn in
-      let z : e.alloc - 0 ≡ e.alloc = omega arith in
       let n : e.requests - 0 ≡ e.requests = omega arith in
       rw (
         between-on e.gens e.reserved e.requests index t.reserved t.requests,
@@ -99,28 +97,4 @@ module _ {call : ℕ} {s index : List ℕ} {h : Head} {e : Ends} (q : TableRead 
         between-on e.freespace e.need_discard e.requests index t.need_discard (omega arith),
         between-on e.lru e.freespace e.requests index t.freespace (omega arith),
         between-on e.alloc e.lru e.requests index t.lru (omega arith),
-      ) (sym (rw (z, n) at (between-on 0 e.alloc e.requests index (omega arith) (omega arith))))
-
-  pub cut-read :
-      (r : ReadList) → Bytes s → r.list.now ≡ s → r.head ≡ h → r.places.now ≡ take e.requests index → r.alloc.now ≡ take e.alloc index → r.lru.now ≡ between e.alloc e.lru index
-      → r.freespace.now ≡ between e.lru e.freespace index → r.need_discard.now ≡ between e.freespace e.need_discard index
-      → r.backpointers.now ≡ between e.need_discard e.backpointers index → r.gens.now ≡ between e.backpointers e.gens index
-      → r.reserved.now ≡ between e.gens e.reserved index → r.requests.now ≡ between e.reserved e.requests index → Read call r
-  cut-read r bytes s-is h-is places alloc lru freespace needs backs gens reserved requests =
-      let t = in_turn in
-      let n = q.ends in
-      let k = q.table in
-      let z : e.alloc - 0 ≡ e.alloc = omega arith in
-      record {
-        bytes = rw s-is bytes;
-        head = rw (s-is, h-is) q.head;
-        alloc = rw (s-is, alloc) (rw z at (section 0 e.alloc 4 (omega (arith, n.alloc)) (omega arith) k.alloc));
-        lru = rw (s-is, lru) (section e.alloc e.lru 10 n.lru (omega arith) k.lru);
-        freespace = rw (s-is, freespace) (section e.lru e.freespace 11 n.freespace (omega arith) k.freespace);
-        need_discard = rw (s-is, needs) (section e.freespace e.need_discard 12 n.need_discard (omega arith) k.need_discard);
-        backpointers = rw (s-is, backs) (section e.need_discard e.backpointers 13 n.backpointers (omega arith) k.backpointers);
-        gens = rw (s-is, gens) (section e.backpointers e.gens 14 n.gens (omega arith) k.gens);
-        reserved = rw (s-is, reserved) (section e.gens e.reserved 64 n.reserved (omega arith) k.reserved);
-        requests = rw (s-is, requests) (part-placed index e.reserved e.requests (request_bodies call (fields s)) n.requests n.within k.requests);
-        places = rw (places, alloc, lru, freespace, needs, backs, gens, reserved, requests) all-places;
-      }
+      ) (sym (rw n at (between-on 0 e.alloc e.requests index (omega arith) (omega arith))))

@@ -1,5 +1,5 @@
 -- A key at a place of a list: its body starts there, with its length two bytes before it. FORMAT.md, "Fields" and "Keys".
-use Rattle.std.specs.Prelude.{ℕ, ◌+◌, ◌-◌, ◌≤◌, List, map, length, take, drop}
+use Rattle.std.specs.Prelude.{ℕ, ◌+◌, ◌-◌, ◌≤◌, ◌<◌, List, map, length, take, drop, get_or}
 use Rattle.wire.specs.Numbers.{le}
 use Rattle.wire.specs.Keys.{Key, key_of}
 
@@ -25,3 +25,7 @@ pub record Whole (s : List ℕ) (at : ℕ) : Type 0 where
 -- the keys at some places
 abbrev pub keys_here : List ℕ → List ℕ → List Key
 keys_here s places = map (key_here s) places
+
+-- a whole key stands at each of some places
+pub record WholeKeys (s places : List ℕ) : Type 0 where
+  pub at : (i : ℕ) → i < length places → Whole s (get_or places i 0)

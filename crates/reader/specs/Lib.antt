@@ -5,6 +5,9 @@ pub mod Table
 pub mod Readings
 pub mod Lending
 pub mod KeyHere
+pub mod ListedKeys
+pub mod BucketHere
+pub mod ListedBuckets
 pub mod Located
 pub mod Pieces
 pub mod PieceLists

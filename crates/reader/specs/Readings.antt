@@ -1,5 +1,5 @@
 -- The answers of the readers: refusals 2, 22 and 3, or the list that was read, with the places of its fields.
-use Rattle.std.specs.Prelude.{ℕ, ◌<◌, ◌≡◌, List, [], ◌∷◌, ◌++◌, Bool, ◌&&◌, ◌||◌, eqb, Option, Some, None, unwrap_or, Result, Ok, Err}
+use Rattle.std.specs.Prelude.{ℕ, ◌<◌, ◌≤◌, ◌≡◌, List, [], ◌∷◌, ◌++◌, Bool, ◌&&◌, ◌||◌, eqb, Option, Some, None, unwrap_or, Result, Ok, Err, length}
 use Rattle.wire.specs.Bytes.{Bytes}
 use Rattle.wire.specs.Fields.{fields}
 use Rattle.calls.specs.CallList.{laid_out, volume_shapes, request_shapes, call_laid_out, volume_laid_out, none_twice}
@@ -7,11 +7,17 @@ use Rattle.calls.specs.Limits.{volume_within, list_within}
 use Rattle.calls.specs.Refusals.{test, verdict}
 use Rattle.calls.specs.Answers.{read_call, read_volume}
 use Rattle.reader.specs.Heads.{head_in}
-use Rattle.reader.specs.Table.{Indexed, Ended, sorted_bodies, request_bodies, request_tag}
+use Rattle.wire.specs.Keys.{Key}
+use Rattle.reader.specs.KeyHere.{WholeKeys}
+use Rattle.reader.specs.ListedKeys.{keys_listed}
+use Rattle.reader.specs.ListedBuckets.{buckets_listed}
+use Rattle.reader.specs.Table.{Indexed, Ended, between, sorted_bodies, request_bodies, request_tag}
 use Rattle.reader.specs.Collected.{PlacesOf}
 use Rattle.reader.specs.declared.head.Head.{Head}
 use Rattle.reader.specs.declared.table.Ends.{Ends}
 use Rattle.reader.specs.declared.read_list.ReadList.{ReadList}
+use Rattle.reader.specs.declared.listed_keys.Keys.{Keys}
+use Rattle.reader.specs.declared.reserved_buckets.ReservedBuckets.{ReservedBuckets}
 use Rattle.reader.specs.declared.refusal.Refusal.{Refusal}
 use Rattle.reader.specs.Refusals.{number_of}
 
@@ -39,26 +45,54 @@ pub record TableRead (call : ℕ) (s index : List ℕ) (h : Head) (e : Ends) : T
   pub ends : Ended call s index e
   pub table : Indexed call s index e
 
+-- a table that was read of a list, of whatever call, which meets none of 2, 22 and 3
+pub record TableKnown (s index : List ℕ) (h : Head) (e : Ends) : Type 0 where
+  pub call : ℕ
+  pub any : Bool
+  pub kept : 0 ≡ list_refusal call any s
+  pub read : TableRead call s index h e
+
+-- the entries of a table from one end to the next are places of whole keys
+pub record KeysBetween (s index : List ℕ) (from to : ℕ) : Type 0 where
+  pub up : from ≤ to
+  pub within : to ≤ length index
+  pub whole : WholeKeys s (between from to index)
+
 -- the refusal's number, or 0 and the table
 abbrev pub TableAnswered : ℕ → ℕ → List ℕ → List ℕ → Result (Head × Ends) Refusal → Type 0
 TableAnswered number call s index (Err r) = (number_of r ≡ number) × (0 < number)
 TableAnswered number call s index (Ok l) = (0 ≡ number) × TableRead call s index l.0 l.1
 
--- the head of a list that was read, and its fields' places: those of a tag in the order of keys and buckets, requests in the order of the list, and all in turn
+-- the keys of a tree of a list that was read: those at the places of the fields with a tag, in their order
+pub record KeysRead (s : List ℕ) (t : ℕ) (ks : List Key) (r : Keys) : Type 0 where
+  pub list : r.list.now ≡ s
+  pub places : PlacesOf s t r.places.now (sorted_bodies t (fields s))
+  pub are : keys_listed r ≡ ks
+
+-- its reserved buckets
+pub record BucketsRead (s : List ℕ) (r : ReservedBuckets) : Type 0 where
+  pub list : r.list.now ≡ s
+  pub places : PlacesOf s 64 r.places.now (sorted_bodies 64 (fields s))
+  pub are : buckets_listed r ≡ (read_volume s).reserved
+
+-- the head of a list that was read, its keys and reserved buckets, and its fields' places: those of a tag in the order of keys and buckets, requests in the order of the list, and all in turn
 pub record Read (call : ℕ) (r : ReadList) : Type 0 where
   pub bytes : Bytes r.list.now
   pub head : head_in r.head ≡ (read_volume r.list.now).head
-  pub alloc : PlacesOf r.list.now 4 r.alloc.now (sorted_bodies 4 (fields r.list.now))
-  pub lru : PlacesOf r.list.now 10 r.lru.now (sorted_bodies 10 (fields r.list.now))
-  pub freespace : PlacesOf r.list.now 11 r.freespace.now (sorted_bodies 11 (fields r.list.now))
-  pub need_discard : PlacesOf r.list.now 12 r.need_discard.now (sorted_bodies 12 (fields r.list.now))
-  pub backpointers : PlacesOf r.list.now 13 r.backpointers.now (sorted_bodies 13 (fields r.list.now))
-  pub gens : PlacesOf r.list.now 14 r.gens.now (sorted_bodies 14 (fields r.list.now))
-  pub reserved : PlacesOf r.list.now 64 r.reserved.now (sorted_bodies 64 (fields r.list.now))
+  pub alloc : KeysRead r.list.now 4 (read_volume r.list.now).trees.alloc r.alloc
+  pub lru : KeysRead r.list.now 10 (read_volume r.list.now).trees.lru r.lru
+  pub freespace : KeysRead r.list.now 11 (read_volume r.list.now).trees.freespace r.freespace
+  pub need_discard : KeysRead r.list.now 12 (read_volume r.list.now).trees.need_discard r.need_discard
+  pub backpointers : KeysRead r.list.now 13 (read_volume r.list.now).trees.backpointers r.backpointers
+  pub gens : KeysRead r.list.now 14 (read_volume r.list.now).trees.gens r.gens
+  pub reserved : BucketsRead r.list.now r.reserved
   pub requests : PlacesOf r.list.now (request_tag call) r.requests.now (request_bodies call (fields r.list.now))
   pub places :
       r.places.now
-      ≡ r.alloc.now ++ (r.lru.now ++ (r.freespace.now ++ (r.need_discard.now ++ (r.backpointers.now ++ (r.gens.now ++ (r.reserved.now ++ r.requests.now))))))
+      ≡ r.alloc.places.now
+      ++ (r.lru.places.now
+      ++ (r.freespace.places.now
+      ++ (r.need_discard.places.now ++ (r.backpointers.places.now ++ (r.gens.places.now ++ (r.reserved.places.now ++ r.requests.now))))))
 
 -- the refusal of a list of the call that is asked for, or of a volume
 abbrev pub refusal_of : Option ℕ → List ℕ → ℕ

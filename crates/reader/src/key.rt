@@ -9,6 +9,73 @@ use wire::keys::Bkey;
 use wire::kinds::Bucket;
 use wire::{fields, keys, positions};
 
+// A key of a list: its body starts at a place, which has four bytes in a table of places. Whoever makes one shows that a whole key stands there.
+#[derive(Clone, Copy, Drop)]
+pub struct ListedKey<'a> {
+    pub list: &'a [u8],
+    pub at: u32,
+    pub ghost whole: { Whole list.now at },
+}
+
+impl<'a> ListedKey<'a> {
+    ghost use Rattle.reader.specs.ListedKeys.{key_listed};
+
+    // How many bytes its body has.
+    fn body_len(&self) -> usize
+        ensures { result ≡ body_len self.now.list.now self.now.at }
+    {
+        fields::len_at(self.list, self.at as usize)
+    }
+
+    // Its type.
+    #[tactic(auto, using(crate::proofs::KeyHereLaws::key_parts))]
+    pub fn key_type(&self) -> u8
+        ensures { result ≡ (key_listed self.now).type }
+    {
+        keys::type_at(self.list, self.at as usize)
+    }
+
+    // Its size.
+    #[tactic(auto, using(crate::proofs::KeyHereLaws::key_parts))]
+    pub fn size(&self) -> u32
+        ensures { result ≡ (key_listed self.now).size }
+    {
+        keys::size_at(self.list, self.at as usize)
+    }
+
+    // Its position.
+    #[tactic(auto, using(crate::proofs::KeyHereLaws::key_parts))]
+    pub fn pos(&self) -> Bpos
+        ensures { result ≡ (key_listed self.now).pos }
+    {
+        keys::pos_at(self.list, self.at as usize)
+    }
+
+    // The bucket that its position names.
+    pub fn bucket(&self) -> Bucket
+        ensures { result ≡ bucket_in (key_listed self.now).pos }
+    {
+        positions::bucket_in(self.pos())
+    }
+
+    // Its value.
+    #[tactic(auto, using(crate::proofs::KeyHereLaws::key_parts))]
+    pub fn value(&self) -> &'a [u8]
+        ensures { result.now ≡ (key_listed self.now).value }
+    {
+        let at = self.at as usize;
+        &self.list[at + 37..at + self.body_len()]
+    }
+
+    // The whole key.
+    #[tactic(auto, unfolding(crate::specs::KeyHere::key_here))]
+    pub fn key(&self) -> Bkey
+        ensures { result ≡ held (key_listed self.now) }
+    {
+        keys::read_key(self.list, self.at as usize, self.body_len())
+    }
+}
+
 // How many bytes its body has.
 fn body_len(s: &[u8], at: usize) -> usize
     requires { Whole s.now at }

@@ -142,7 +142,7 @@ module _ (l m : List ℕ) (h : 65536 ≤ length l) (e : m ≡ replicate 65536 0 
 -- ---- a list that was read
 module _ {r : ReadList} (q : ReadAs (Some 2) r) where
   -- what `release_lists` requires
-  pub read-keyed : Keyed r.list.now r.alloc.now × (keys_ok (keys_here r.list.now r.alloc.now) ≡ true) × Keyed r.list.now r.gens.now
+  pub read-keyed : Keyed r.list.now r.alloc.places.now × (keys_ok (keys_here r.list.now r.alloc.places.now) ≡ true) × Keyed r.list.now r.gens.places.now
   read-keyed =
       let a = keyed-ok (located q).alloc (trees-ok r.list.now q.passed).alloc in
       (a.0, a.1, keyed (located q).gens)
@@ -152,7 +152,7 @@ module _ {r : ReadList} (q : ReadAs (Some 2) r) where
 
   -- its outcome is the call's
   pub read-outcome : (n : ℕ) → 65536 ≤ n → (out : List ℕ) {m : Outcome}
-      → m ≡ outcome (answer_of (head_in r.head) (keys_here r.list.now r.alloc.now) (keys_here r.list.now r.gens.now) (freeds_in r.list.now r.requests.now) (length out)) out
+      → m ≡ outcome (answer_of (head_in r.head) (keys_here r.list.now r.alloc.places.now) (keys_here r.list.now r.gens.places.now) (freeds_in r.list.now r.requests.now) (length out)) out
       → m ≡ outcome (release r.list.now n (length out)) out
   read-outcome n l out p =
       p ∙ ap (λ (a : Answer). outcome a out) (parts-answer r.list.now n (length out) {h = r.head} l q.passed q.read.head (located q).alloc (located q).gens (freeds-read q).0)

@@ -20,7 +20,7 @@ volume_of h alloc gens =
 
 -- those that it is given
 abbrev pub volume_in : ReadList → Volume
-volume_in r = volume_of (head_in r.head) (keys_here r.list.now r.alloc.now) (keys_here r.list.now r.gens.now)
+volume_in r = volume_of (head_in r.head) (keys_here r.list.now r.alloc.places.now) (keys_here r.list.now r.gens.places.now)
 
 abbrev pub requests_in : ReadList → List Freed
 requests_in r = freeds_in r.list.now r.requests.now

@@ -49,13 +49,13 @@ fn release_buckets(
     rows: &mut [FreedBucket],
     out: &mut [u8],
 ) -> Result<usize, Refusal>
-    requires keyed { Keyed read.now.list.now read.now.alloc.now × (keys_ok (keys_here read.now.list.now read.now.alloc.now) ≡ true) × Keyed read.now.list.now read.now.gens.now }
+    requires keyed { Keyed read.now.list.now read.now.alloc.places.now × (keys_ok (keys_here read.now.list.now read.now.alloc.places.now) ≡ true) × Keyed read.now.list.now read.now.gens.places.now }
     requires summed { Summed read.now rows.old }
     ensures { made_by result out.new ≡ outcome (answer (bucket_tests (volume_in read.now) (requests_in read.now)) (change_of read.now) (length out.old)) out.old }
 {
     let mut records = [0u32; 256];
-    allocs::find_allocs(read.list, read.alloc, rows);
-    records::find_records(read.list, read.gens, &mut records);
+    allocs::find_allocs(read.list, read.alloc.places, rows);
+    records::find_records(read.list, read.gens.places, &mut records);
     release_tables(read, rows, &records, out)
 }
 
@@ -72,7 +72,7 @@ fn sum_up(read: &ReadList, scratch: &mut [u32], rows: &mut [FreedBucket]) -> usi
 
 // The answer after refusals 1, 2, 22 and 3, and the scratch, which comes cleared. The reader shows what is required.
 pub fn release_lists(read: &ReadList, scratch: &mut [u32], out: &mut [u8]) -> Result<usize, Refusal>
-    requires keyed { Keyed read.now.list.now read.now.alloc.now × (keys_ok (keys_here read.now.list.now read.now.alloc.now) ≡ true) × Keyed read.now.list.now read.now.gens.now }
+    requires keyed { Keyed read.now.list.now read.now.alloc.places.now × (keys_ok (keys_here read.now.list.now read.now.alloc.places.now) ≡ true) × Keyed read.now.list.now read.now.gens.places.now }
     requires requested { Requested read.now.list.now read.now.requests.now × (length read.now.requests.now ≤ 1024) × Cleared scratch.old }
     ensures { (made_by result out.new ≡ outcome (answer (release_tests (volume_in read.now) (requests_in read.now)) (change_of read.now) (length out.old)) out.old) × (scratch.new ≡ replicate 65536 0 ++ drop 65536 scratch.old) }
 {

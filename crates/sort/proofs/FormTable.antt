@@ -12,9 +12,9 @@ pub table-stands : {call : ℕ} {r : ReadList} → Read call r → Standing r.li
 unfolding flat
 table-stands {call} {r} q =
     rw (q.places, append-nil)
-    (standing-on (standing-tag q.bytes q.alloc)
-    (standing-on (standing-tag q.bytes q.lru)
-    (standing-on (standing-tag q.bytes q.freespace)
-    (standing-on (standing-tag q.bytes q.need_discard)
-    (standing-on (standing-tag q.bytes q.backpointers)
-    (standing-on (standing-tag q.bytes q.gens) (standing-on (standing-tag q.bytes q.reserved) (standing-tag q.bytes q.requests))))))))
+    (standing-on (standing-tag q.bytes q.alloc.places)
+    (standing-on (standing-tag q.bytes q.lru.places)
+    (standing-on (standing-tag q.bytes q.freespace.places)
+    (standing-on (standing-tag q.bytes q.need_discard.places)
+    (standing-on (standing-tag q.bytes q.backpointers.places)
+    (standing-on (standing-tag q.bytes q.gens.places) (standing-on (standing-tag q.bytes q.reserved.places) (standing-tag q.bytes q.requests))))))))

@@ -13,8 +13,8 @@ new-requires c =
     let r = ready-found c.requires.0 in (
       omega (arith, c.requires.0.batched),
       record {
-        kept = rw e (discarded-kept read.need_discard.now r.allocs);
-        few = discarded-few read.list.now read.need_discard.now read.alloc.now e r.few_allocs;
+        kept = rw e (discarded-kept read.need_discard.places.now r.allocs);
+        few = discarded-few read.list.now read.need_discard.places.now read.alloc.places.now e r.few_allocs;
         tabled = c.requires.1;
       },
     )

@@ -1,5 +1,4 @@
 use Rattle.std.proofs.lemmas.Result.{err_from_is_err_and}
-use Rattle.reader.proofs.PlacedLaws.{in_turn}
 use Rattle.reader.proofs.ReadLaws.{table-refused, table-cut}
 use Rattle.reader.proofs.call.read_parts.Goals as goal
 
@@ -9,7 +8,7 @@ returns-in_err-first c =
     rw (p.1, p.2) (table-refused c.args.asked c.args.s.now _ c.in_err-first.ensures)
 
 pub cut-requires : goal.cut-requires
-cut-requires c = in_turn c.in_ok-first.ensures.1
+cut-requires c = record { call = _; any = _; kept = c.in_ok-first.ensures.0; read = c.in_ok-first.ensures.1 }
 
 pub returns : goal.returns
 returns c = table-cut c.args.asked c.in_ok-first.ensures.0 c.cut.ensures.same (c.cut.ensures.read _ c.in_ok-first.ensures.1)

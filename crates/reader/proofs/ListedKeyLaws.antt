@@ -1,0 +1,74 @@
+-- The keys and the reserved buckets at places of a list: a step along them, and the same facts place by place.
+use mathlib.Core.Path.{◌≡◌, refl, sym, ap, ◌∙◌}
+use mathlib.Core.List.{List, [], ◌∷◌, map}
+use Prim.Native.Nat.{ℕ, zero, suc, ◌+◌, ◌≤◌, ◌<◌}
+use native.Mathlib.Omega.{arith}
+use lib.ListN.{length, take, drop, get_or, length-map}
+use Rattle.wire.specs.Bytes.{All}
+use Rattle.wire.specs.Keys.{Key}
+use Rattle.wire.specs.Kinds.{bucket_read, no_bucket}
+use Rattle.wire.specs.declared.kinds.Bucket.{Bucket}
+use Rattle.wire.proofs.NumberLaws.{le-take}
+use Rattle.reader.specs.KeyHere.{key_here, Whole, WholeKeys, keys_here}
+use Rattle.reader.specs.BucketHere.{bucket_here, buckets_here, WholeBuckets}
+use Rattle.reader.specs.Located.{no_key, KeysAt, BucketsAt}
+use Rattle.reader.proofs.SkipLaws.{all-indexed}
+
+-- a whole key stands at each place
+pub whole-each : {s places : List ℕ} → WholeKeys s places → All (Whole s) places
+whole-each w = all-indexed 0 _ w.at
+
+-- and at each of those after the first
+pub whole-rest : {s rest places : List ℕ} {at : ℕ} → places ≡ at ∷ rest → WholeKeys s places → WholeKeys s rest
+whole-rest e w = let v = rw e at w in record { at = λ i h. v.at (suc i) (omega arith) }
+
+-- the number of a bucket is within the list at each place
+pub buckets-each : {s places : List ℕ} → WholeBuckets s places → All (λ at. at + 4 ≤ length s) places
+buckets-each w = all-indexed 0 _ w.at
+
+pub buckets-rest : {s rest places : List ℕ} {at : ℕ} → places ≡ at ∷ rest → WholeBuckets s places → WholeBuckets s rest
+buckets-rest e w = let v = rw e at w in record { at = λ i h. v.at (suc i) (omega arith) }
+
+map_at : {A B : Type 0} (f : A → B) (l : List A) (i : ℕ) (d : A) (e : B) → i < length l → get_or (map f l) i e ≡ f (get_or l i d)
+map_at f [] i d e h = absurd (omega arith)
+map_at f (x ∷ l) zero d e h = refl
+map_at f (x ∷ l) (suc i) d e h = map_at f l i d e (omega arith)
+
+-- the places of some keys find them, one for one
+pub keys-at : {s places : List ℕ} → WholeKeys s places → KeysAt s places (keys_here s places)
+keys-at {s} {places} w =
+    record {
+      count = sym (length-map places (key_here s));
+      at = λ i h. record { whole = w.at i h; is = sym (map_at (key_here s) places i 0 no_key h) };
+    }
+
+-- places that find keys are those of whole keys
+pub whole-located : {s places : List ℕ} {ks : List Key} → KeysAt s places ks → WholeKeys s places
+whole-located q = record { at = λ i h. (q.at i h).whole }
+
+-- the same of reserved buckets
+pub bucket-front : (s : List ℕ) → bucket_read (take 4 s) ≡ bucket_read s
+bucket-front s = ap (λ n. record { 0 = n }) (le-take 4 4 s (omega arith))
+
+pub buckets-at : {s places : List ℕ} → WholeBuckets s places → BucketsAt s places (buckets_here s places)
+buckets-at {s} {places} w =
+    record {
+      count = sym (length-map places (bucket_here s));
+      at = λ i h. record { within = w.at i h; is = bucket-front (drop (get_or places i 0) s) ∙ sym (map_at (bucket_here s) places i 0 no_bucket h) };
+    }
+
+pub buckets-located-whole : {s places : List ℕ} {bs : List Bucket} → BucketsAt s places bs → WholeBuckets s places
+buckets-located-whole q = record { at = λ i h. (q.at i h).within }
+
+-- the buckets are those at the places
+buckets-tail : {s places : List ℕ} {bs : List Bucket} {at : ℕ} {b : Bucket} → BucketsAt s (at ∷ places) (b ∷ bs) → BucketsAt s places bs
+buckets-tail q = record { count = omega (arith, q.count); at = λ i h. q.at (suc i) (omega arith) }
+
+pub buckets-here : {s places : List ℕ} {bs : List Bucket} → BucketsAt s places bs → buckets_here s places ≡ bs
+buckets-here {places = []} {bs = []} q = refl
+buckets-here {places = []} {bs = b ∷ bs} q = absurd (omega (arith, q.count))
+buckets-here {places = at ∷ places} {bs = []} q = absurd (omega (arith, q.count))
+buckets-here {s} {places = at ∷ places} {bs = b ∷ bs} q =
+    let e = sym (bucket-front (drop at s)) ∙ (q.at 0 (omega arith)).is in
+    let r = buckets-here (buckets-tail q) in
+    λ i. e i ∷ r i

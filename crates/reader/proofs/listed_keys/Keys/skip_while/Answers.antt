@@ -1,0 +1,20 @@
+use Rattle.std.proofs.Common.{rules, tests, ◌∙◌, ap, sym, ◌+◌}
+use lib.ListN.{drop}
+use mathlib.Core.List.{map}
+use Rattle.std.specs.List.{prefix_len}
+use Rattle.calls.proofs.lists.AllLaws.{all-imp}
+use Rattle.calls.proofs.lists.MapLaws.{map-drop}
+use Rattle.reader.specs.KeyHere.{key_here}
+use Rattle.reader.proofs.ListedKeyLaws.{whole-each}
+use Rattle.reader.proofs.SkipLaws.{prefix-map}
+use Rattle.reader.proofs.listed_keys.Keys.skip_while.Goals as goal
+
+pub skip_while-requires-clause-callable : goal.skip_while-requires-clause-callable
+skip_while-requires-clause-callable g c = all-imp (λ at w. search rules) (whole-each c.args.self.now.whole)
+
+pub returns : goal.returns
+returns g c = λ t acts.
+    let s = c.args.self.now.list.now in
+    let ps = c.args.self.now.places.now in
+    c.skip_while.ensures (λ at. t (key_here s at)) (λ at r k. search (rules, tests))
+    ∙ ap (λ n. c.args.from + n) (prefix-map t (key_here s) (drop c.args.from ps) ∙ ap (prefix_len t) (sym (map-drop (key_here s) c.args.from ps)))

@@ -1,0 +1,19 @@
+use Rattle.std.proofs.Common.{rules, tests, ◌∙◌, ap, sym, ◌+◌}
+use lib.ListN.{drop}
+use Rattle.std.specs.List.{prefix_len}
+use Rattle.calls.proofs.lists.AllLaws.{all-imp}
+use Rattle.calls.proofs.lists.MapLaws.{map-drop}
+use Rattle.reader.specs.BucketHere.{bucket_here}
+use Rattle.reader.proofs.ListedKeyLaws.{buckets-each}
+use Rattle.reader.proofs.SkipLaws.{prefix-map}
+use Rattle.reader.proofs.reserved_buckets.ReservedBuckets.skip_while.Goals as goal
+
+pub skip_while-requires-clause-callable : goal.skip_while-requires-clause-callable
+skip_while-requires-clause-callable g c = all-imp (λ at w. search rules) (buckets-each c.args.self.now.whole)
+
+pub returns : goal.returns
+returns g c = λ t acts.
+    let s = c.args.self.now.list.now in
+    let ps = c.args.self.now.places.now in
+    c.skip_while.ensures (λ at. t (bucket_here s at)) (λ at r k. search (rules, tests))
+    ∙ ap (λ n. c.args.from + n) (prefix-map t (bucket_here s) (drop c.args.from ps) ∙ ap (prefix_len t) (sym (map-drop (bucket_here s) c.args.from ps)))
