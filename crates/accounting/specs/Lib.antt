@@ -1,3 +1,2 @@
-pub mod DataTypes
 pub mod RowBytes
 pub mod Tally

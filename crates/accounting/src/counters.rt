@@ -3,35 +3,10 @@ ghost use Rattle.std.specs.Prelude.{◌≡◌, ◌<◌, ◌≤◌, ◌^◌, not,
 ghost use Rattle.wire.specs.Output.{with_bytes};
 ghost use Rattle.calls.specs.Lists.{any_of};
 ghost use Rattle.calls.specs.Accounting.{is_zero, sectors_row, buckets_row};
-ghost use Rattle.accounting.specs.DataTypes.{type_number};
 ghost use Rattle.accounting.specs.RowBytes.{rows_bytes};
 
 use wire::output::Output;
 use wire::rows;
-
-// The data types whose buckets are counted.
-#[derive(Clone, Copy, PartialEq, Eq, Debug, Drop)]
-pub enum DataType {
-    // Free: 0.
-    Free,
-    // In use, by file data: 4.
-    User,
-    // Waiting for its discard: 9.
-    NeedDiscard,
-}
-
-impl DataType {
-    // Its number.
-    pub fn number(self) -> u8
-        ensures { result ≡ type_number self }
-    {
-        match self {
-            DataType::Free => 0,
-            DataType::User => 4,
-            DataType::NeedDiscard => 9,
-        }
-    }
-}
 
 // Whether numbers have one other than 0.
 pub fn is_counted(numbers: &[i64]) -> bool

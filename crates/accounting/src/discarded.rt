@@ -5,7 +5,7 @@ ghost use Rattle.calls.specs.Accounting.{buckets_row};
 ghost use Rattle.accounting.specs.RowBytes.{rows_bytes};
 
 use crate::counters;
-use crate::counters::DataType;
+use format::data_types::DataType;
 use wire::output::Output;
 use wire::rows;
 

@@ -5,8 +5,6 @@ ghost use Rattle.wire.specs.Encode.{encode};
 ghost use Rattle.wire.specs.Rows.{row_field};
 ghost use Rattle.wire.specs.declared.kinds.Bucket.{Bucket};
 ghost use Rattle.wire.specs.Output.{with_bytes};
-ghost use Rattle.format.specs.Checksums.{option_byte};
-ghost use Rattle.format.specs.Entries.{extent_words};
 ghost use Rattle.calls.specs.Extents as calls;
 ghost use Rattle.calls.specs.Extents.{extent_key};
 ghost use Rattle.calls.specs.Accounting.{sectors_row, buckets_row, extents_row, swapped};
@@ -16,9 +14,9 @@ ghost use Rattle.accounting.specs.RowBytes.{rows_bytes};
 ghost use Rattle.accounting.specs.Tally.{counts_row, kind_rows, owner_counts, tallies_of, Small, Known};
 
 use crate::counters;
-use crate::counters::DataType;
 use crate::tally::{Tallies, Tally};
 use format::checksums::ChecksumOption;
+use format::data_types::DataType;
 use reader::head::Head;
 use wire::output::Output;
 use wire::rows;
@@ -54,25 +52,13 @@ pub fn put_taken_rows(out: &mut Output, taken: u64, sectors: u64, stored: u64)
     );
 }
 
-// How many words an extent's value has, by the checksum option.
-#[tactic(auto, unfolding(format::specs::Entries::checksum_entry, format::specs::Entries::extent_words))]
-pub fn extent_size(option: ChecksumOption) -> u64
-    ensures { (result ≤ 3) × ((kind stored file checksum word : ℕ) → length (extent_words (option_byte option) kind stored file checksum word) ≡ result) }
-{
-    match option {
-        ChecksumOption::Off => 1,
-        ChecksumOption::Crc32c => 2,
-        ChecksumOption::Crc64 | ChecksumOption::Xxhash => 3,
-    }
-}
-
 // The extents: their keys, 40 bytes and the value's of each, and the stored sectors.
 pub fn put_extents_row(out: &mut Output, h: Head, t: Tally)
     requires { (h.option ≤ 3) × Small 1024 t }
     ensures { (ps : List calls.Placed) → length ps ≡ t.count → out.new ≡ with_bytes out.old (rows_bytes (extents_row (map (extent_key (head_in h)) ps) t.stored ∷ [])) }
 {
-    let option = ChecksumOption::named(h.option).unwrap();
-    let file = t.count * (40 + 8 * extent_size(option));
+    let option = ChecksumOption::try_from(h.option).unwrap();
+    let file = t.count * (40 + 8 * option.extent_size() as u64);
     put_counts(out, 0x05ff_ffff_ff00_0000, 0, Tally { file, ..t });
 }
 

@@ -13,16 +13,7 @@ use wire::output::Output;
 pub fn put_new_key(out: &mut Output, tree: u8, key_type: u8, size: u32, pos: Bpos)
     ensures { out.new ≡ with_bytes out.old (encode_field (key_field tree (new_key key_type size pos []))) }
 {
-    out.put_bare_key(
-        tree,
-        KeyHead {
-            key_type,
-            size,
-            version_hi: 0,
-            version_lo: 0,
-            pos,
-        },
-    );
+    out.put_bare_key(tree, KeyHead::new(key_type, size, pos));
 }
 
 // The deletion of what stands at a position of a tree.

@@ -36,7 +36,7 @@ fn put_alloc_key(out: &mut Output, s: &[u8], o: u32)
     ensures { out.new ≡ with_bytes out.old (encode_field (key_field 4 (discarded_key (key_here s.now o)))) }
 {
     let mut k = key::key_at(s, o as usize);
-    k.value = alloc::discarded(k.value);
+    alloc::discarded(&mut k.value);
     out.put_key(Tree::Alloc.tag(), &k);
 }
 

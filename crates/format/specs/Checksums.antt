@@ -1,7 +1,8 @@
 -- FORMAT.md, "Call list": the checksum options of a head.
-use Rattle.std.specs.Prelude.{◌≡◌, ℕ, ◌<◌, Option, Some, None}
+use Rattle.std.specs.Prelude.{◌≡◌, ℕ, ◌<◌, Result, MatchResult}
 use Rattle.format.specs.declared.checksums.ChecksumOption.{ChecksumOption}
 use Rattle.format.specs.declared.checksums.ChecksumOption.TheVariants.{Off, Crc32c, Crc64, Xxhash}
+use Rattle.format.specs.declared.checksums.UnknownOption.{UnknownOption}
 
 -- the byte of an option
 abbrev pub option_byte : ChecksumOption → ℕ
@@ -11,6 +12,5 @@ option_byte Crc64 = 2
 option_byte Xxhash = 3
 
 -- what a byte names: the option that has it, and none above 3
-abbrev pub Names : ℕ → Option ChecksumOption → Type 0
-Names byte (Some o) = option_byte o ≡ byte
-Names byte None = 3 < byte
+abbrev pub Names : ℕ → Result ChecksumOption UnknownOption → Type 0
+Names byte r = MatchResult r (λ o. option_byte o ≡ byte) (λ e. (e.0 ≡ byte) × (3 < byte))

@@ -2,6 +2,7 @@ pub mod Packing
 pub mod AllocV4
 pub mod Checksums
 pub mod Compressions
+pub mod DataTypes
 pub mod Entries
 pub mod Backpointer
 pub mod Gens

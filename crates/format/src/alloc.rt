@@ -1,11 +1,10 @@
 // The alloc value: how a new one is made, and what freeing, emptying and discarding make of one that was read.
 ghost use Rattle.std.specs.Prelude.{◌≡◌, ◌+◌, ◌≤◌, length, drop};
-ghost use Rattle.wire.specs.Numbers.{le_bytes, words_bytes};
-ghost use Rattle.wire.specs.Output.{put};
-ghost use Rattle.wire.specs.Held.{value_in};
+ghost use Rattle.wire.specs.Numbers.{words_bytes};
 ghost use Rattle.format.specs.Packing.{get};
 ghost use Rattle.format.specs.AllocV4.{gen, data_type, dirty_sectors, io_time_write, new_alloc, with_dirty, next_gen, emptied_flags, emptied, discarded_flags, discarded};
 
+use crate::data_types::DataType;
 use wire::keys::Value;
 use wire::le;
 
@@ -50,9 +49,10 @@ pub fn new_alloc(journal: u64, generation: u8, dirty: u32, clock: u64) -> [u64; 
     ensures { words_bytes result ≡ new_alloc journal generation dirty clock }
 {
     let g = generation as u64;
+    let user = DataType::User.number() as u64;
     [
         journal,
-        0x23 + (g << 32) + (g << 40) + (4 << 48),
+        0x23 + (g << 32) + (g << 40) + (user << 48),
         dirty as u64,
         1,
         clock,
@@ -62,23 +62,13 @@ pub fn new_alloc(journal: u64, generation: u8, dirty: u32, clock: u64) -> [u64; 
     ]
 }
 
-// A value with the n low bytes of x stored at a place that it has.
-fn with_le(v: Value, at: usize, n: usize, x: u64) -> Value
-    requires { (at + n ≤ v.len) × (v.len ≤ 256) × (n ≤ 8) }
-    ensures { (result.len ≡ v.len) × (value_in result ≡ put (value_in v) at (le_bytes n x)) }
+// The value after a part is freed: another dirty count. Refusal 16 shows that a freed bucket's alloc key is so long, here and where it is emptied.
+#[tactic(auto, using(wire::proofs::AppendLaws::bytes_32), unfolding(crate::specs::AllocV4::with_dirty, crate::specs::Packing::store))]
+pub fn with_dirty(v: &mut Value, dirty: u32)
+    requires { 56 ≤ length v.old }
+    ensures { v.new ≡ with_dirty dirty v.old }
 {
-    let mut bytes = v.bytes;
-    bytes[at..at + n].copy_from_slice(&x.to_le_bytes()[..n]);
-    Value { bytes, len: v.len }
-}
-
-// The value after a part is freed: another dirty count. In a release refusal 16 shows the length, and in a discard the choice of its keys, here and below.
-#[tactic(auto, unfolding(crate::specs::AllocV4::with_dirty, crate::specs::Packing::store))]
-pub fn with_dirty(v: Value, dirty: u32) -> Value
-    requires { (56 ≤ v.len) × (v.len ≤ 256) }
-    ensures { (result.len ≡ v.len) × (value_in result ≡ with_dirty dirty (value_in v)) }
-{
-    with_le(v, 16, 4, dirty as u64)
+    v.put(16, &dirty.to_le_bytes());
 }
 
 // The generation after this one.
@@ -97,20 +87,19 @@ fn emptied_flags(x: u32) -> u32
 }
 
 // The value after emptying, at a journal number.
-pub fn emptied(v: Value, journal: u64) -> Value
-    requires { (56 ≤ v.len) × (v.len ≤ 256) }
-    ensures { (result.len ≡ v.len) × (value_in result ≡ emptied journal (value_in v)) }
+pub fn emptied(v: &mut Value, journal: u64)
+    requires { 56 ≤ length v.old }
+    ensures { v.new ≡ emptied journal v.old }
 {
-    let bytes = v.bytes;
-    let flags = emptied_flags(le::le32(&bytes, 8));
-    let g = next_gen(le::le8(&bytes, 12));
-    let v = with_le(v, 8, 4, flags as u64);
-    let v = with_le(v, 12, 1, g as u64);
-    let v = with_le(v, 13, 1, g as u64);
-    let v = with_le(v, 14, 1, 9);
-    let v = with_le(v, 15, 1, 0);
-    let v = with_le(v, 16, 4, 0);
-    with_le(v, 48, 8, journal)
+    let flags = emptied_flags(le::le32(v.as_slice(), 8));
+    let g = next_gen(generation(v.as_slice(), 0));
+    v.put(8, &flags.to_le_bytes());
+    v.put(12, &[g]);
+    v.put(13, &[g]);
+    v.put(14, &[DataType::NeedDiscard.number()]);
+    v.put(15, &[0]);
+    v.put(16, &0u32.to_le_bytes());
+    v.put(48, &journal.to_le_bytes());
 }
 
 // The flags of a discarded bucket: without bit 0.
@@ -120,15 +109,14 @@ fn discarded_flags(x: u32) -> u32
     x & !1
 }
 
-// The value after discard.
-pub fn discarded(v: Value) -> Value
-    requires { (56 ≤ v.len) × (v.len ≤ 256) }
-    ensures { (result.len ≡ v.len) × (value_in result ≡ discarded (value_in v)) }
+// The value after discard. A discard takes no key whose value is shorter.
+pub fn discarded(v: &mut Value)
+    requires { 56 ≤ length v.old }
+    ensures { v.new ≡ discarded v.old }
 {
-    let bytes = v.bytes;
-    let flags = discarded_flags(le::le32(&bytes, 8));
-    let v = with_le(v, 0, 8, 0);
-    let v = with_le(v, 8, 4, flags as u64);
-    let v = with_le(v, 14, 1, 0);
-    with_le(v, 48, 8, 0)
+    let flags = discarded_flags(le::le32(v.as_slice(), 8));
+    v.put(0, &0u64.to_le_bytes());
+    v.put(8, &flags.to_le_bytes());
+    v.put(14, &[DataType::Free.number()]);
+    v.put(48, &0u64.to_le_bytes());
 }

@@ -1,30 +1,52 @@
 // The checksum options of a head, and their bytes.
-ghost use Rattle.format.specs.Checksums.{Names};
+ghost use Rattle.std.specs.Prelude.{◌≡◌, ◌≤◌, ℕ, length};
+ghost use Rattle.format.specs.Checksums.{option_byte, Names};
+ghost use Rattle.format.specs.Entries.{extent_words};
 
 // What checksum a placed piece's extent has.
 #[derive(Clone, Copy, PartialEq, Eq, Debug, Drop)]
 pub enum ChecksumOption {
-    // None: 0.
-    Off,
-    // crc32c: 1.
-    Crc32c,
-    // crc64: 2.
-    Crc64,
-    // xxhash: 3.
-    Xxhash,
+    // None.
+    Off = 0,
+    // crc32c.
+    Crc32c = 1,
+    // crc64.
+    Crc64 = 2,
+    // xxhash.
+    Xxhash = 3,
+}
+
+// A byte that names no option.
+#[derive(Clone, Copy, PartialEq, Eq, Debug, Drop)]
+pub struct UnknownOption(pub u8);
+
+impl TryFrom<u8> for ChecksumOption {
+    type Error = UnknownOption;
+
+    ghost try_from_gives = { Names };
+
+    // The option that a byte names, if it names one.
+    fn try_from(byte: u8) -> Result<ChecksumOption, UnknownOption> {
+        match byte {
+            0 => Ok(ChecksumOption::Off),
+            1 => Ok(ChecksumOption::Crc32c),
+            2 => Ok(ChecksumOption::Crc64),
+            3 => Ok(ChecksumOption::Xxhash),
+            _ => Err(UnknownOption(byte)),
+        }
+    }
 }
 
 impl ChecksumOption {
-    // The option that a byte names, if it names one.
-    pub fn named(byte: u8) -> Option<ChecksumOption>
-        ensures { Names byte result }
+    // How many words an extent's value has: its checksum entry's, and the pointer.
+    #[tactic(auto, unfolding(crate::specs::Entries::checksum_entry, crate::specs::Entries::extent_words))]
+    pub fn extent_size(self) -> usize
+        ensures { (result ≤ 3) × ((kind stored file checksum word : ℕ) → length (extent_words (option_byte self) kind stored file checksum word) ≡ result) }
     {
-        match byte {
-            0 => Some(ChecksumOption::Off),
-            1 => Some(ChecksumOption::Crc32c),
-            2 => Some(ChecksumOption::Crc64),
-            3 => Some(ChecksumOption::Xxhash),
-            _ => None,
+        match self {
+            ChecksumOption::Off => 1,
+            ChecksumOption::Crc32c => 2,
+            ChecksumOption::Crc64 | ChecksumOption::Xxhash => 3,
         }
     }
 }

@@ -1,18 +1,37 @@
 // The entries of an extent: its checksum entry and its pointer.
-ghost use Rattle.std.specs.Prelude.{◌≡◌, ◌^◌, ◌<◌, ◌≤◌, take};
+ghost use Rattle.std.specs.Prelude.{◌≡◌, ◌^◌, ◌<◌, ◌≤◌, ℕ, List, length, take};
 ghost use Rattle.wire.specs.Kinds.{sector_number};
 ghost use Rattle.format.specs.Checksums.{option_byte};
 ghost use Rattle.format.specs.Entries.{pointer, crc32, crc64, csum_type_of, extent_words};
 
 use crate::checksums::ChecksumOption;
-use wire::kinds;
+use std::marker::Model;
 use wire::kinds::DeviceSector;
 
-// Words built together, of which the first n stand.
-#[derive(Clone, Copy, Drop)]
+// The words of an extent's value: at most three.
+#[derive(Drop)]
 pub struct Words {
-    pub w: [u64; 8],
-    pub n: usize,
+    words: [u64; 3],
+    len: usize,
+}
+
+// They are seen as a list.
+impl Model for Words {
+    ghost Value = { List ℕ };
+
+    ghost view = { λ w. take w.len w.words };
+
+    ghost invariant = { λ w. w.len ≤ 3 };
+}
+
+impl Words {
+    // The words.
+    pub fn as_slice(&self) -> &[u64]
+        ensures gives { result.now ≡ self.now }
+        ensures short { length self.now ≤ 3 }
+    {
+        &self.words[..self.len]
+    }
 }
 
 // The pointer word. A bucket below 65,536 of fewer than 65,536 sectors shows the bound.
@@ -21,7 +40,7 @@ pub fn pointer(d: DeviceSector, generation: u8) -> u64
     requires { sector_number d < 2 ^ 44 }
     ensures { result ≡ pointer d generation }
 {
-    1 + (kinds::sector_word(d) << 4) + ((generation as u64) << 56)
+    1 + (d.0 << 4) + ((generation as u64) << 56)
 }
 
 // The crc32 entry. Refusals 6 and 9 show the bounds, here and below.
@@ -68,30 +87,18 @@ pub fn extent_words(
     word: u64,
 ) -> Words
     requires { ((1 ≤ stored) × (stored ≤ 128)) × ((1 ≤ file) × (file ≤ 128)) × (kind < 16) }
-    ensures { (result.n ≤ 3) × (take result.n result.w ≡ extent_words (option_byte option) kind stored file checksum word) }
+    ensures { result ≡ extent_words (option_byte option) kind stored file checksum word }
 {
     let t = csum_type(option);
-    match option {
-        ChecksumOption::Off => Words {
-            w: [word, 0, 0, 0, 0, 0, 0, 0],
-            n: 1,
-        },
-        ChecksumOption::Crc32c => Words {
-            w: [
-                crc32(stored, file, t, kind, checksum),
-                word,
-                0,
-                0,
-                0,
-                0,
-                0,
-                0,
-            ],
-            n: 2,
-        },
-        ChecksumOption::Crc64 | ChecksumOption::Xxhash => Words {
-            w: [crc64(stored, file, t, kind), checksum, word, 0, 0, 0, 0, 0],
-            n: 3,
-        },
+    let words = match option {
+        ChecksumOption::Off => [word, 0, 0],
+        ChecksumOption::Crc32c => [crc32(stored, file, t, kind, checksum), word, 0],
+        ChecksumOption::Crc64 | ChecksumOption::Xxhash => {
+            [crc64(stored, file, t, kind), checksum, word]
+        }
+    };
+    Words {
+        words,
+        len: option.extent_size(),
     }
 }

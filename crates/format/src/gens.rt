@@ -1,6 +1,5 @@
 // Generation records.
-ghost use Rattle.std.specs.Prelude.{◌≡◌, ◌<◌, ◌≤◌};
-ghost use Rattle.wire.specs.Held.{value_in};
+ghost use Rattle.std.specs.Prelude.{◌≡◌, ◌<◌, length};
 ghost use Rattle.wire.specs.Positions.{gens_byte};
 ghost use Rattle.format.specs.Gens.{with_gen, no_gens};
 
@@ -9,23 +8,18 @@ use wire::kinds::Bucket;
 use wire::positions;
 
 // The record with a bucket's generation. Refusal 19 shows that it has the byte.
-pub fn with_gen(v: Value, b: Bucket, generation: u8) -> Value
-    requires { (gens_byte b < v.len) × (v.len ≤ 256) }
-    ensures { (result.len ≡ v.len) × (value_in result ≡ with_gen b generation (value_in v)) }
+#[tactic(auto, unfolding(crate::specs::Gens::with_gen))]
+pub fn with_gen(v: &mut Value, b: Bucket, generation: u8)
+    requires { gens_byte b < length v.old }
+    ensures { v.new ≡ with_gen b generation v.old }
 {
-    let i = positions::gens_byte(b);
-    let mut bytes = v.bytes;
-    bytes[i] = generation;
-    Value { bytes, len: v.len }
+    v.put(positions::gens_byte(b), &[generation]);
 }
 
 // A record that is started.
 #[tactic(auto, unfolding(crate::specs::Gens::no_gens))]
 pub fn no_gens() -> Value
-    ensures { (result.len ≡ 256) × (value_in result ≡ no_gens) }
+    ensures { result ≡ no_gens }
 {
-    Value {
-        bytes: [0u8; 256],
-        len: 256,
-    }
+    Value::new(&[0; 256])
 }

@@ -5,6 +5,7 @@ pub mod alloc;
 pub mod backpointer;
 pub mod checksums;
 pub mod compression;
+pub mod data_types;
 pub mod entries;
 pub mod gens;
 pub mod lru;

@@ -1,5 +1,5 @@
 -- A value of the right length is read, changed and put back; any other is left. The words of a struct are put at the front of a slice.
-use mathlib.Core.Path.{◌≡◌, refl, ap, ◌∙◌}
+use mathlib.Core.Path.{◌≡◌, refl, ap}
 use Prim.Native.Nat.{ℕ, ◌-◌, ◌*◌, ◌≤◌}
 use native.Mathlib.Omega.{arith}
 use mathlib.Core.Bool.{Bool, true, false, ◌&&◌, cond}
@@ -8,29 +8,31 @@ use Rattle.std.proofs.Common.{Some, None}
 use lib.Dec.{leb}
 use lib.ListN.{length, take}
 use Rattle.std.proofs.lemmas.List.{take_all}
-use Rattle.wire.specs.Held.{padded, value_in}
 use Rattle.wire.specs.Numbers.{words_bytes}
 use Rattle.wire.specs.Output.{cap, top, Wrote, with_bytes}
-use Rattle.wire.specs.declared.keys.Value.{Value}
 use Rattle.wire.specs.declared.output.Output.{Output}
 use Rattle.wire.proofs.EncodeLaws.{words_count}
-use Rattle.wire.proofs.KeyLaws.{value_in_lem}
 use Rattle.format_c.specs.Sized.{where_sized}
 
-module _ (lo hi : ℕ) (f : List ℕ → List ℕ) (s : List ℕ) where
-  pub changed : (v r : Value) → Some v ≡ cond (leb lo (length s) && leb (length s) hi) (Some (padded s)) None → value_in r ≡ f (value_in v) → value_in r ≡ where_sized lo hi f s
-  unfolding where_sized
-  changed v r = go (leb lo (length s) && leb (length s) hi)
-    where
-      go : (t : Bool) → Some v ≡ cond t (Some (padded s)) None → value_in r ≡ f (value_in v) → value_in r ≡ cond t (f s) s
-      go true e c = let h : v ≡ padded s = cc in c ∙ ap (λ (u : Value). f (value_in u)) h ∙ ap f (value_in_lem s)
-      go false e c = cc
+-- a value that is read is the whole slice
+pub whole : (t : Bool) {v s : List ℕ} → Some v ≡ cond t (Some s) None → v ≡ s
+whole true e = cc
+whole false e = cc
 
-  pub left_alone : cond (leb lo (length s) && leb (length s) hi) (Some (padded s)) None ≡ None → s ≡ where_sized lo hi f s
+module _ (lo hi : ℕ) (f : List ℕ → List ℕ) (s : List ℕ) where
+  pub changed : (v : List ℕ) → Some v ≡ cond (leb lo (length s) && leb (length s) hi) (Some s) None → f v ≡ where_sized lo hi f s
+  unfolding where_sized
+  changed v = go (leb lo (length s) && leb (length s) hi)
+    where
+      go : (t : Bool) → Some v ≡ cond t (Some s) None → f v ≡ cond t (f s) s
+      go true e = let h : v ≡ s = cc in ap f h
+      go false e = cc
+
+  pub left_alone : cond (leb lo (length s) && leb (length s) hi) (Some s) None ≡ None → s ≡ where_sized lo hi f s
   unfolding where_sized
   left_alone = go (leb lo (length s) && leb (length s) hi)
     where
-      go : (t : Bool) → cond t (Some (padded s)) None ≡ None → s ≡ cond t (f s) s
+      go : (t : Bool) → cond t (Some s) None ≡ None → s ≡ cond t (f s) s
       go true e = cc
       go false e = refl
 

@@ -4,7 +4,6 @@
 
 ghost use Rattle.std.specs.Prelude.{◌≡◌, ◌+◌, ◌*◌, ◌%◌, ◌^◌, ◌≤◌, ◌&&◌, cond, leb, length, None, Some};
 ghost use Rattle.wire.specs.Numbers.{words_bytes};
-ghost use Rattle.wire.specs.Held.{padded, value_in};
 ghost use Rattle.wire.specs.Output.{Wrote};
 ghost use Rattle.format.specs.Entries.{pointer, crc32, crc64};
 ghost use Rattle.format.specs.AllocV4.{new_alloc, emptied, discarded};
@@ -15,7 +14,6 @@ ghost use Rattle.format_c.specs.Sized.{where_sized};
 
 use format::{alloc, backpointer, entries, gens, lru};
 use wire::bpos::Bpos;
-use wire::keys;
 use wire::keys::Value;
 use wire::kinds::{Bucket, DeviceSector};
 use wire::output::Output;
@@ -32,20 +30,12 @@ fn put_struct(out: &mut [u8], words: &[u64]) -> usize
 
 // A value that has so many bytes that it may be changed: from lo to 256.
 fn sized(value: &[u8], lo: usize) -> Option<Value>
-    ensures { result ≡ cond (leb lo (length value.now) && leb (length value.now) 256) (Some (padded value.now)) None }
+    ensures { result ≡ cond (leb lo (length value.now) && leb (length value.now) 256) (Some value.now) None }
 {
     if !(lo..=256).contains(&value.len()) {
         return None;
     }
-    Some(keys::read_value(value, 0, value.len()))
-}
-
-// What a value became, put in its place. It has as many bytes.
-fn put_back(value: &mut [u8], v: &Value)
-    requires { (v.now.len ≡ length value.old) × (v.now.len ≤ 256) }
-    ensures { value.new ≡ value_in v.now }
-{
-    value.copy_from_slice(&v.bytes[..v.len]);
+    Some(Value::new(value))
 }
 
 // struct bch_extent_ptr, of a sector below 2^44.
@@ -97,8 +87,9 @@ pub extern "C" fn format_new_alloc(
 pub extern "C" fn format_emptied(value: &mut [u8], journal: u64)
     ensures { value.new ≡ where_sized 56 256 (emptied journal) value.old }
 {
-    if let Some(v) = sized(value, 56) {
-        put_back(value, &alloc::emptied(v, journal));
+    if let Some(mut v) = sized(value, 56) {
+        alloc::emptied(&mut v, journal);
+        value.copy_from_slice(v.as_slice());
     }
 }
 
@@ -107,8 +98,9 @@ pub extern "C" fn format_emptied(value: &mut [u8], journal: u64)
 pub extern "C" fn format_discarded(value: &mut [u8])
     ensures { value.new ≡ where_sized 56 256 discarded value.old }
 {
-    if let Some(v) = sized(value, 56) {
-        put_back(value, &alloc::discarded(v));
+    if let Some(mut v) = sized(value, 56) {
+        alloc::discarded(&mut v);
+        value.copy_from_slice(v.as_slice());
     }
 }
 
@@ -129,10 +121,7 @@ pub extern "C" fn format_backpointer(
         offset,
         snapshot,
     };
-    put_struct(
-        out,
-        &backpointer::backpointer(generation, stored, extent)[..4],
-    )
+    put_struct(out, &backpointer::backpointer(generation, stored, extent))
 }
 
 // struct bch_bucket_gens with a bucket's generation. A value of another length than 256 bytes is left alone.
@@ -140,8 +129,9 @@ pub extern "C" fn format_backpointer(
 pub extern "C" fn format_with_gen(value: &mut [u8], bucket: u64, generation: u8)
     ensures { value.new ≡ where_sized 256 256 (with_gen (record { 0 = bucket }) generation) value.old }
 {
-    if let Some(v) = sized(value, 256) {
-        put_back(value, &gens::with_gen(v, Bucket(bucket), generation));
+    if let Some(mut v) = sized(value, 256) {
+        gens::with_gen(&mut v, Bucket(bucket), generation);
+        value.copy_from_slice(v.as_slice());
     }
 }
 

@@ -9,11 +9,8 @@ use lib.Seq.{get_or-take, get_or-append_seam}
 use Rattle.std.specs.List.{IsLastAndRest}
 use borrow.Author.Tests.{ne_eqb, eq-eqb}
 use Rattle.wire.specs.Keys.{Key}
-use Rattle.wire.specs.Held.{held, key_in}
 use Rattle.wire.specs.Encode.{encode, key_field}
-use Rattle.wire.specs.declared.keys.Bkey.{Bkey}
 use Rattle.wire.proofs.EncodeLaws.{encode-append}
-use Rattle.wire.proofs.KeyLaws.{value_in_lem}
 use Rattle.calls.specs.Trees.{deletion}
 use Rattle.calls.specs.Limits.{is_run}
 use Rattle.calls.specs.Freespace.{shortened}
@@ -22,12 +19,10 @@ use Rattle.calls.specs.Answers.{read_call, read_volume}
 use Rattle.freespace.specs.Walks.{left_of, key_queue, queue_of}
 use Rattle.place_keys.specs.Queue.{Walk}
 
--- a run with some buckets left, as the code holds it
-pub kept : (k : Key) {h : Bkey} {left : ℕ} → h ≡ held k → (left ≡ 0 → ⊥)
-    → key_in (record { key_type = h.key_type; size = left; version_hi = h.version_hi; version_lo = h.version_lo; pos = h.pos; value = h.value })
-    ≡ shortened k left
+-- a run with some buckets left: its size is another, and the rest is as it was
+pub kept : (k : Key) {left : ℕ} → (left ≡ 0 → ⊥) → record k { size = left } ≡ shortened k left
 unfolding shortened
-kept k {left = left} e z = simp (ne_eqb left 0 z, e, value_in_lem k.value)
+kept k {left = left} z = simp (ne_eqb left 0 z)
 
 -- a run with none left
 pub deleted : (k : Key) {left : ℕ} → left ≡ 0 → shortened k left ≡ deletion k.pos

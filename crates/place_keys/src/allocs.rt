@@ -23,13 +23,7 @@ use wire::trees::Tree;
 pub fn put_alloc(out: &mut Output, b: Bucket, journal: u64, generation: u8, dirty: u32, clock: u64)
     ensures { out.new ≡ with_bytes out.old (encode_field (key_field 4 (new_key 27 0 (alloc_at b) (new_alloc journal generation dirty clock)))) }
 {
-    let head = KeyHead {
-        key_type: KeyType::AllocV4.number(),
-        size: 0,
-        version_hi: 0,
-        version_lo: 0,
-        pos: positions::alloc_at(b),
-    };
+    let head = KeyHead::new(KeyType::AllocV4.number(), 0, positions::alloc_at(b));
     out.put_words_key(
         Tree::Alloc.tag(),
         head,

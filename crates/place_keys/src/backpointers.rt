@@ -25,14 +25,12 @@ pub fn put_backpointer(out: &mut Output, h: Head, p: Placed)
 {
     let extent = positions::extent_at(h.inode, p.end);
     let w = backpointer::backpointer(p.generation, p.piece.stored as u32, extent);
-    let head = KeyHead {
-        key_type: KeyType::Backpointer.number(),
-        size: 0,
-        version_hi: 0,
-        version_lo: 0,
-        pos: positions::backpointer_at(p.first),
-    };
-    out.put_words_key(Tree::Backpointers.tag(), head, &w[..4]);
+    let head = KeyHead::new(
+        KeyType::Backpointer.number(),
+        0,
+        positions::backpointer_at(p.first),
+    );
+    out.put_words_key(Tree::Backpointers.tag(), head, &w);
 }
 
 // The backpointers of all pieces, in order.

@@ -26,21 +26,19 @@ pub fn put_extent(out: &mut Output, h: Head, p: Placed)
 {
     let piece = p.piece;
     let v = entries::extent_words(
-        ChecksumOption::named(h.option).unwrap(),
+        ChecksumOption::try_from(h.option).unwrap(),
         piece.kind as u64,
         piece.stored as u64,
         piece.file as u64,
         piece.checksum,
         entries::pointer(p.first, p.generation),
     );
-    let head = KeyHead {
-        key_type: KeyType::Extent.number(),
-        size: piece.file as u32,
-        version_hi: 0,
-        version_lo: 0,
-        pos: positions::extent_at(h.inode, p.end),
-    };
-    out.put_words_key(Tree::Extents.tag(), head, &v.w[..v.n]);
+    let head = KeyHead::new(
+        KeyType::Extent.number(),
+        piece.file as u32,
+        positions::extent_at(h.inode, p.end),
+    );
+    out.put_words_key(Tree::Extents.tag(), head, v.as_slice());
 }
 
 // The extents of all pieces, in order.

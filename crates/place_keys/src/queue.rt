@@ -27,7 +27,7 @@ pub fn put_shortened(out: &mut Output, s: &[u8], from: usize, left: u32)
         return;
     }
     let mut k = key::key_at(s, from);
-    k.size = left;
+    k.head.size = left;
     out.put_key(Tree::Freespace.tag(), &k);
 }
 

@@ -1,6 +1,6 @@
 // A key at a place of a list, and each part of it. The places that the reader lists show that a whole key stands there.
 ghost use Rattle.std.specs.Prelude.{◌≡◌, length};
-ghost use Rattle.wire.specs.Held.{held};
+ghost use Rattle.wire.specs.Held.{key_in};
 ghost use Rattle.wire.specs.Positions.{bucket_in};
 ghost use Rattle.reader.specs.KeyHere.{body_len, value_at, key_here, Whole};
 
@@ -88,7 +88,7 @@ fn body_len(s: &[u8], at: usize) -> usize
 #[tactic(auto, unfolding(crate::specs::KeyHere::key_here))]
 pub fn key_at(s: &[u8], at: usize) -> Bkey
     requires { Whole s.now at }
-    ensures { result ≡ held (key_here s.now at) }
+    ensures { key_in result ≡ key_here s.now at }
 {
     keys::read_key(s, at, body_len(s, at))
 }

@@ -110,15 +110,15 @@ generation-at generation_of (n ∷ ns) (suc k) h e = generation-at generation_of
 -- the place of the last record queued is not past this offset
 abbrev pub Behind : std.Option Bkey → ℕ → Type 0
 Behind None n = Unit
-Behind (Some last) n = last.pos.offset ≤ n
+Behind (Some last) n = last.head.pos.offset ≤ n
 
 -- a bucket whose record is not the last one queued continues the tree's
 apart : (gens : List Key) (last : std.Option Bkey) (c : Bucket) (n : ℕ) → Behind last n → (n ≤ c.0 / 256) → (n ≡ c.0 / 256 → ⊥) → continued gens last c ≡ gen_key gens c
 apart gens None c n h l z = refl
-apart gens (Some last) c n h l z = go (pos_same last.pos (gens_at c)) refl
+apart gens (Some last) c n h l z = go (pos_same last.head.pos (gens_at c)) refl
   where
-    go : (t : Bool) → pos_same last.pos (gens_at c) ≡ t → cond t (key_in last) (gen_key gens c) ≡ gen_key gens c
-    go true e = absurd (z (omega (arith, ap (λ (q : Bpos). q.offset) (same-equal last.pos (gens_at c) e))))
+    go : (t : Bool) → pos_same last.head.pos (gens_at c) ≡ t → cond t (key_in last) (gen_key gens c) ≡ gen_key gens c
+    go true e = absurd (z (omega (arith, ap (λ (q : Bpos). q.offset) (same-equal last.head.pos (gens_at c) e))))
     go false e = refl
 
 -- On its way: the rows from index k on are left, and their records continue the last one or the tree's.
@@ -156,22 +156,22 @@ module _ {gens : List Key} {generation_of : Bucket → ℕ} {rows : List Emptied
       → Queue gens generation_of rows before after (k + 1) (Some next)
   queue-turn generation next {after} e n w =
       let i = queued-is generation next e n in
-      let place : next.pos ≡ gens_at here = ap (λ (x : Key). x.pos) i ∙ queued-at q.records here (generation_of here) in
+      let place : next.head.pos ≡ gens_at here = ap (λ (x : Key). x.pos) i ∙ queued-at q.records here (generation_of here) in
       record {
         records = queued ∷ q.records;
         part =
             rw (w, i, with-with)
             (ap (with_bytes out) (sym (queue-next generation_of q.records (emptied-next rows k h))) ∙ q.part);
-        continues = λ j l m. go (get_or rows j no_emptied).bucket (q.continues j (omega arith) m) (order-at (λ (x : Emptied). x.bucket) rows no_emptied o k j (omega arith) m) i place (pos_same next.pos (gens_at (get_or rows j no_emptied).bucket)) refl;
+        continues = λ j l m. go (get_or rows j no_emptied).bucket (q.continues j (omega arith) m) (order-at (λ (x : Emptied). x.bucket) rows no_emptied o k j (omega arith) m) i place (pos_same next.head.pos (gens_at (get_or rows j no_emptied).bucket)) refl;
         ahead = λ j l m. omega (arith, ap (λ (x : Bpos). x.offset) place, order-at (λ (x : Emptied). x.bucket) rows no_emptied o k j (omega arith) m);
       }
     where
       -- a later bucket's record continues the one that is queued, or the tree's
-      go : (c : Bucket) → gen_key q.records c ≡ continued gens last c → here.0 ≤ c.0 → key_in next ≡ queued → next.pos ≡ gens_at here
-          → (t : Bool) → pos_same next.pos (gens_at c) ≡ t → gen_key (queued ∷ q.records) c ≡ cond t (key_in next) (gen_key gens c)
+      go : (c : Bucket) → gen_key q.records c ≡ continued gens last c → here.0 ≤ c.0 → key_in next ≡ queued → next.head.pos ≡ gens_at here
+          → (t : Bool) → pos_same next.head.pos (gens_at c) ≡ t → gen_key (queued ∷ q.records) c ≡ cond t (key_in next) (gen_key gens c)
       go c f l i s true d =
           same-record queued q.records here (queued-type q.records here (generation_of here)) (queued-at q.records here (generation_of here)) c
-          (sym (same-equal next.pos (gens_at c) d) ∙ s)
+          (sym (same-equal next.head.pos (gens_at c) d) ∙ s)
           ∙ sym i
       go c f l i s false d =
           let y : (gens_at c).offset ≡ (gens_at here).offset → ⊥ = λ x. clash (same-self (gens_at c)) (sym (ap (λ (z : Bpos). pos_same z (gens_at c)) (s ∙ ap (λ (n : ℕ). record { inode = 0; offset = n; snapshot = 0 }) (sym x))) ∙ d) in

@@ -13,7 +13,7 @@ use Rattle.format.specs.Packing.{Member, get}
 use Rattle.calls.specs.Lists.{from_option}
 use Rattle.reader.specs.KeyHere.{value_at, key_here, Whole, keys_here}
 use Rattle.reader.specs.Located.{KeyAt, no_key}
-use Rattle.reader.proofs.KeyHereLaws.{value-length-here, member-here}
+use Rattle.reader.proofs.KeyHereLaws.{member-here}
 use Rattle.release_keys.specs.Places.{Keyed, PlaceOf, missing, found, key_placed}
 
 -- what is left from an index on: the key there, and the rest
@@ -48,10 +48,6 @@ placed-value missing = refl
 placed-value (found k) = ap (λ (x : Key). x.value) k.is
 
 module _ {s : List ℕ} {at : ℕ} (w : Whole s at) where
-  -- the most that its value has
-  pub value-short : length (key_here s at).value ≤ 256
-  value-short = omega (arith, value-length-here s at w, w.short)
-
   -- a member of its value, read where the value starts
   pub member-there : (m : Member) → m.at + m.size ≤ length (key_here s at).value → (p : ℕ) → p ≡ value_at at → get m (drop p s) ≡ get m (key_here s at).value
   member-there m h p e = ap (λ (n : ℕ). get m (drop n s)) e ∙ sym (member-here s at w m h)

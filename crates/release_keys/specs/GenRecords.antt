@@ -13,7 +13,7 @@ use Rattle.calls.specs.Trees.{with_value}
 -- the record that a bucket's continues: the last one queued where it stands at the same place, or the one of the tree
 abbrev pub continued : List Key → Option Bkey → Bucket → Key
 continued gens None b = gen_key gens b
-continued gens (Some last) b = cond (pos_same last.pos (gens_at b)) (key_in last) (gen_key gens b)
+continued gens (Some last) b = cond (pos_same last.head.pos (gens_at b)) (key_in last) (gen_key gens b)
 
 -- the next one queued: that record with the bucket's generation
 abbrev pub next_queued : List Key → Option Bkey → Bucket → ℕ → Key

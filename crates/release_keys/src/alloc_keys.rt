@@ -18,15 +18,15 @@ use wire::trees::Tree;
 // The alloc key of a freed bucket: emptied, or with what is left of it. The refusals show that it is there, how long it is, and that the bucket holds what is freed.
 fn freed_key(s: &[u8], f: FreedBucket, journal: u64) -> Bkey
     requires { RowHeld s.now f }
-    ensures { (result.value.len ≤ 256) × (key_in result ≡ freed_key journal s.now f) }
+    ensures { key_in result ≡ freed_key journal s.now f }
 {
     let mut k = key::key_at(s, f.place.unwrap() as usize);
     let dirty = freed_buckets::dirty_of(s, f);
-    k.value = if f.freed == dirty {
-        alloc::emptied(k.value, journal)
+    if f.freed == dirty {
+        alloc::emptied(&mut k.value, journal);
     } else {
-        alloc::with_dirty(k.value, dirty - f.freed)
-    };
+        alloc::with_dirty(&mut k.value, dirty - f.freed);
+    }
     k
 }
 

@@ -1,7 +1,7 @@
 // Tree 14: the generation records of emptied buckets, each continuing the one that is queued before it.
-ghost use Rattle.std.specs.Prelude.{◌≡◌, true, List, map, ℕ, ◌≤◌, ◌<◌, IfSome};
+ghost use Rattle.std.specs.Prelude.{◌≡◌, true, List, map, ℕ, ◌<◌};
 ghost use Rattle.wire.specs.Keys.{Key};
-ghost use Rattle.wire.specs.Held.{value_in, key_in};
+ghost use Rattle.wire.specs.Held.{key_in};
 ghost use Rattle.wire.specs.Kinds.{bucket_below, bucket_in_range};
 ghost use Rattle.wire.specs.declared.kinds.Bucket as kinds;
 ghost use Rattle.wire.specs.Positions.{gens_at};
@@ -20,7 +20,7 @@ use crate::freed_buckets::Emptied;
 use gens::records;
 use reader::key;
 use wire::key_types::KeyType;
-use wire::keys::Bkey;
+use wire::keys::{Bkey, KeyHead};
 use wire::kinds::Bucket;
 use wire::output::Output;
 use wire::trees::Tree;
@@ -28,14 +28,10 @@ use wire::{bpos, positions};
 
 // A record that is started.
 fn new_record(b: Bucket) -> Bkey
-    ensures { (result.value.len ≤ 256) × (key_in result ≡ new_key 30 0 (gens_at b) no_gens) }
+    ensures { key_in result ≡ new_key 30 0 (gens_at b) no_gens }
 {
     Bkey {
-        key_type: KeyType::BucketGens.number(),
-        size: 0,
-        version_hi: 0,
-        version_lo: 0,
-        pos: positions::gens_at(b),
+        head: KeyHead::new(KeyType::BucketGens.number(), 0, positions::gens_at(b)),
         value: format::gens::no_gens(),
     }
 }
@@ -43,7 +39,7 @@ fn new_record(b: Bucket) -> Bkey
 // A bucket's record before this release. The tables show what is required, here and below.
 fn old_record(s: &[u8], records: &[u32], b: Bucket) -> Bkey
     requires { Recorded s.now records.now × (bucket_in_range b ≡ true) }
-    ensures { (result.value.len ≤ 256) × ((gens : List Key) → RecordsFound s.now gens records.now → key_in result ≡ gen_key gens b) }
+    ensures { (gens : List Key) → RecordsFound s.now gens records.now → key_in result ≡ gen_key gens b }
 {
     match records::record_of(records, b) {
         Some(at) => key::key_at(s, at),
@@ -53,23 +49,22 @@ fn old_record(s: &[u8], records: &[u32], b: Bucket) -> Bkey
 
 // A record with a bucket's generation. A byte past its end, which refusal 19 rules out, changes nothing.
 fn with_generation(k: Bkey, b: Bucket, generation: u8) -> Bkey
-    requires { k.value.len ≤ 256 }
-    ensures { (result.value.len ≤ 256) × (key_in result ≡ with_value (key_in k) (with_gen b generation (value_in k.value))) }
+    ensures { key_in result ≡ with_value (key_in k) (with_gen b generation k.value) }
 {
     let mut r = k;
-    if positions::gens_byte(b) < k.value.len {
-        r.value = format::gens::with_gen(k.value, b, generation);
+    if positions::gens_byte(b) < r.value.as_slice().len() {
+        format::gens::with_gen(&mut r.value, b, generation);
     }
     r
 }
 
 // The record of the next emptied bucket: the last one queued is continued where it is the bucket's, and else the one before this release.
 fn next_record(s: &[u8], records: &[u32], last: Option<Bkey>, b: Bucket, generation: u8) -> Bkey
-    requires { Recorded s.now records.now × (bucket_in_range b ≡ true) × IfSome last (λ k. k.value.len ≤ 256) }
-    ensures { (result.value.len ≤ 256) × ((gens : List Key) → RecordsFound s.now gens records.now → key_in result ≡ next_queued gens last b generation) }
+    requires { Recorded s.now records.now × (bucket_in_range b ≡ true) }
+    ensures { (gens : List Key) → RecordsFound s.now gens records.now → key_in result ≡ next_queued gens last b generation }
 {
     let key = match last {
-        Some(key) if bpos::pos_same(key.pos, positions::gens_at(b)) => key,
+        Some(key) if bpos::pos_same(key.head.pos, positions::gens_at(b)) => key,
         _ => old_record(s, records, b),
     };
     with_generation(key, b, generation)

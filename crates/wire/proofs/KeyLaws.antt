@@ -1,18 +1,15 @@
 -- Laws of reading keys: a key at its place, one field's part of a tree's keys, and the copy of a value.
 use Prim.Native.Nat.{ℕ, zero, suc, ◌+◌, ◌-◌, ◌≤◌}
 use mathlib.Core.Path.{◌≡◌}
-use mathlib.Core.List.{List, [], ◌∷◌, ◌++◌}
-use lib.ListN.{length, take, drop, replicate, length-drop}
-use lib.Seq.{drop-drop, take-nil, take-append_seam}
+use mathlib.Core.List.{List, [], ◌∷◌}
+use lib.ListN.{length, take, drop, length-drop}
+use lib.Seq.{drop-drop, take-nil}
 use borrow.Author.Tests.{le-leb, eq-eqb}
 use native.Mathlib.Nat.{add_assoc, add-zero}
 use native.Mathlib.Omega.{arith}
-use Rattle.std.proofs.lemmas.List.{drop-replicate}
 use Rattle.wire.specs.Numbers.{le}
 use Rattle.wire.specs.Fields.{Field, field_at}
 use Rattle.wire.specs.Keys.{Key, pos_of, key_of, key_sized, is_key, keys}
-use Rattle.wire.specs.Held.{padded, value_in}
-use Rattle.wire.specs.declared.keys.Value.{Value}
 use Rattle.wire.proofs.NumberLaws.{body-le, body-length}
 
 pub drop-take : (k m : ℕ) (s : List ℕ) → drop k (take m s) ≡ take (m - k) (drop k s)
@@ -66,18 +63,6 @@ module _ (s : List ℕ) (t tag b n : ℕ) (fits : b + n ≤ length s) (fs : List
   pub keys-take : tag ≡ t → 37 ≤ n → n ≤ 293 → keys t (field_at s tag b n ∷ fs) ≡ key_of (take n (drop b s)) ∷ keys t fs
   unfolding keys is_key key_sized
   keys-take e l m = simp (eq-eqb tag t e, body-length s b n fits, le-leb 37 n l, le-leb n 293 m)
-
--- a value whose bytes are copied to the front of zeros
-pub copied :
-    (s bytes : List ℕ) (from len : ℕ) → from + len ≤ length s → bytes ≡ take (from + len - from) (drop from s)
-    → ◌≡◌ {A = Value} (record { bytes = bytes ++ drop {A = ℕ} len (replicate 256 0); len = len }) (padded (take len (drop from s)))
-copied s bytes from len fits e =
-    let z : from + len - from ≡ len = omega arith in
-    let r : drop {A = ℕ} len (replicate 256 0) ≡ replicate (256 - len) 0 = drop-replicate len 256 0 in
-    rw (body-length s from len fits, e, z, r)
-
-pub value_in_lem : (v : List ℕ) → value_in (padded v) ≡ v
-value_in_lem v = take-append_seam v (replicate (256 - length v) 0)
 
 -- the length of a key's value, as `put_key` asks it
 pub value-length : (s : List ℕ) (start len : ℕ) → start + len ≤ length s → length (key_of (take len (drop start s))).value ≡ len - 37

@@ -11,12 +11,11 @@ use native.Mathlib.Omega.{arith}
 use Rattle.wire.specs.Numbers.{le, le_bytes, each}
 use Rattle.wire.specs.Fields.{Field, fields_after, fields, size, whole}
 use Rattle.wire.specs.Keys.{Key, pos_of, key_of, key_sized, is_key, keys}
-use Rattle.wire.specs.Held.{key_in, held}
 use Rattle.wire.specs.Encode.{head_bytes, encode_field, encode, pos_bytes, key_start, key_body, key_field}
 use Rattle.wire.specs.Bytes.{All, none, more, Bytes}
 use Rattle.wire.proofs.NumberLaws.{all_drop, le-le_bytes, le_bytes-le, le-length}
 use Rattle.wire.proofs.FieldLaws.{skip}
-use Rattle.wire.proofs.KeyLaws.{key-equal, value_in_lem}
+use Rattle.wire.proofs.KeyLaws.{key-equal}
 use Rattle.wire.proofs.OrderLaws.{pos-equal}
 
 -- fields
@@ -142,10 +141,6 @@ body-again {b} r l =
       ← take-add 17 20 b,
       take-append-drop,
     )
-
--- a key is what the code holds of it
-pub held_back : (k : Key) → key_in (held k) ≡ k
-held_back k = simp (value_in_lem k.value)
 
 -- examples: the shortest body and the longest
 

@@ -1,26 +1,30 @@
 // Keys with their values, held by value (bkey.rs).
 ghost use Rattle.std.specs.Prelude.{◌≡◌, ◌+◌, ◌≤◌, ◌&&◌, leb, length, take, drop};
 ghost use Rattle.wire.specs.Numbers.{le};
+ghost use Rattle.wire.specs.Output.{put};
 ghost use Rattle.wire.specs.Keys.{key_of, pos_of};
-ghost use Rattle.wire.specs.Held.{padded, held, key_head};
+ghost use Rattle.wire.specs.Held.{key_in, new_head};
 
 use crate::bpos::Bpos;
 use crate::{bpos, le};
+use std::marker::Model;
 
-#[derive(Clone, Copy, Drop)]
+// A key's value: at most 256 bytes.
+#[derive(Drop)]
 pub struct Value {
-    pub bytes: [u8; 256],
-    pub len: usize,
+    bytes: [u8; 256],
+    len: usize,
 }
 
-#[derive(Clone, Copy, Drop)]
-pub struct Bkey {
-    pub key_type: u8,
-    pub size: u32,
-    pub version_hi: u32,
-    pub version_lo: u64,
-    pub pos: Bpos,
-    pub value: Value,
+// It is seen as its bytes.
+impl Model for Value {
+    ghost use Rattle.std.specs.Prelude.{◌≤◌, ℕ, List, take};
+
+    ghost Value = { List ℕ };
+
+    ghost view = { λ v. take v.len v.bytes };
+
+    ghost invariant = { λ v. v.len ≤ 256 };
 }
 
 // What stands before a key's value.
@@ -33,43 +37,75 @@ pub struct KeyHead {
     pub pos: Bpos,
 }
 
-impl Bkey {
-    // What stands before the value.
-    pub fn head(&self) -> KeyHead
-        ensures { result ≡ key_head self.now }
+#[derive(Drop)]
+pub struct Bkey {
+    pub head: KeyHead,
+    pub value: Value,
+}
+
+impl Value {
+    // The value with these bytes. A key's length shows the bound.
+    pub fn new(b: &[u8]) -> Value
+        requires { length b.now ≤ 256 }
+        ensures { result ≡ b.now }
     {
-        KeyHead {
-            key_type: self.key_type,
-            size: self.size,
-            version_hi: self.version_hi,
-            version_lo: self.version_lo,
-            pos: self.pos,
+        let mut bytes = [0u8; 256];
+        bytes[..b.len()].copy_from_slice(b);
+        Value {
+            bytes,
+            len: b.len(),
         }
+    }
+
+    // Its bytes.
+    pub fn as_slice(&self) -> &[u8]
+        ensures gives { result.now ≡ self.now }
+        ensures short { length self.now ≤ 256 }
+    {
+        &self.bytes[..self.len]
+    }
+
+    // Stores bytes from one of its own on. Who changes a value shows that it has them all.
+    pub fn put(&mut self, at: usize, b: &[u8])
+        requires { at + length b.now ≤ length self.old }
+        ensures stored { self.new ≡ put self.old at b.now }
+        ensures as_long { length self.new ≡ length self.old }
+    {
+        let bytes = &mut self.bytes;
+        bytes[at..at + b.len()].copy_from_slice(b);
     }
 }
 
-// The value of len bytes at a place of a list. The length of a key's field shows the bounds.
-pub fn read_value(s: &[u8], from: usize, len: usize) -> Value
-    requires { (from + len ≤ length s.now) × (len ≤ 256) }
-    ensures { result ≡ padded (take len (drop from s.now)) }
-{
-    let mut bytes = [0u8; 256];
-    bytes[..len].copy_from_slice(&s[from..from + len]);
-    Value { bytes, len }
+impl KeyHead {
+    // What stands before the value of a key that is made: its versions are 0.
+    pub fn new(key_type: u8, size: u32, pos: Bpos) -> KeyHead
+        ensures { result ≡ new_head key_type size pos }
+    {
+        KeyHead {
+            key_type,
+            size,
+            version_hi: 0,
+            version_lo: 0,
+            pos,
+        }
+    }
 }
 
 // The key whose body of len bytes starts at a place of a list. `key_sized`, or the layout that refusal 2 tests, shows the bounds.
 pub fn read_key(s: &[u8], start: usize, len: usize) -> Bkey
     requires { (start + len ≤ length s.now) × (37 ≤ len) × (len ≤ 293) }
-    ensures { result ≡ held (key_of (take len (drop start s.now))) }
+    ensures { key_in result ≡ key_of (take len (drop start s.now)) }
 {
-    Bkey {
+    let head = KeyHead {
         key_type: le::le8(s, start),
         size: le::le32(s, start + 1),
         version_hi: le::le32(s, start + 5),
         version_lo: le::le64(s, start + 9),
         pos: bpos::read_pos(s, start + 17),
-        value: read_value(s, start + 37, len - 37),
+    };
+    Bkey {
+        head,
+        value: Value::new(&s[start + 37..start + len]),
     }
 }
 

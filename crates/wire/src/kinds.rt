@@ -1,6 +1,6 @@
 // Bucket numbers, device sectors and file sectors, each of a kind of its own, and the only ways from one to another.
 ghost use Rattle.std.specs.Prelude.{◌≡◌, ◌+◌, ◌<◌, ◌≤◌, ◌^◌, length, drop};
-ghost use Rattle.wire.specs.Kinds.{sector_at, bucket_of, offset_in, extent_end, next_bucket, same_bucket, bucket_below, bucket_in_range, run_end_in_range, run_start, began_before, buckets_up_to, bucket_read, base_in_range, sector_number};
+ghost use Rattle.wire.specs.Kinds.{sector_at, bucket_of, offset_in, extent_end, next_bucket, same_bucket, bucket_below, bucket_in_range, run_end_in_range, run_start, began_before, buckets_up_to, bucket_read, base_in_range};
 
 use crate::le;
 
@@ -116,11 +116,4 @@ pub fn base_in_range(f: FileSector) -> bool
     ensures { result ≡ base_in_range f }
 {
     f.0 < 1 << 40
-}
-
-// A device sector as a pointer has it.
-pub fn sector_word(d: DeviceSector) -> u64
-    ensures { result ≡ sector_number d }
-{
-    d.0
 }

@@ -2,13 +2,13 @@
 // One function for each width, as the type of a number tells how many bytes it has: std has no trait that joins them, and a clause over that of num_traits would name its members in place of `le_bytes`.
 ghost use Rattle.std.specs.Prelude.{◌≡◌, ◌+◌, ◌-◌, ◌≤◌, min, max, [], ◌∷◌, length, take};
 ghost use Rattle.wire.specs.Numbers.{le_bytes, words_bytes};
-ghost use Rattle.wire.specs.Held.{value_in, key_in, key_with};
+ghost use Rattle.wire.specs.Held.{key_in, key_with};
 ghost use Rattle.wire.specs.Kinds.{bucket_bytes, sector_bytes, file_sector_bytes};
 ghost use Rattle.wire.specs.Encode.{head_bytes, encode_field, pos_bytes, key_start, key_field};
 ghost use Rattle.wire.specs.Output.{put, cap, with_bytes};
 
 use crate::bpos::Bpos;
-use crate::keys::{Bkey, KeyHead, Value};
+use crate::keys::{Bkey, KeyHead};
 use crate::kinds::{Bucket, DeviceSector, FileSector};
 
 // A slice that is lent, and the place in it that the next byte goes to.
@@ -131,14 +131,6 @@ impl<'a> Output<'a> {
         }
     }
 
-    // The bytes of a value. `read_key` shows the bound.
-    pub fn put_value(&mut self, v: &Value)
-        requires { v.now.len ≤ 256 }
-        ensures { self.new ≡ with_bytes self.old (value_in v.now) }
-    {
-        self.put_slice(&v.bytes[..v.len]);
-    }
-
     // A position in twenty bytes.
     pub fn put_pos(&mut self, p: Bpos)
         ensures { self.new ≡ with_bytes self.old (pos_bytes p) }
@@ -160,21 +152,20 @@ impl<'a> Output<'a> {
     }
 
     // A key of a tree with no value.
+    #[tactic(auto, unfolding(crate::specs::Numbers::words_bytes, crate::specs::Numbers::each))]
     pub fn put_bare_key(&mut self, tree: u8, h: KeyHead)
         ensures { self.new ≡ with_bytes self.old (encode_field (key_field tree (key_with h []))) }
     {
-        self.put_head(tree, 37);
-        self.put_key_start(h);
+        self.put_words_key(tree, h, &[]);
     }
 
-    // A key of a tree. Who reads or makes the key shows the bound of its value.
+    // A key of a tree.
     pub fn put_key(&mut self, tree: u8, k: &Bkey)
-        requires { k.now.value.len ≤ 256 }
         ensures { self.new ≡ with_bytes self.old (encode_field (key_field tree (key_in k.now))) }
     {
-        let value = &k.value.bytes[..k.value.len];
+        let value = k.value.as_slice();
         self.put_head(tree, 37 + value.len());
-        self.put_key_start(k.head());
+        self.put_key_start(k.head);
         self.put_slice(value);
     }
 

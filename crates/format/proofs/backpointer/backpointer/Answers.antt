@@ -6,6 +6,6 @@ pub returns : goal.returns
 returns c =
     let g = c.args.generation in
     let x = c.args.extent in
-    let e : 4 * 2 ^ 16 + (g * 2 ^ 24) % 2 ^ 64 ≡ 4 * 2 ^ 16 + g * 2 ^ 24 = omega arith in
+    let e : (4 * 2 ^ 16) % 2 ^ 64 + (g * 2 ^ 24) % 2 ^ 64 ≡ 4 * 2 ^ 16 + g * 2 ^ 24 = omega arith in
     let f : c.args.stored + (x.snapshot * 2 ^ 32) % 2 ^ 64 ≡ c.args.stored + x.snapshot * 2 ^ 32 = omega arith in
-    rw (e, f) (backpointer-words g c.args.stored x (omega arith) (omega arith))
+    rw (c.number-user.ensures, e, f) (backpointer-words g c.args.stored x (omega arith) (omega arith))

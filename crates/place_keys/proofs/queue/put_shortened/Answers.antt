@@ -1,4 +1,7 @@
-use Rattle.std.proofs.Common.{ap, refl, ◌∙◌}
+use Rattle.std.proofs.Common.{◌≡◌, ap, refl, ◌∙◌}
+use Rattle.wire.specs.Keys.{Key}
+use Rattle.wire.specs.Held.{key_in}
+use Rattle.calls.specs.Freespace.{shortened}
 use Rattle.wire.specs.Encode.{encode_field, key_field}
 use Rattle.wire.specs.Output.{with_bytes}
 use Rattle.reader.specs.KeyHere.{key_here}
@@ -11,5 +14,6 @@ returns-then-left-eq0 c =
 
 pub returns : goal.returns
 returns c =
-    rw c.tag-2.ensures at c.put_key.ensures
-    ∙ ap (λ x. with_bytes c.args.out.now (encode_field (key_field 11 x))) (kept (key_here c.args.s.now c.args.from) c.key_at-k.ensures c.if-left-eq0.false)
+    let e : record (key_in c.key_at-k.result) { size = c.args.left } ≡ shortened (key_here c.args.s.now c.args.from) c.args.left =
+    ap (λ (k : Key). record k { size = c.args.left }) c.key_at-k.ensures ∙ kept (key_here c.args.s.now c.args.from) c.if-left-eq0.false in
+    rw c.tag-2.ensures at c.put_key.ensures ∙ ap (λ x. with_bytes c.args.out.now (encode_field (key_field 11 x))) e

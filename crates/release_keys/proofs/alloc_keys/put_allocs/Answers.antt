@@ -14,7 +14,7 @@ bytes journal s rows = keys_bytes 4 (map (freed_key journal s) rows)
 
 pub loop-f-preserved : goal.loop-f-preserved
 loop-f-preserved c =
-    loop-turn (bytes c.args.journal c.args.s.now) c.args.rows.now c.loop-f.f-index no_row _ c.loop-f.out c.put_key.new.self (omega arith) (encode-next _ _) (rw (c.tag.ensures, c.freed_key.ensures.1) at c.put_key.ensures)
+    loop-turn (bytes c.args.journal c.args.s.now) c.args.rows.now c.loop-f.f-index no_row _ c.loop-f.out c.put_key.new.self (omega arith) (encode-next _ _) (rw (c.tag.ensures, c.freed_key.ensures) at c.put_key.ensures)
     ∙ c.loop-f.invariant
 
 pub returns : goal.returns

@@ -1,5 +1,5 @@
 -- The loop of `gen_records::put_gens`.
-use Rattle.std.proofs.Common.{◌≡◌, ◌≤◌, List, map, ℕ, IfSome}
+use Rattle.std.proofs.Common.{◌≡◌, List, map, ℕ}
 use Rattle.wire.specs.Keys.{Key}
 use Rattle.wire.specs.declared.kinds.Bucket.{Bucket}
 use Rattle.gens.specs.Records.{RecordsFound}
@@ -9,6 +9,5 @@ use Rattle.release_keys.proofs.gen_records.put_gens.Given as goal
 
 abbrev pub invariant-loop-e : goal.invariant-loop-e
 invariant-loop-e l =
-    IfSome l.last (λ k. k.value.len ≤ 256)
-    × ((gens : List Key) (generation_of : Bucket → ℕ) → RecordsFound l.s gens l.records → l.emptied ≡ map (emptied_row generation_of) (emptied_buckets l.emptied)
-    → Queue gens generation_of l.emptied l.fn.out l.out l.e-index l.last)
+    (gens : List Key) (generation_of : Bucket → ℕ) → RecordsFound l.s gens l.records → l.emptied ≡ map (emptied_row generation_of) (emptied_buckets l.emptied)
+    → Queue gens generation_of l.emptied l.fn.out l.out l.e-index l.last
