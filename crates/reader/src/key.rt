@@ -70,7 +70,7 @@ impl<'a> ListedKey<'a> {
     // The whole key.
     #[tactic(auto, unfolding(crate::specs::KeyHere::key_here))]
     pub fn key(&self) -> Bkey
-        ensures { result ≡ held (key_listed self.now) }
+        ensures { key_in result ≡ key_listed self.now }
     {
         keys::read_key(self.list, self.at as usize, self.body_len())
     }
