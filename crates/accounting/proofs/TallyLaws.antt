@@ -1,12 +1,11 @@
 -- Laws of tallies.
 use mathlib.Core.Path.{◌≡◌, refl, sym, ap, ◌∙◌}
 use mathlib.Core.Bool.{Bool, true, false, cond}
-use mathlib.Core.List.{List, [], ◌∷◌, ◌++◌}
+use mathlib.Core.List.{List, [], ◌∷◌, ◌++◌, append-nil}
 use Prim.Native.Nat.{ℕ, zero, suc, ◌+◌, ◌≤◌, ◌<◌}
 use native.Mathlib.Omega.{arith}
-use lib.ListN.{length, length-append, get_or, set, take}
-use lib.Seq.{take-suc}
-use Rattle.std.proofs.Common.{add-one}
+use lib.ListN.{length, length-append, get_or, set}
+use lib.Seq.{append_snoc}
 use Rattle.wire.specs.Bytes.{All, none, more}
 use Rattle.calls.proofs.lists.AllLaws.{all-imp}
 use lib.Dec.{eqb}
@@ -15,7 +14,7 @@ use Rattle.calls.specs.Lists.{those, total}
 use Rattle.calls.specs.CallList.{Piece}
 use Rattle.calls.proofs.lists.ThoseLaws.{those-append, those-one, those-other}
 use Rattle.calls.proofs.lists.TotalLaws.{total-append}
-use Rattle.accounting.specs.Tally.{tally_of, of_kind, kinds_of, tallies_of, sum, sums, both, Small, Smalls}
+use Rattle.accounting.specs.Tally.{tally_of, of_kind, kinds_of, tallies_of, sum, sums, both, Small, Smalls, Tallied}
 use Rattle.accounting.specs.declared.tally.Tally.{Tally}
 use Rattle.accounting.specs.declared.tally.Tallies.{Tallies}
 
@@ -57,13 +56,6 @@ both-append xs ys =
     let one : (kind : ℕ) → sum (tally_of (of_kind kind xs)) (tally_of (of_kind kind ys)) ≡ tally_of (of_kind kind (xs ++ ys)) =
     λ kind. sym (ap tally_of (kind-append kind xs ys) ∙ tally-append (of_kind kind xs) (of_kind kind ys)) in
     tallies-equal _ _ (sym (tally-append xs ys)) (λ x. one 2 x ∷ one 3 x ∷ one 4 x ∷ one 5 x ∷ [])
-
--- the tallies of the pieces before index i, with the one there
-pub tallies-next : (ps : List Piece) (i : ℕ) (d p : Piece) (t r : Tallies) → i < length ps → p ≡ get_or ps i d → t ≡ tallies_of (take i ps)
-    → r ≡ both t (tallies_of (p ∷ [])) → r ≡ tallies_of (take (i + 1) ps)
-tallies-next ps i d p t r h e f g =
-    let s : take (i + 1) ps ≡ take i ps ++ (p ∷ []) = rw (add-one, e) (take-suc ps i d h) in
-    rw (g, f, s) (both-append (take i ps) (p ∷ []))
 
 -- a piece counts for its kind alone
 
@@ -146,3 +138,50 @@ smalls-next p f s q e =
       all = small-sum q.all (small-one p f s);
       kinds = small-sums q.kinds (more (small-kind 2 p f s) (more (small-kind 3 p f s) (more (small-kind 4 p f s) (more (small-kind 5 p f s) none))));
     })
+
+-- of some pieces, those passed are tallied, and the others are left
+pub record TalliedUpTo (ps left : List Piece) (t : Tallies) : Type 0 where
+  pub passed : List Piece
+  pub parts : passed ++ left ≡ ps
+  pub is : t ≡ tallies_of passed
+  pub small : Smalls (length passed) t
+
+-- tallies of zeros are those of no piece
+abbrev Zeros : Tally → Type 0
+Zeros t = (t.count ≡ 0) × ((t.file ≡ 0) × (t.stored ≡ 0))
+
+four-zeros : (ts : List Tally) → length ts ≡ 4 → ((i : ℕ) → i < 4 → Zeros (get_or ts i (tally_of []))) → ts ≡ kinds_of []
+unfolding of_kind those total
+four-zeros (a ∷ b ∷ c ∷ e ∷ []) l z =
+    let none : (t : Tally) → Zeros t → t ≡ tally_of [] = λ t h. tally-equal t _ h.0 h.1.0 h.1.1 in
+    λ x. none a (z 0 (omega arith)) x ∷ none b (z 1 (omega arith)) x ∷ none c (z 2 (omega arith)) x ∷ none e (z 3 (omega arith)) x ∷ []
+four-zeros [] l z = absurd (omega arith)
+four-zeros (a ∷ []) l z = absurd (omega arith)
+four-zeros (a ∷ b ∷ []) l z = absurd (omega arith)
+four-zeros (a ∷ b ∷ c ∷ []) l z = absurd (omega arith)
+four-zeros (a ∷ b ∷ c ∷ e ∷ f ∷ ts) l z = absurd (omega arith)
+
+pub zero-tallies : {t : Tallies} → Zeros t.all → length t.kinds ≡ 4 → ((i : ℕ) → i < 4 → Zeros (get_or t.kinds i (tally_of []))) → t ≡ tallies_of []
+unfolding total
+zero-tallies a l k = tallies-equal _ _ (tally-equal _ _ a.0 a.1.0 a.1.1) (four-zeros _ l k)
+
+pub tallied-first : {ps left : List Piece} {t : Tallies} → t ≡ tallies_of [] → left ≡ ps → TalliedUpTo ps left t
+tallied-first e f = record { passed = []; parts = f; is = e; small = rw e smalls-none }
+
+module _ {ps left : List Piece} {t : Tallies} (d : TalliedUpTo ps left t) where
+  pub tallied-few : {p : Piece} {rest : List Piece} → left ≡ p ∷ rest → length ps ≤ 1024 → Smalls 1023 t
+  tallied-few e h = smalls-more (omega (arith, ap length d.parts, length-append d.passed left, ap length e)) d.small
+
+  pub tallied-next : {r : Tallies} (p : Piece) (rest : List Piece) → left ≡ p ∷ rest → p.file < 65536 → p.stored < 65536 → r ≡ both t (tallies_of (p ∷ [])) → TalliedUpTo ps rest r
+  tallied-next {r} p rest e f s g =
+      record {
+        passed = d.passed ++ (p ∷ []);
+        parts = append_snoc d.passed p rest ∙ ap (λ (l : List Piece). d.passed ++ l) (sym e) ∙ d.parts;
+        is = rw (g, d.is) (both-append d.passed (p ∷ []));
+        small = smalls-more (omega (arith, length-append d.passed (p ∷ []))) (smalls-next p f s d.small g);
+      }
+
+  pub tallied-end : left ≡ [] → length ps ≤ 1024 → Tallied ps t
+  tallied-end e h =
+      let whole : d.passed ≡ ps = sym (append-nil d.passed) ∙ ap (λ (l : List Piece). d.passed ++ l) (sym e) ∙ d.parts in
+      record { is = d.is ∙ ap tallies_of whole; small = smalls-more (omega (arith, ap length whole)) d.small }

@@ -5,9 +5,11 @@ ghost use Rattle.wire.specs.Encode.{encode};
 ghost use Rattle.wire.specs.Rows.{row_field};
 ghost use Rattle.wire.specs.declared.kinds.Bucket.{Bucket};
 ghost use Rattle.wire.specs.Output.{with_bytes};
+ghost use Rattle.format.specs.Checksums.{option_byte};
+ghost use Rattle.calls.specs.CallList as lists;
 ghost use Rattle.calls.specs.Extents as calls;
 ghost use Rattle.calls.specs.Extents.{extent_key};
-ghost use Rattle.calls.specs.Accounting.{sectors_row, buckets_row, extents_row, swapped};
+ghost use Rattle.calls.specs.Accounting.{sectors_row, buckets_row, extents_row};
 ghost use Rattle.calls.specs.Place.{place_rows};
 ghost use Rattle.reader.specs.Heads.{head_in};
 ghost use Rattle.accounting.specs.RowBytes.{rows_bytes};
@@ -53,20 +55,12 @@ pub fn put_taken_rows(out: &mut Output, taken: u64, sectors: u64, stored: u64)
 }
 
 // The extents: their keys, 40 bytes and the value's of each, and the stored sectors.
-pub fn put_extents_row(out: &mut Output, h: Head, t: Tally)
-    requires { (h.option ≤ 3) × Small 1024 t }
-    ensures { (ps : List calls.Placed) → length ps ≡ t.count → out.new ≡ with_bytes out.old (rows_bytes (extents_row (map (extent_key (head_in h)) ps) t.stored ∷ [])) }
+pub fn put_extents_row(out: &mut Output, option: ChecksumOption, t: Tally)
+    requires { Small 1024 t }
+    ensures { (h : lists.Head) (ps : List calls.Placed) → option_byte option ≡ h.option → length ps ≡ t.count → out.new ≡ with_bytes out.old (rows_bytes (extents_row (map (extent_key h) ps) t.stored ∷ [])) }
 {
-    let option = ChecksumOption::try_from(h.option).unwrap();
     let file = t.count * (40 + 8 * option.extent_size() as u64);
     put_counts(out, 0x05ff_ffff_ff00_0000, 0, Tally { file, ..t });
-}
-
-// The bytes of a number, read from the other end.
-pub fn reversed(x: u64) -> u64
-    ensures { result ≡ swapped 8 x }
-{
-    x.swap_bytes()
 }
 
 // The owner: byte 8 and the inode's bytes, read from the highest across inode and offset.
@@ -74,7 +68,7 @@ pub fn put_owner(out: &mut Output, inode: u64, t: Tally)
     requires { Small 1024 t }
     ensures { out.new ≡ with_bytes out.old (rows_bytes (owner_counts inode t ∷ [])) }
 {
-    let y = reversed(inode);
+    let y = inode.swap_bytes();
     let inode = 0x0800_0000_0000_0000 + y / 256;
     let offset = (y % 256) * 0x0100_0000_0000_0000;
     put_counts(out, inode, offset, t);
@@ -85,20 +79,21 @@ pub fn put_kinds(out: &mut Output, kinds: &[Tally])
     requires { All (Small 1024) kinds.now × (length kinds.now ≤ 4) }
     ensures { out.new ≡ with_bytes out.old (rows_bytes (kind_rows 2 kinds.now)) }
 {
+    // By index: the inode of a row is made of its kind, which is two more than the index.
     for (i, t) in kinds.iter().enumerate() {
         let inode = 0x0402_0000_0000_0000 + i as u64 * 0x0001_0000_0000_0000;
         put_counts(out, inode, 0, *t);
     }
 }
 
-// All rows of a placement, by how many buckets are taken, ascending. `tally_pieces` shows what is required of the tallies.
-pub fn put_rows(out: &mut Output, taken: u64, t: &Tallies, h: Head)
-    requires taken_bound { (taken ≤ 1024) × (h.option ≤ 3) }
+// All rows of a placement, by how many buckets are taken, ascending. A plan holds the head's option, and `tally_pieces` shows what is required of the tallies.
+pub fn put_rows(out: &mut Output, taken: u64, t: &Tallies, h: Head, option: ChecksumOption)
+    requires bounds { (taken ≤ 1024) × (option_byte option ≡ h.option) }
     requires known { Known taken t.now }
     ensures { (bs : List Bucket) (ps : List calls.Placed) → length bs ≡ taken → t.now ≡ tallies_of (map (λ p. p.piece) ps) → out.new ≡ with_bytes out.old (encode (map row_field (place_rows (head_in h) bs ps (map (extent_key (head_in h)) ps)))) }
 {
     put_taken_rows(out, taken, h.bucket_sectors as u64, t.all.stored);
     put_kinds(out, &t.kinds);
-    put_extents_row(out, h, t.all);
+    put_extents_row(out, option, t.all);
     put_owner(out, h.inode, t.all);
 }

@@ -1,12 +1,13 @@
 // What the rows count: pieces, file sectors and stored sectors, of all pieces and of each compression kind.
-ghost use Rattle.std.specs.Prelude.{◌≡◌, ◌<◌, ◌≤◌, [], ◌∷◌, length};
-ghost use Rattle.calls.specs.Answers.{read_call};
-ghost use Rattle.reader.specs.Located.{PiecesAt};
+ghost use Rattle.std.specs.Prelude.{◌≡◌, ◌≤◌, [], ◌∷◌, length};
 ghost use Rattle.reader.specs.Pieces.{piece_in};
+ghost use Rattle.reader.specs.PieceLists.{pieces_of};
 ghost use Rattle.accounting.specs.Tally.{tally_of, tallies_of, sum, both, Small, Smalls, Tallied};
+ghost use Rattle.accounting.specs.Kinds.{CountedAs};
 
-use reader::piece;
+use format::compression::Compression;
 use reader::piece::Piece;
+use reader::pieces::Pieces;
 
 // How many pieces, how many file sectors and how many stored sectors.
 #[derive(Clone, Copy, Default, Drop)]
@@ -17,7 +18,7 @@ pub struct Tally {
 }
 
 // The tally of all pieces, and those of the kinds 2, 3, 4 and 5.
-#[derive(Clone, Copy, Drop)]
+#[derive(Clone, Copy, Default, Drop)]
 pub struct Tallies {
     pub all: Tally,
     pub kinds: [Tally; 4],
@@ -35,39 +36,40 @@ impl Tally {
     }
 }
 
-impl Tallies {
-    // No piece yet.
-    pub fn none() -> Tallies
-        ensures { result ≡ tallies_of [] }
-    {
-        let all = Tally::default();
-        Tallies {
-            all,
-            kinds: [all; 4],
-        }
+// Which of the tallies of the kinds a piece with a kind counts in; one that is stored as it is counts in none.
+fn kind_index(kind: u8) -> Option<usize>
+    ensures { CountedAs kind result }
+{
+    match Compression::named(kind)? {
+        Compression::Off => None,
+        Compression::Gzip => Some(0),
+        Compression::Lz4 => Some(1),
+        Compression::Zstd => Some(2),
+        Compression::Incompressible => Some(3),
     }
+}
 
+impl Tallies {
     // One piece more. The limit on requests shows the bound.
     pub fn add(&mut self, p: Piece)
         requires { Smalls 1023 self.old }
         ensures { self.new ≡ both self.old (tallies_of (piece_in p ∷ [])) }
     {
         self.all.add(p);
-        if (2..=5).contains(&p.kind) {
-            self.kinds[(p.kind - 2) as usize].add(p);
+        if let Some(i) = kind_index(p.kind) {
+            self.kinds[i].add(p);
         }
     }
 }
 
-// The tallies of the pieces, in one pass.
-pub fn tally_pieces(s: &[u8], pieces: &[u32]) -> Tallies
-    requires pieces_at { PiecesAt s.now pieces.now (read_call s.now).pieces }
-    requires pieces_len_bound { length pieces.now ≤ 1024 }
-    ensures { Tallied (read_call s.now).pieces result }
+// The tallies of the pieces, in one pass. Refusal 3 shows that the pieces are few.
+pub fn tally_pieces(pieces: &Pieces) -> Tallies
+    requires { length (pieces_of pieces.now) ≤ 1024 }
+    ensures { Tallied (pieces_of pieces.now) result }
 {
-    let mut tallies = Tallies::none();
-    for at in pieces {
-        tallies.add(piece::read_piece(s, *at as usize));
+    let mut tallies = Tallies::default();
+    for p in pieces.iter() {
+        tallies.add(p);
     }
     tallies
 }

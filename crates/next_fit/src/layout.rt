@@ -1,25 +1,37 @@
-// The layout of pieces: the slots of a lent slice of pieces, put into a table.
-ghost use Rattle.std.specs.Prelude.{◌≡◌, ◌<◌, ◌≤◌, map, length, take};
-ghost use Rattle.calls.specs.Pieces.{next_fit};
-ghost use Rattle.next_fit.specs.Fit.{slots_in, lay, unused};
+// The layout of pieces: the slot of each, in a table, and how many buckets they need.
+ghost use Rattle.std.specs.Prelude.{◌≡◌, ◌≤◌, map, length};
+ghost use Rattle.calls.specs.Pieces.{next_fit, buckets_needed};
+ghost use Rattle.reader.specs.PieceLists.{pieces_of};
+ghost use Rattle.next_fit.specs.Fit.{slots_in};
 
-use crate::slot::Open;
-use reader::piece::Piece;
+use crate::slot::{OpenBucket, Slot};
+use reader::pieces::Pieces;
 
-// The slots of the pieces that are lent, each by next fit, at the front of a table, and the bucket that is open after them.
-pub fn layout(pieces: &[Piece], bucket: u64, slots: &mut [u32]) -> Open
-    requires { (length pieces.now ≤ 1024) × (length pieces.now ≤ length slots.old) × (bucket < 65536) }
-    ensures { (result ≡ lay bucket unused pieces.now) × (slots_in (take (length pieces.now) slots.new) ≡ next_fit bucket 0 0 (map (λ p. p.stored) pieces.now)) }
+// The slots of the pieces, each by next fit, at the front of a table. Refusal 3 shows that the pieces are few.
+pub fn lay_out<'a>(pieces: &Pieces, bucket: u16, slots: &'a mut [Slot]) -> &'a [Slot]
+    requires { (length (pieces_of pieces.now) ≤ 1024) × (length (pieces_of pieces.now) ≤ length slots.old) }
+    ensures { slots_in result.now ≡ next_fit bucket 0 0 (map (λ p. p.stored) (pieces_of pieces.now)) }
 {
-    let mut open = Open { index: 0, used: 0 };
+    let mut open = OpenBucket { index: 0, used: 0 };
+    // By index: nothing is known of what a slice holds after `iter_mut().zip(..)`.
     for (i, p) in pieces.iter().enumerate() {
-        let stored = p.stored as u64;
-        let slot = open.next_fit(stored, bucket);
-        slots[i] = slot.number();
-        open = Open {
+        let slot = open.next_fit(p.stored, bucket);
+        slots[i] = slot;
+        open = OpenBucket {
             index: slot.index,
-            used: slot.offset + stored,
+            used: slot.offset + p.stored,
         };
     }
-    open
+    &slots[..pieces.len()]
+}
+
+// How many buckets pieces with these slots need.
+#[tactic(auto, unfolding(calls::specs::Pieces::buckets_needed))]
+pub fn buckets_needed(slots: &[Slot]) -> usize
+    ensures { result ≡ buckets_needed (slots_in slots.now) }
+{
+    match slots.last() {
+        Some(slot) => slot.index as usize + 1,
+        None => 0,
+    }
 }

@@ -1,6 +1,5 @@
-// Next fit: the layout of pieces, over a lent slice of piece records.
+// Next fit: the slots of pieces, and how many buckets they need.
 #![tactic(auto)]
 
-pub mod needed;
-pub mod pieces;
+pub mod layout;
 pub mod slot;

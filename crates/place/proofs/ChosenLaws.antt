@@ -12,7 +12,7 @@ use Rattle.wire.specs.Keys.{Key}
 use Rattle.wire.specs.Kinds.{no_bucket, same_bucket, bucket_in_range}
 use Rattle.wire.specs.declared.kinds.Bucket.{Bucket}
 use Rattle.calls.specs.Lists.{all_of, those, total, one}
-use Rattle.calls.specs.CallList.{CallList}
+use Rattle.calls.specs.CallList.{CallList, Head, Piece}
 use Rattle.calls.specs.Extents.{bucket_at}
 use Rattle.calls.specs.Limits.{is_run}
 use Rattle.calls.specs.Freespace.{is_in, is_used, runs_of, overlaps, walk}
@@ -28,13 +28,14 @@ use Rattle.reader.specs.declared.read_list.ReadList.{ReadList}
 use Rattle.place_tests.specs.Called.{Called}
 use Rattle.place_tests.specs.Choice.{ChosenIs}
 use Rattle.freespace.specs.Walks.{unwalked, queue_of, WalkTook}
-use Rattle.freespace.specs.declared.take.Walked.{Walked}
+use Rattle.place_tests.specs.declared.refusals.Chosen.{Chosen}
+use Rattle.reader.specs.PieceLists.{pieces_of}
+use Rattle.reader.specs.declared.pieces.Pieces.{Pieces}
 use Rattle.reader.proofs.CheckedLaws.{trees-in-order}
 use Rattle.place_tests.proofs.RefusalLaws.{TestsPassed, accepted}
 use Rattle.place_tests.proofs.SizedLaws.{needed-short}
 use Rattle.freespace.proofs.TakeLaws.{queue-take}
 use Rattle.freespace.proofs.TakenLaws.{walk-in-range}
-use Rattle.place_keys.specs.Queue.{Walk}
 use Rattle.place.specs.Planned.{PlanFor}
 
 -- ---- where each bucket is counted at most once, its index is the only one
@@ -77,13 +78,12 @@ taken-once R U n l sorted apart b = go (R (bucket b)) refl
     go false e = omega (arith, (covered R U n l b sorted).plain e, cover-once b (runs_of l) apart, cover-runs b l)
 
 -- what is chosen, for the change list
-pub record Choice (l : ReadList) (numbers : List ℕ) (table : List Bucket) (r : Walked) : Type 0 where
-  pub few : r.count ≤ 1024
-  pub plan : PlanFor l.list.now l.head l.requests.now numbers (take r.count table)
-  pub walk : Walk l.list.now l.freespace.places.now r.passed r.left
+pub record Choice (l : ReadList) (ps : List Piece) (c : Chosen) : Type 0 where
+  pub plan : PlanFor l.list.now l.head ps c.slots.now c.taken.now c.option
+  pub few : c.walked.passed ≤ length (read_volume l.list.now).trees.freespace
+  pub queue : queue_of c.walked.passed c.walked.left (read_volume l.list.now).trees.freespace ≡ (walk_of (read_call l.list.now)).queue
 
-module _
-    {l : ReadList} {before table : List Bucket} {numbers : List ℕ} {r : Walked} (q : Called l) (o : ChosenIs l.list.now before table numbers (Ok r)) where
+module _ {l : ReadList} {ps : Pieces} {r : Chosen} (q : Called l ps) (o : ChosenIs l.list.now (Ok r)) where
   abbrev s : List ℕ
   s = l.list.now
 
@@ -111,45 +111,36 @@ module _
       taken-once (is_in (read_volume s).reserved) (is_used (read_volume s).trees.alloc) (buckets_needed (slots_of c)) ks (trees-in-order q.checked).freespace.0
       passed.runs
 
-  abbrev w : WalkTook (buckets_needed (slots_of c)) (take r.passed ks) (walk_of c) unwalked before table r
-  w = o.took
+  abbrev w : WalkTook (buckets_needed (slots_of c)) (take r.walked.passed ks) (walk_of c) unwalked [] r.taken.now r.walked
+  w = o.chosen.walk
 
-  taken_is : take r.count table ≡ (walk_of c).taken
-  taken_is = w.taken
+  taken-is : r.taken.now ≡ (walk_of c).taken
+  taken-is = o.chosen.taken
 
-  taken-length : length (take r.count table) ≡ r.count
-  taken-length = omega (arith, ap length taken_is, w.count)
-
-  passed-all : length (take r.passed ks) ≡ r.passed
+  passed-all : length (take r.walked.passed ks) ≡ r.walked.passed
   passed-all = omega (arith, w.passed)
 
-  pub chosen : Choice l numbers table r
+  pub chosen : Choice l (pieces_of ps) r
   chosen =
-      let few : r.count ≤ 1024 = omega (arith, w.count, taken-many, needed-short q passed.requests) in
       record {
-        few = few;
         plan =
             record {
               pieces = q.pieces;
-              slots = o.laid;
+              slots = o.chosen.slots;
               head = q.head;
-              taken = taken_is;
+              taken = taken-is;
               gens = refl;
               few = q.few;
               base = q.base;
               sectors = passed.requests.sectors;
-              option = passed.requests.option;
+              option = o.chosen.option ∙ ap (λ (h : Head). h.option) (sym q.head);
               kinds = passed.requests.kinds;
               sizes = passed.requests.sizes;
-              enough = omega (arith, taken-length, w.count, taken-many);
-              short = omega (arith, taken-length, few);
-              low = rw taken_is low;
-              distinct = rw taken_is (distinct-at (walk_of c).taken once);
+              enough = omega (arith, ap length taken-is, taken-many);
+              short = omega (arith, ap length taken-is, taken-many, needed-short q passed.requests);
+              low = rw taken-is low;
+              distinct = rw taken-is (distinct-at (walk_of c).taken once);
             };
-        walk =
-            record {
-              runs = q.runs;
-              few = omega (arith, passed-all, length-take r.passed ks, q.runs.count);
-              queue = w.queue ∙ ap (λ (m : ℕ). queue_of m r.left (take r.passed ks)) passed-all ∙ sym (queue-take r.passed r.left ks);
-            };
+        few = omega (arith, passed-all, length-take r.walked.passed ks);
+        queue = sym (w.queue ∙ ap (λ (m : ℕ). queue_of m r.walked.left (take r.walked.passed ks)) passed-all ∙ sym (queue-take r.walked.passed r.walked.left ks));
       }

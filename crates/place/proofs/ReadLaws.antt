@@ -2,7 +2,8 @@
 use Rattle.std.proofs.Common.{Some}
 use mathlib.Core.Path.{◌≡◌, refl, ap, sym, ◌∙◌}
 use mathlib.Core.List.{List, [], ◌∷◌}
-use Prim.Native.Nat.{ℕ, ◌<◌}
+use Prim.Native.Nat.{ℕ, ◌<◌, ◌≤◌}
+use lib.ListN.{length}
 use Rattle.wire.specs.Kinds.{base_in_range}
 use Rattle.calls.specs.Answers.{Answer, answer, made, outcome, place, read_call}
 use Rattle.calls.specs.CallList as calls
@@ -10,14 +11,16 @@ use Rattle.calls.specs.ChangeList.{change_bytes}
 use Rattle.calls.specs.Place.{place_tests}
 use Rattle.calls.proofs.answers.AnswerLaws.{place_is}
 use Rattle.reader.specs.Readings.{call_refusal, ReadAs}
+use Rattle.reader.specs.PieceLists.{pieces_of}
+use Rattle.reader.specs.declared.pieces.Pieces.{Pieces}
 use Rattle.reader.specs.declared.read_list.ReadList.{ReadList}
-use Rattle.reader.proofs.PartsLaws.{passed, read-on, read-refused, located, pieces-read}
+use Rattle.reader.proofs.PartsLaws.{passed, read-on, read-refused, located}
 use Rattle.place_tests.specs.Called.{Called}
 use Rattle.reader.proofs.CheckedLaws.{checked, base-range}
 use Rattle.place.specs.Change.{placement}
 
-pub called : {r : ReadList} → ReadAs (Some 1) r → Called r
-called {r} q =
+pub called : {r : ReadList} {ps : Pieces} → ReadAs (Some 1) r → pieces_of ps ≡ (read_call r.list.now).pieces → length (pieces_of ps) ≤ 1024 → Called r ps
+called {r} q e l =
     let p = passed 1 r.list.now q.passed in
     let k = checked 1 r.list.now p.laid p.once p.within in
     let at = located q in
@@ -30,8 +33,8 @@ called {r} q =
       alloc_are = q.read.alloc.are;
       runs_are = q.read.freespace.are;
       reserved_are = q.read.reserved.are;
-      pieces = (pieces-read q).0;
-      few = (pieces-read q).1;
+      pieces = e;
+      few = l;
       base = ap (λ (x : calls.Head). base_in_range x.base) q.read.head ∙ base-range k;
     }
 

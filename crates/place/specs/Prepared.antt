@@ -1,22 +1,21 @@
--- What is prepared for the change list of a plan: the dirty counts of the buckets taken, the walk, the tallies and the clock.
+-- What is prepared for the change list of a plan: the walk, the tallies and the clock.
 use Rattle.std.specs.Prelude.{ℕ, ◌≤◌, ◌≡◌, List, [], ◌∷◌, length}
 use Rattle.std.specs.Coded.{le_prop, Coded-set, codes}
 use Rattle.wire.specs.Bytes.{All, none, more}
-use Rattle.wire.specs.declared.kinds.Bucket.{Bucket}
 use Rattle.calls.specs.Clock.{clock_of}
-use Rattle.calls.specs.Place.{placed_of}
+use Rattle.calls.specs.Place.{walk_of}
 use Rattle.calls.specs.Answers.{read_call, read_volume}
+use Rattle.reader.specs.ListedKeys.{keys_listed}
+use Rattle.reader.specs.declared.listed_keys.Keys.{Keys}
+use Rattle.freespace.specs.Walks.{queue_of}
 use Rattle.freespace.specs.declared.take.Walked.{Walked}
 use Rattle.accounting.specs.Tally.{Small, Tallied}
 use Rattle.accounting.specs.declared.tally.Tally.{Tally}
 use Rattle.accounting.specs.declared.tally.Tallies.{Tallies}
-use Rattle.place_keys.specs.Plan.{Dirty}
-use Rattle.place_keys.specs.Queue.{Walk}
 
-pub record Prepared (s : List ℕ) (taken : List Bucket) (counts runs : List ℕ) (w : Walked) (t : Tallies) (time : ℕ) : Type 0 where
-  pub long : length taken ≤ length counts
-  pub dirty : Dirty (placed_of (read_call s)) taken counts
-  pub walk : Walk s runs w.passed w.left
+pub record Prepared (s : List ℕ) (ks : Keys) (w : Walked) (t : Tallies) (time : ℕ) : Type 0 where
+  pub few : w.passed ≤ length ks.places.now
+  pub queue : queue_of w.passed w.left (keys_listed ks) ≡ (walk_of (read_call s)).queue
   pub tallied : Tallied (read_call s).pieces t
   pub clock : time ≡ clock_of (read_volume s).trees.alloc
 
@@ -28,5 +27,5 @@ all-prop h (a ∷ s) (more p q) (more u v) = λ i. more (h a p u i) (all-prop h 
 small-prop : (ts : List Tally) → IsProp (All (Small 1024) ts)
 small-prop ts = all-prop (λ t. hlevel le_prop) ts
 
-pub prepared-prop : (s : List ℕ) (taken : List Bucket) (counts runs : List ℕ) (w : Walked) (t : Tallies) (time : ℕ) → IsProp (Prepared s taken counts runs w t time)
-prepared-prop s taken counts runs w t time = hlevel (small-prop, le_prop, Coded-set, codes)
+pub prepared-prop : (s : List ℕ) (ks : Keys) (w : Walked) (t : Tallies) (time : ℕ) → IsProp (Prepared s ks w t time)
+prepared-prop s ks w t time = hlevel (small-prop, le_prop, Coded-set, codes)

@@ -10,12 +10,14 @@ ghost use Rattle.reader.specs.Refusals.{made_by};
 
 use crate::change::ChangeList;
 use accounting::tally;
-use freespace::take::Walked;
 use gens::records;
+use next_fit::slot::Slot;
+use place_keys::dirty::DirtyPlan;
 use place_keys::plan::Plan;
 use place_keys::{clock, dirty, generations};
-use place_tests::refusals;
+use place_tests::asked::Placement;
 use reader::call_kinds::Call;
+use reader::pieces::Pieces;
 use reader::read_list::ReadList;
 use reader::refusal::Refusal;
 use reader::{answer, call};
@@ -37,29 +39,33 @@ fn place_read(read: &ReadList, out: &mut [u8]) -> Result<usize, Refusal>
     ensures { made_by result out.new ≡ outcome (answers.place read.now.list.now (length out.old)) out.old }
 {
     let mut taken = [Bucket(0); 1024];
-    let mut slots = [0u32; 1024];
-    let w = refusals::choose_buckets(read, &mut taken, &mut slots)?;
-    let taken = &taken[..w.count];
-    let slots = &slots[..read.requests.len()];
+    let mut slots = [Slot {
+        index: 0,
+        offset: 0,
+    }; 1024];
+    let pieces = Pieces::asked(read);
+    let asked = Placement { read, pieces };
+    let chosen = asked.choose_buckets(&mut taken, &mut slots)?;
     let mut generations = [0u8; 1024];
-    let mut dirty = [0u32; 1024];
-    fill_gens(read, taken, &mut generations);
-    dirty::fill_dirty(&mut dirty, read.list, read.requests, slots);
+    fill_gens(read, chosen.taken, &mut generations);
     let plan = Plan {
         list: read.list,
-        pieces: read.requests,
-        slots,
-        taken,
-        gens: &generations[..taken.len()],
+        pieces,
+        slots: chosen.slots,
+        taken: chosen.taken,
+        gens: &generations[..chosen.taken.len()],
         head: read.head,
+        option: chosen.option,
     };
     let list = ChangeList {
-        plan: &plan,
-        dirty: &dirty,
-        runs: read.freespace.places,
-        walked: w,
-        tallies: tally::tally_pieces(read.list, read.requests),
-        clock: clock::write_clock(read.list, read.alloc.places),
+        counted: DirtyPlan {
+            plan: &plan,
+            dirty: &dirty::dirty_counts(&plan),
+        },
+        runs: read.freespace,
+        walked: chosen.walked,
+        tallies: tally::tally_pieces(&pieces),
+        clock: clock::write_clock(&read.alloc),
     };
     answer::written(&list, out)
 }

@@ -2,9 +2,9 @@
 use mathlib.Core.Path.{◌≡◌, refl, sym, ap, ◌∙◌}
 use mathlib.Core.Bool.{Bool, true, false, cond}
 use mathlib.Core.List.{List, [], ◌∷◌}
-use Prim.Native.Nat.{ℕ, ◌+◌, ◌*◌, ◌≤◌, ◌<◌}
+use Prim.Native.Nat.{ℕ, zero, suc, ◌+◌, ◌*◌, ◌≤◌, ◌<◌}
 use native.Mathlib.Omega.{arith}
-use lib.ListN.{length, take, drop, get_or, set, length-set}
+use lib.ListN.{length, get_or, set, length-set, replicate}
 use lib.Seq.{get_or-set_same, get_or-set_other}
 use lib.Dec.{eqb}
 use borrow.Author.Tests.{eq-eqb, eqb-true}
@@ -15,7 +15,6 @@ use Rattle.wire.specs.declared.kinds.FileSector.{FileSector}
 use Rattle.format.specs.AllocV4.{new_alloc}
 use Rattle.calls.specs.Lists.{total}
 use Rattle.calls.specs.CallList as lists
-use Rattle.calls.specs.CallList.{Volume, piece_of}
 use Rattle.calls.specs.Trees.{new_key}
 use Rattle.calls.specs.Extents as calls
 use Rattle.calls.specs.Extents.{bucket_at, placed_at}
@@ -25,18 +24,15 @@ use Rattle.calls.specs.Answers.{read_call, read_volume}
 use Rattle.reader.specs.Pieces.{piece_in}
 use Rattle.reader.specs.declared.head.Head.{Head}
 use Rattle.reader.specs.declared.piece.Piece.{Piece}
-use Rattle.next_fit.specs.Fit.{slot_in, slot_of}
+use Rattle.next_fit.specs.Fit.{slot_in}
+use Rattle.reader.specs.Located.{no_piece}
+use Rattle.format.specs.declared.checksums.ChecksumOption.{ChecksumOption}
+use Rattle.calls.specs.Clock.{clock_of}
+use Rattle.place_keys.proofs.SlotTables.{no_slot}
 use Rattle.next_fit.specs.declared.slot.Slot.{Slot}
-use Rattle.place_keys.specs.Plan.{Plan, Dirty, AllocsOf, placed_from}
-use Rattle.place_keys.proofs.StepLaws.{map_at, placed-here, pieces-here, slots-here, stored-most, index-low}
+use Rattle.place_keys.specs.Plan.{Planned, Dirty, placed_from}
+use Rattle.place_keys.proofs.StepLaws.{gen-at, placed-here, pieces-here, slots-here, stored-most, index-low}
 use Rattle.place_keys.proofs.WalkLaws.{no_more}
-
--- the alloc key of the bucket at an index
-pub alloc-key : {v : Volume} {ps : List calls.Placed} {bs : List Bucket} {gs ds : List ℕ} {journal clock : ℕ} (i : ℕ) {b : Bucket} → AllocsOf v bs gs journal clock
-    → Dirty ps bs ds → i < length bs → b ≡ bucket_at no_bucket bs i
-    → new_key 27 0 (alloc_at b) (new_alloc journal (get_or gs i 0) (get_or ds i 0) clock) ≡ new_alloc_key v ps b
-unfolding new_alloc_key
-alloc-key {bs = bs} i a d h e = rw (e, a.number, a.time, d.at i h, a.gens, map_at _ bs i h)
 
 -- the loop that counts the dirty sectors
 
@@ -70,13 +66,20 @@ pub record DirtyCounting (s : List ℕ) (buckets : List Bucket) (counts : List �
   pub left : (j : ℕ) → j < length buckets
       → get_or counts j 0 + dirty_in (from s i) (bucket_at no_bucket buckets j) ≡ dirty_in (placed_of (read_call s)) (bucket_at no_bucket buckets j)
 
+-- counts that are 0
+pub zero-at : (n k : ℕ) → ◌≡◌ {A = ℕ} (get_or (replicate n 0) k 0) 0
+zero-at zero k = refl
+zero-at (suc n) zero = refl
+zero-at (suc n) (suc k) = zero-at n k
+
 pub counting-first : {s : List ℕ} {buckets : List Bucket} {counts : List ℕ} → length buckets ≤ length counts → ((k : ℕ) → get_or counts k 0 ≡ 0) → DirtyCounting s buckets counts 0
 unfolding placed_from placed_of
 counting-first l z = record { long = l; most = λ k. omega (arith, z k); left = λ j m. omega (arith, z j) }
 
-module _ {s offsets numbers : List ℕ} {buckets : List Bucket} {generations : List ℕ} {h : Head} (plan : Plan s offsets numbers buckets generations h) where
-  module _ {counts : List ℕ} {i : ℕ} (q : DirtyCounting s buckets counts i) (l : i < length offsets) (p : Piece) (e : piece_in p ≡ piece_of (take 13 (drop (get_or offsets i 0) s)))
-      (t : Slot) (f : slot_in t ≡ slot_of (get_or numbers i 0)) where
+module _ {s : List ℕ} {pieces : List lists.Piece} {slots : List Slot} {buckets : List Bucket} {generations : List ℕ} {h : Head} {option : ChecksumOption}
+    (plan : Planned s pieces slots buckets generations h option) where
+  module _ {counts : List ℕ} {i : ℕ} (q : DirtyCounting s buckets counts i) (l : i < length pieces) (p : Piece) (e : piece_in p ≡ get_or pieces i no_piece)
+      (t : Slot) (f : t ≡ get_or slots i no_slot) where
     abbrev v : ℕ
     v = get_or counts t.index 0 + p.stored
 
@@ -128,7 +131,16 @@ module _ {s offsets numbers : List ℕ} {buckets : List Bucket} {generations : L
             (λ z. let y : ◌≡◌ {A = Bool} true false = sym (eq-eqb (bucket_at no_bucket buckets t.index).0 (bucket_at no_bucket buckets j).0 (ap (λ (x : ℕ). (bucket_at no_bucket buckets x).0) (sym z))) ∙ b in let x : ◌≡◌ {A = ℕ} 0 1 = cc in omega arith) in
             omega (arith, d, w)
 
-  pub counting-end : {counts : List ℕ} {i : ℕ} → DirtyCounting s buckets counts i → length offsets ≤ i
+  pub counting-end : {counts : List ℕ} {i : ℕ} → DirtyCounting s buckets counts i → length pieces ≤ i
       → Dirty (placed_of (read_call s)) buckets counts
   counting-end {counts} {i} q l =
-      record { at = λ j m. omega (arith, rw (no_more plan i (read_volume s).head.base l, dirty-none) at (q.left j m)) }
+      record { long = q.long; at = λ j m. omega (arith, rw (no_more plan i (read_volume s).head.base l, dirty-none) at (q.left j m)) }
+
+  -- the alloc key of the bucket at an index
+  pub alloc-key : {ds : List ℕ} {clock : ℕ} (i : ℕ) {b : Bucket} → clock ≡ clock_of (read_volume s).trees.alloc → Dirty (placed_of (read_call s)) buckets ds → i < length buckets
+      → b ≡ bucket_at no_bucket buckets i
+      → new_key 27 0 (alloc_at b) (new_alloc h.journal (get_or generations i 0) (get_or ds i 0) clock) ≡ new_alloc_key (read_volume s) (placed_of (read_call s)) b
+  unfolding new_alloc_key
+  alloc-key i t d l e =
+      let number : h.journal ≡ (read_volume s).head.journal = ap (λ (x : lists.Head). x.journal) plan.head in
+      rw (e, number, t, d.at i l, gen-at plan i l)

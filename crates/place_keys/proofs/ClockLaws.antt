@@ -5,7 +5,7 @@ use mathlib.Core.List.{List, [], ◌∷◌, map}
 use Prim.Native.Nat.{ℕ, ◌≤◌, ◌<◌, max}
 use native.Mathlib.Omega.{arith}
 use lib.Dec.{eqb, leb}
-use lib.ListN.{length, drop, drop_of_length-le}
+use lib.ListN.{length}
 use borrow.Author.Tests.{le-leb, lt-leb, eq-eqb, ne_eqb}
 use Rattle.std.proofs.Common.{Option, Some, None}
 use Rattle.std.specs.Option.{unwrap_or}
@@ -75,7 +75,6 @@ pub latest-on : (l r : Option ℕ) {ks rest : List Key} {k : Key} → ks ≡ k �
 unfolding latest_of
 latest-on l r {ks} {rest} {k} e f = ap (λ (m : Option ℕ). latest_of m rest) f ∙ sym (ap (latest_of l) e)
 
-pub latest-end : (l : Option ℕ) (ks : List Key) (i : ℕ) → length ks ≤ i → latest_of l (drop i ks) ≡ latest_of None ks → unwrap_or l 1 ≡ clock_of ks
+pub latest-end : (l : Option ℕ) (ks : List Key) {left : List Key} → left ≡ [] → latest_of l left ≡ latest_of None ks → unwrap_or l 1 ≡ clock_of ks
 unfolding latest_of
-latest-end l ks i h e =
-    ap (λ (o : Option ℕ). unwrap_or o 1) (sym (ap (latest_of l) (drop_of_length-le ks h)) ∙ e) ∙ latest-none ks
+latest-end l ks h e = ap (λ (o : Option ℕ). unwrap_or o 1) (sym (ap (latest_of l) h) ∙ e) ∙ latest-none ks

@@ -14,10 +14,7 @@ use Rattle.wire.proofs.EncodeLaws.{encode-append}
 use Rattle.calls.specs.Trees.{deletion}
 use Rattle.calls.specs.Limits.{is_run}
 use Rattle.calls.specs.Freespace.{shortened}
-use Rattle.calls.specs.Place.{walk_of}
-use Rattle.calls.specs.Answers.{read_call, read_volume}
 use Rattle.freespace.specs.Walks.{left_of, key_queue, queue_of}
-use Rattle.place_keys.specs.Queue.{Walk}
 
 -- a run with some buckets left: its size is another, and the rest is as it was
 pub kept : (k : Key) {left : ℕ} → (left ≡ 0 → ⊥) → record k { size = left } ≡ shortened k left
@@ -85,6 +82,6 @@ pub passed-other : (k : Key) (left : ℕ) → is_run k ≡ false → key_queue k
 passed-other k left e = rw e
 
 -- no key passed, nothing queued
-pub passed_none : {s offsets : List ℕ} {passed left : ℕ} → Walk s offsets passed left → passed ≡ 0 → (walk_of (read_call s)).queue ≡ []
+pub passed_none : (ks : List Key) (left : ℕ) {passed : ℕ} → passed ≡ 0 → queue_of passed left ks ≡ []
 unfolding queue_of
-passed_none {s} {left = left} w e = w.queue ∙ ap (λ (n : ℕ). queue_of n left (read_volume s).trees.freespace) e
+passed_none ks left e = ap (λ (n : ℕ). queue_of n left ks) e

@@ -16,18 +16,21 @@ use Rattle.calls.specs.Extents.{placed_at}
 use Rattle.calls.specs.Place.{placed_of}
 use Rattle.calls.specs.Answers.{read_call, read_volume}
 use Rattle.reader.specs.declared.head.Head.{Head}
-use Rattle.place_keys.specs.Plan.{Plan, placed_from}
+use Rattle.format.specs.declared.checksums.ChecksumOption.{ChecksumOption}
+use Rattle.next_fit.specs.declared.slot.Slot.{Slot}
+use Rattle.place_keys.specs.Plan.{Planned, placed_from}
 use Rattle.change_fields.proofs.FieldLists.{fields-next, fields-none}
 
-module _ {s offsets numbers : List ℕ} {buckets : List Bucket} {generations : List ℕ} {h : Head} (plan : Plan s offsets numbers buckets generations h) where
+module _ {s : List ℕ} {pieces : List calls.Piece} {slots : List Slot} {buckets : List Bucket} {generations : List ℕ} {h : Head} {option : ChecksumOption}
+    (plan : Planned s pieces slots buckets generations h option) where
   pub from_first : placed_from (read_call s) 0 h.base ≡ placed_of (read_call s)
   unfolding placed_from placed_of
   from_first = let e : h.base ≡ (read_volume s).head.base = ap (λ (x : calls.Head). x.base) plan.head in rw e
 
-  pub no_more : (i : ℕ) (end : FileSector) → length offsets ≤ i → placed_from (read_call s) i end ≡ []
+  pub no_more : (i : ℕ) (end : FileSector) → length pieces ≤ i → placed_from (read_call s) i end ≡ []
   unfolding placed_from placed_at
   no_more i end k =
-      let e : drop i (read_call s).pieces ≡ [] = drop_of_length-le _ {i = i} (omega (arith, plan.pieces.count)) in
+      let e : drop i (read_call s).pieces ≡ [] = drop_of_length-le _ {i = i} (omega (arith, ap length plan.pieces)) in
       rw e
 
 -- the first of some runs of bytes is put, and the rest is left

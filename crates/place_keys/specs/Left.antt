@@ -4,9 +4,9 @@ use Rattle.calls.specs.Extents as calls
 use Rattle.calls.specs.Answers.{read_call}
 use Rattle.place_keys.specs.Plan.{Bounded, placed_in, placed_from}
 use Rattle.place_keys.specs.declared.placed.Placed.{Placed}
-use Rattle.place_keys.specs.declared.plan.Pieces.{Pieces}
+use Rattle.place_keys.specs.declared.plan.PlacedPieces.{PlacedPieces}
 
-unfoldable pub placed_left : Pieces → List calls.Placed
+unfoldable pub placed_left : PlacedPieces → List calls.Placed
 placed_left p = placed_from (read_call p.plan.list.now) p.next p.end
 
 -- the first of some pieces, within the bounds that the words of a key ask for, and those after it; nothing where there is none

@@ -1,4 +1,3 @@
 pub mod Left
 pub mod Plan
-pub mod Queue
 pub mod Times

@@ -4,8 +4,7 @@ use Rattle.wire.specs.Kinds.{no_bucket, same_bucket, bucket_in_range, base_in_ra
 use Rattle.wire.specs.declared.kinds.Bucket.{Bucket}
 use Rattle.wire.specs.declared.kinds.FileSector.{FileSector}
 use Rattle.calls.specs.Lists.{all_of}
-use Rattle.calls.specs.CallList.{CallList, Volume}
-use Rattle.calls.specs.Clock.{clock_of}
+use Rattle.calls.specs.CallList.{CallList, Piece}
 use Rattle.calls.specs.Generations.{gen_of}
 use Rattle.calls.specs.Pieces.{buckets_needed, kind_listed, block_of, piece_sized}
 use Rattle.calls.specs.Extents as calls
@@ -13,25 +12,27 @@ use Rattle.calls.specs.Extents.{bucket_at, placed_at}
 use Rattle.calls.specs.Place.{slots_of, walk_of, dirty_in}
 use Rattle.calls.specs.Answers.{read_call, read_volume}
 use Rattle.reader.specs.Heads.{head_in}
-use Rattle.reader.specs.Located.{PiecesAt}
 use Rattle.reader.specs.declared.head.Head.{Head}
 use Rattle.reader.specs.Pieces.{piece_in}
+use Rattle.format.specs.Checksums.{option_byte}
+use Rattle.format.specs.declared.checksums.ChecksumOption.{ChecksumOption}
 use Rattle.next_fit.specs.Fit.{slots_in}
+use Rattle.next_fit.specs.declared.slot.Slot.{Slot}
 use Rattle.place_keys.specs.declared.placed.Placed.{Placed}
 
--- The pieces' offsets in s, the numbers of their slots, the buckets taken, their generations and the head.
-pub record Plan (s offsets numbers : List ℕ) (buckets : List Bucket) (generations : List ℕ) (h : Head) : Type 0 where
-  pub pieces : PiecesAt s offsets (read_call s).pieces
-  pub slots : slots_in numbers ≡ slots_of (read_call s)
+-- The pieces of a list s, the slots of each, the buckets taken, their generations, the head and its checksum option.
+pub record Planned (s : List ℕ) (ps : List Piece) (ts : List Slot) (buckets : List Bucket) (generations : List ℕ) (h : Head) (o : ChecksumOption) : Type 0 where
+  pub pieces : ps ≡ (read_call s).pieces
+  pub slots : slots_in ts ≡ slots_of (read_call s)
   pub head : head_in h ≡ (read_volume s).head
   pub taken : buckets ≡ (walk_of (read_call s)).taken
   pub gens : generations ≡ map (gen_of (read_volume s).trees.gens) buckets
   -- refusal 3: at most 1,024 pieces, the base below 2^40
-  pub few : length offsets ≤ 1024
+  pub few : length ps ≤ 1024
   pub base : base_in_range h.base ≡ true
   -- refusals 4 and 5
   pub sectors : 0 < h.bucket_sectors
-  pub option : h.option ≤ 3
+  pub option : option_byte o ≡ h.option
   -- refusals 6 and 9
   pub kinds : all_of kind_listed (read_call s).pieces ≡ true
   pub sizes : all_of (piece_sized h.bucket_sectors (block_of h.block_sectors)) (read_call s).pieces ≡ true
@@ -43,12 +44,6 @@ pub record Plan (s offsets numbers : List ℕ) (buckets : List Bucket) (generati
   pub distinct :
       (i j : ℕ) → i < length buckets → j < length buckets → same_bucket (bucket_at no_bucket buckets i) (bucket_at no_bucket buckets j) ≡ true
       → i ≡ j
-
--- a plan for the buckets that the walk takes, whatever the head and the generations that the code holds
-pub record PlanKnown (s offsets numbers : List ℕ) : Type 0 where
-  pub generations : List ℕ
-  pub head : Head
-  pub plan : Plan s offsets numbers (walk_of (read_call s)).taken generations head
 
 -- the piece that the code holds, at its place
 abbrev pub placed_in : Placed → calls.Placed
@@ -79,22 +74,7 @@ pub record PieceStepped (s : List ℕ) (i : ℕ) (end : FileSector) (r : Placed)
   pub reached : Reached (i + 1) r.end
   pub bounded : Bounded r
 
--- the dirty counts of the buckets taken, by index
+-- the dirty counts of the buckets taken, by index, in a table that may be longer
 pub record Dirty (ps : List calls.Placed) (buckets : List Bucket) (counts : List ℕ) : Type 0 where
+  pub long : length buckets ≤ length counts
   pub at : (i : ℕ) → i < length buckets → get_or counts i 0 ≡ dirty_in ps (bucket_at no_bucket buckets i)
-
--- those of some placed pieces
-pub record DirtyKnown (buckets : List Bucket) (counts : List ℕ) : Type 0 where
-  pub placed : List calls.Placed
-  pub dirty : Dirty placed buckets counts
-
--- what the alloc keys of the buckets taken hold of a volume: the journal number, the generations and the clock
-pub record AllocsOf (v : Volume) (buckets : List Bucket) (generations : List ℕ) (journal clock : ℕ) : Type 0 where
-  pub number : v.head.journal ≡ journal
-  pub gens : generations ≡ map (gen_of v.trees.gens) buckets
-  pub time : clock_of v.trees.alloc ≡ clock
-
--- those of some volume
-pub record AllocsKnown (buckets : List Bucket) (generations : List ℕ) (journal clock : ℕ) : Type 0 where
-  pub volume : Volume
-  pub allocs : AllocsOf volume buckets generations journal clock

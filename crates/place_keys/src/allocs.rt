@@ -1,16 +1,16 @@
 // Tree 4: the alloc keys of the buckets taken.
-ghost use Rattle.std.specs.Prelude.{◌≡◌, ◌≤◌, List, map, length};
+ghost use Rattle.std.specs.Prelude.{◌≡◌, map};
 ghost use Rattle.wire.specs.Encode.{encode_field, key_field};
 ghost use Rattle.wire.specs.Positions.{alloc_at};
 ghost use Rattle.format.specs.AllocV4.{new_alloc};
-ghost use Rattle.calls.specs.CallList.{Volume};
 ghost use Rattle.calls.specs.Trees.{new_key};
-ghost use Rattle.calls.specs.Extents as calls;
-ghost use Rattle.calls.specs.Place.{new_alloc_key};
+ghost use Rattle.calls.specs.Clock.{clock_of};
+ghost use Rattle.calls.specs.Place.{placed_of, new_alloc_key};
+ghost use Rattle.calls.specs.Answers.{read_call, read_volume};
 ghost use Rattle.change_fields.specs.FieldBytes.{keys_bytes};
 ghost use Rattle.wire.specs.Output.{with_bytes};
-ghost use Rattle.place_keys.specs.Plan.{Dirty, DirtyKnown, AllocsOf, AllocsKnown};
 
+use crate::dirty::DirtyPlan;
 use format::alloc;
 use wire::key_types::KeyType;
 use wire::keys::KeyHead;
@@ -31,21 +31,21 @@ pub fn put_alloc(out: &mut Output, b: Bucket, journal: u64, generation: u8, dirt
     );
 }
 
-// The alloc keys of the buckets taken, in order, by their generations and dirty counts. `put_keys` shows whose they are.
-pub fn put_allocs(
-    out: &mut Output,
-    taken: &[Bucket],
-    gens: &[u8],
-    dirty: &[u32],
-    journal: u64,
-    clock: u64,
-)
-    requires taken_in_bounds { (length taken.now ≤ length gens.now) × (length taken.now ≤ length dirty.now) }
-    requires allocs_known { AllocsKnown taken.now gens.now journal clock × DirtyKnown taken.now dirty.now }
-    ensures { (v : Volume) (ps : List calls.Placed) → AllocsOf v taken.now gens.now journal clock → Dirty ps taken.now dirty.now → out.new ≡ with_bytes out.old (keys_bytes 4 (map (new_alloc_key v ps) taken.now)) }
+// The alloc keys of the buckets taken, in order. `write_clock` gives the clock.
+pub fn put_allocs(out: &mut Output, counted: &DirtyPlan, clock: u64)
+    requires { clock ≡ clock_of (read_volume counted.now.plan.now.list.now).trees.alloc }
+    ensures { out.new ≡ with_bytes out.old (keys_bytes 4 (map (new_alloc_key (read_volume counted.now.plan.now.list.now) (placed_of (read_call counted.now.plan.now.list.now))) counted.now.plan.now.taken.now)) }
 {
+    let plan = counted.plan;
     // By index: std's lemmas on `zip` are of two slices, and here are three.
-    for (i, b) in taken.iter().enumerate() {
-        put_alloc(out, *b, journal, gens[i], dirty[i], clock);
+    for (i, b) in plan.taken.iter().enumerate() {
+        put_alloc(
+            out,
+            *b,
+            plan.head.journal,
+            plan.gens[i],
+            counted.dirty[i],
+            clock,
+        );
     }
 }

@@ -1,6 +1,7 @@
 // Tree 0: the extents of the pieces.
-ghost use Rattle.std.specs.Prelude.{◌≡◌, ◌≤◌, map};
+ghost use Rattle.std.specs.Prelude.{◌≡◌, map};
 ghost use Rattle.wire.specs.Encode.{encode, encode_field, key_field};
+ghost use Rattle.format.specs.Checksums.{option_byte};
 ghost use Rattle.calls.specs.Extents.{extent_key};
 ghost use Rattle.calls.specs.Place.{placed_of};
 ghost use Rattle.calls.specs.Answers.{read_call};
@@ -19,14 +20,14 @@ use wire::output::Output;
 use wire::positions;
 use wire::trees::Tree;
 
-// The extent of a piece: its checksum entry, if it has one, and its pointer.
-pub fn put_extent(out: &mut Output, h: Head, p: Placed)
-    requires { (h.option ≤ 3) × Bounded p }
+// The extent of a piece: its checksum entry, if it has one, and its pointer. A plan holds the head's option.
+pub fn put_extent(out: &mut Output, h: Head, option: ChecksumOption, p: Placed)
+    requires { (option_byte option ≡ h.option) × Bounded p }
     ensures { out.new ≡ with_bytes out.old (encode_field (key_field 0 (extent_key (head_in h) (placed_in p)))) }
 {
     let piece = p.piece;
     let v = entries::extent_words(
-        ChecksumOption::try_from(h.option).unwrap(),
+        option,
         piece.kind as u64,
         piece.stored as u64,
         piece.file as u64,
@@ -46,6 +47,6 @@ pub fn put_extents(out: &mut Output, plan: &Plan)
     ensures { out.new ≡ with_bytes out.old (encode (map (key_field 0) (map (extent_key (head_in plan.now.head)) (placed_of (read_call plan.now.list.now))))) }
 {
     for p in plan.placed() {
-        put_extent(out, plan.head, p);
+        put_extent(out, plan.head, plan.option, p);
     }
 }

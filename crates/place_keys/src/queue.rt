@@ -1,64 +1,52 @@
 // Tree 11: what becomes of the runs that the walk took buckets from.
-ghost use Rattle.std.specs.Prelude.{◌≡◌};
+ghost use Rattle.std.specs.Prelude.{◌≡◌, ◌≤◌, length};
 ghost use Rattle.wire.specs.Encode.{encode_field, key_field};
 ghost use Rattle.wire.specs.Output.{with_bytes};
-ghost use Rattle.calls.specs.Limits.{is_run};
 ghost use Rattle.calls.specs.Freespace.{shortened};
-ghost use Rattle.calls.specs.Place.{walk_of};
-ghost use Rattle.calls.specs.Answers.{read_call};
-ghost use Rattle.reader.specs.KeyHere.{Whole, key_here};
+ghost use Rattle.reader.specs.ListedKeys.{key_listed, keys_listed};
 ghost use Rattle.change_fields.specs.FieldBytes.{keys_bytes};
-ghost use Rattle.freespace.specs.Walks.{key_queue};
-ghost use Rattle.place_keys.specs.Queue.{Walk};
+ghost use Rattle.freespace.specs.Walks.{key_queue, queue_of};
 
 use change_fields::new_keys;
-use reader::key;
-use wire::key_types::KeyType;
+use freespace::runs;
+use freespace::take::Walked;
+use reader::key::ListedKey;
+use reader::listed_keys::Keys;
 use wire::output::Output;
 use wire::trees::Tree;
 
-// The run whose body starts at a place, with so many buckets left: deleted where that is none, else shortened, its versions and value kept. The reader shows
-// that a key stands there, here and below.
-pub fn put_shortened(out: &mut Output, s: &[u8], from: usize, left: u32)
-    requires { Whole s.now from }
-    ensures { out.new ≡ with_bytes out.old (encode_field (key_field 11 (shortened (key_here s.now from) left))) }
+// A run with so many buckets left: deleted where that is none, else shortened, its versions and value kept.
+pub fn put_shortened(out: &mut Output, run: &ListedKey, left: u32)
+    ensures { out.new ≡ with_bytes out.old (encode_field (key_field 11 (shortened (key_listed run.now) left))) }
 {
     if left == 0 {
-        new_keys::put_deletion(out, Tree::Freespace.tag(), key::pos_at(s, from));
+        new_keys::put_deletion(out, Tree::Freespace.tag(), run.pos());
         return;
     }
-    let mut k = key::key_at(s, from);
+    let mut k = run.key();
     k.head.size = left;
     out.put_key(Tree::Freespace.tag(), &k);
 }
 
-// Whether the key at a place is a run of free buckets.
-fn is_run(s: &[u8], at: usize) -> bool
-    requires { Whole s.now at }
-    ensures { result ≡ is_run (key_here s.now at) }
-{
-    key::type_at(s, at) == KeyType::Set.number() && key::pos_at(s, at).inode == 0
-}
-
 // A key that the walk passed, with so many buckets left; one that is no run is left out.
-pub fn put_passed(out: &mut Output, s: &[u8], from: usize, left: u32)
-    requires { Whole s.now from }
-    ensures { out.new ≡ with_bytes out.old (keys_bytes 11 (key_queue (key_here s.now from) left)) }
+pub fn put_passed(out: &mut Output, key: &ListedKey, left: u32)
+    ensures { out.new ≡ with_bytes out.old (keys_bytes 11 (key_queue (key_listed key.now) left)) }
 {
-    if is_run(s, from) {
-        put_shortened(out, s, from, left);
+    if runs::is_run(*key) {
+        put_shortened(out, key, left);
     }
 }
 
-// The keys passed, in order: all but the last walked to their ends, the last with what it has left.
-pub fn put_queue(out: &mut Output, s: &[u8], runs: &[u32], passed: usize, left: u32)
-    requires { Walk s.now runs.now passed left }
-    ensures { out.new ≡ with_bytes out.old (keys_bytes 11 (walk_of (read_call s.now)).queue) }
+// The keys passed, in order: all but the last walked to their ends, the last with what it has left. The walk shows the bound.
+pub fn put_queue(out: &mut Output, runs: &Keys, walked: Walked)
+    requires { walked.passed ≤ length runs.now.places.now }
+    ensures { out.new ≡ with_bytes out.old (keys_bytes 11 (queue_of walked.passed walked.left (keys_listed runs.now))) }
 {
-    if let Some((last, walked)) = runs[..passed].split_last() {
-        for at in walked {
-            put_passed(out, s, *at as usize, 0);
+    let list = runs.list;
+    if let Some((last, before)) = runs.places[..walked.passed].split_last() {
+        for at in before {
+            put_passed(out, &ListedKey { list, at: *at }, 0);
         }
-        put_passed(out, s, *last as usize, left);
+        put_passed(out, &ListedKey { list, at: *last }, walked.left);
     }
 }

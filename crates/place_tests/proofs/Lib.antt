@@ -1,4 +1,3 @@
 pub mod ChoiceLaws
 pub mod RefusalLaws
-pub mod RequestLaws
 pub mod SizedLaws

@@ -8,7 +8,7 @@ use lib.Dec.{leb, eqb}
 use lib.ListN.{take}
 use borrow.Author.Tests.{eqb-false, leb-true, not-true}
 use Rattle.calls.specs.Lists.{all_of}
-use Rattle.calls.specs.CallList.{CallList}
+use Rattle.calls.specs.CallList.{CallList, Piece}
 use Rattle.calls.specs.Freespace.{is_in, runs_of, overlaps, free_count, wanted}
 use Rattle.calls.specs.Pieces.{buckets_needed, kind_listed, block_of, divides, piece_sized}
 use Rattle.calls.specs.Place.{slots_of, walk_of, place_tests}
@@ -34,19 +34,19 @@ six-tests true true true true true false = refl
 six-tests true true true true true true = refl
 
 -- which of refusals 4 to 9 is met, by the head that the code holds
-abbrev pub first_refusal : CallList → Head → ℕ
-first_refusal c h =
+abbrev pub first_refusal : List Piece → Head → ℕ
+first_refusal ps h =
     let block = block_of h.block_sectors in
     cond (not (eqb h.bucket_sectors 0))
     (cond (leb h.option 3)
-    (cond (all_of kind_listed c.pieces)
-    (cond (not (eqb h.option 0) || all_of (λ p. eqb p.kind 0) c.pieces)
+    (cond (all_of kind_listed ps)
+    (cond (not (eqb h.option 0) || all_of (λ p. eqb p.kind 0) ps)
     (cond (divides block h.bucket_sectors && divides block 128)
-    (cond (all_of (piece_sized h.bucket_sectors block) c.pieces) 0 9) 8) 7) 6) 5) 4
+    (cond (all_of (piece_sized h.bucket_sectors block) ps) 0 9) 8) 7) 6) 5) 4
 
-pub first_tests : (c : CallList) (h : Head) → head_in h ≡ c.volume.head → verdict (take 6 (place_tests c)) ≡ first_refusal c h
+pub first_tests : (c : CallList) (h : Head) {ps : List Piece} → head_in h ≡ c.volume.head → ps ≡ c.pieces → verdict (take 6 (place_tests c)) ≡ first_refusal ps h
 unfolding place_tests
-first_tests c h e = rw (← e) (six-tests _ _ _ _ _ _)
+first_tests c h e f = rw (← e, ← f) (six-tests _ _ _ _ _ _)
 
 module _ (c : CallList) (h : Head) where
   abbrev block : ℕ

@@ -14,6 +14,8 @@ use Rattle.calls.specs.Lists.{all_of}
 use Rattle.calls.specs.Pieces.{next_fit, buckets_needed, kind_listed, piece_sized}
 use Rattle.calls.specs.Place.{slots_of}
 use Rattle.calls.proofs.lists.BoolLaws.{parts as and-true}
+use Rattle.reader.specs.PieceLists.{pieces_of}
+use Rattle.reader.specs.declared.pieces.Pieces.{Pieces}
 use Rattle.reader.specs.declared.read_list.ReadList.{ReadList}
 use Rattle.place_tests.specs.Called.{Called}
 use Rattle.place_tests.proofs.RefusalLaws.{Asked}
@@ -75,15 +77,15 @@ needed-few B block (p ∷ ps) h = go (leb (0 + p.stored) B) refl
     go false e =
         absurd (omega (arith, leb-false (0 + p.stored) B e, stored-fits B block p (and-true (piece_sized B block p) (all_of (piece_sized B block) ps) h).0))
 
-module _ {r : ReadList} (q : Called r) where
+module _ {r : ReadList} {ps : Pieces} (q : Called r ps) where
   sectors : (read_volume r.list.now).head.bucket_sectors ≡ r.head.bucket_sectors
   sectors = ap (λ (x : calls.Head). x.bucket_sectors) (sym q.head)
 
   -- the slots that the code lays out
-  pub slots-are : next_fit r.head.bucket_sectors 0 0 (map (λ p. p.stored) (read_call r.list.now).pieces) ≡ slots_of (read_call r.list.now)
+  pub slots-are : next_fit r.head.bucket_sectors 0 0 (map (λ p. p.stored) (pieces_of ps)) ≡ slots_of (read_call r.list.now)
   unfolding slots_of
-  slots-are = rw sectors
+  slots-are = rw (sectors, q.pieces)
 
   pub needed-short : Asked (read_call r.list.now) r.head → buckets_needed (slots_of (read_call r.list.now)) ≤ 1024
   unfolding slots_of
-  needed-short a = rw sectors (omega (arith, needed-few r.head.bucket_sectors _ (read_call r.list.now).pieces a.sizes, q.few, q.pieces.count))
+  needed-short a = rw sectors (omega (arith, needed-few r.head.bucket_sectors _ (read_call r.list.now).pieces a.sizes, q.few, ap length q.pieces))

@@ -1,15 +1,17 @@
--- A list that refusals 2 and 3 let through: its head, and the places of the parts that choosing reads.
+-- A list that refusals 2 and 3 let through: its head, the places of the parts that choosing reads, and its pieces.
 use Rattle.std.specs.Prelude.{◌≤◌, ◌≡◌, true, length}
 use Rattle.wire.specs.Kinds.{base_in_range}
 use Rattle.calls.specs.Answers.{read_call, read_volume}
 use Rattle.reader.specs.Heads.{head_in}
 use Rattle.reader.specs.ListedKeys.{keys_listed}
 use Rattle.reader.specs.ListedBuckets.{buckets_listed}
-use Rattle.reader.specs.Located.{KeysAt, BucketsAt, PiecesAt}
+use Rattle.reader.specs.Located.{KeysAt, BucketsAt}
+use Rattle.reader.specs.PieceLists.{pieces_of}
 use Rattle.reader.specs.declared.read_list.ReadList.{ReadList}
+use Rattle.reader.specs.declared.pieces.Pieces.{Pieces}
 use Rattle.reader.specs.Checked.{Checked}
 
-pub record Called (r : ReadList) : Type 0 where
+pub record Called (r : ReadList) (ps : Pieces) : Type 0 where
   pub checked : Checked r.list.now
   pub head : head_in r.head ≡ (read_volume r.list.now).head
   pub alloc : KeysAt r.list.now r.alloc.places.now (read_volume r.list.now).trees.alloc
@@ -18,7 +20,7 @@ pub record Called (r : ReadList) : Type 0 where
   pub alloc_are : keys_listed r.alloc ≡ (read_volume r.list.now).trees.alloc
   pub runs_are : keys_listed r.freespace ≡ (read_volume r.list.now).trees.freespace
   pub reserved_are : buckets_listed r.reserved ≡ (read_volume r.list.now).reserved
-  pub pieces : PiecesAt r.list.now r.requests.now (read_call r.list.now).pieces
+  pub pieces : pieces_of ps ≡ (read_call r.list.now).pieces
   -- refusal 3: at most 1,024 pieces, the base below 2^40
-  pub few : length r.requests.now ≤ 1024
+  pub few : length (pieces_of ps) ≤ 1024
   pub base : base_in_range r.head.base ≡ true

@@ -1,18 +1,24 @@
--- What choosing answers: the first refusal, or the buckets that the walk takes and the pieces' slots.
-use Rattle.std.specs.Prelude.{ℕ, ◌≡◌, List, take, Result, IfOk, OnOk}
-use Rattle.wire.specs.declared.kinds.Bucket.{Bucket}
+-- What choosing answers: the first refusal, or the checksum option, the pieces' slots and the buckets that the walk takes.
+use Rattle.std.specs.Prelude.{ℕ, ◌≡◌, List, [], take, Result, IfOk}
 use Rattle.calls.specs.Answers.{read_call, read_volume}
 use Rattle.calls.specs.Pieces.{buckets_needed}
 use Rattle.calls.specs.Place.{slots_of, walk_of, place_tests}
 use Rattle.calls.specs.Refusals.{verdict}
+use Rattle.format.specs.Checksums.{option_byte}
 use Rattle.reader.specs.Refusals.{number_in}
 use Rattle.reader.specs.declared.refusal.Refusal.{Refusal}
 use Rattle.freespace.specs.Walks.{unwalked, WalkTook}
 use Rattle.next_fit.specs.Fit.{slots_in}
-use Rattle.freespace.specs.declared.take.Walked.{Walked}
+use Rattle.place_tests.specs.declared.refusals.Chosen.{Chosen}
 
-pub record ChosenIs (s : List ℕ) (before after : List Bucket) (numbers : List ℕ) (r : Result Walked Refusal) : Type 0 where
+-- what is chosen for a list
+pub record ChosenFor (s : List ℕ) (c : Chosen) : Type 0 where
+  pub option : option_byte c.option ≡ (read_volume s).head.option
+  pub slots : slots_in c.slots.now ≡ slots_of (read_call s)
+  pub taken : c.taken.now ≡ (walk_of (read_call s)).taken
+  pub walk :
+      WalkTook (buckets_needed (slots_of (read_call s))) (take c.walked.passed (read_volume s).trees.freespace) (walk_of (read_call s)) unwalked [] c.taken.now c.walked
+
+pub record ChosenIs (s : List ℕ) (r : Result Chosen Refusal) : Type 0 where
   pub refusal : number_in r ≡ verdict (place_tests (read_call s))
-  pub took :
-      IfOk r (λ w. WalkTook (buckets_needed (slots_of (read_call s))) (take w.passed (read_volume s).trees.freespace) (walk_of (read_call s)) unwalked before after w)
-  pub laid : OnOk r (slots_in numbers ≡ slots_of (read_call s))
+  pub chosen : IfOk r (ChosenFor s)

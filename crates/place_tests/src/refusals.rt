@@ -1,82 +1,103 @@
-// Refusals 4 to 13 of a placement, in their order, and the buckets that it takes where none is met.
-ghost use Rattle.std.specs.Prelude.{◌≡◌, false, ◌≤◌, leb, length, take};
+// Refusals 4 to 13 of a placement, in their order, and what is chosen for it where none is met.
+ghost use Rattle.std.specs.Prelude.{◌≡◌, false, ◌≤◌, leb, length, take, IfOk};
 ghost use Rattle.calls.specs.Answers.{read_call, read_volume};
 ghost use Rattle.calls.specs.Freespace.{is_in, runs_of, overlaps, free_count, wanted};
 ghost use Rattle.calls.specs.Place.{place_tests};
 ghost use Rattle.calls.specs.Refusals.{verdict};
+ghost use Rattle.format.specs.Checksums.{option_byte};
 ghost use Rattle.reader.specs.Refusals.{number_in};
-ghost use Rattle.place_tests.specs.Called.{Called};
-ghost use Rattle.place_tests.specs.Choice.{ChosenIs};
 
+use crate::asked::Placement;
 use crate::requests;
+use format::checksums::ChecksumOption;
 use freespace::take::Walked;
 use freespace::{runs, take};
-use next_fit::needed;
-use reader::read_list::ReadList;
+use next_fit::layout;
+use next_fit::slot::Slot;
 use reader::refusal::Refusal;
 use wire::kinds::Bucket;
 
-// Refusals 4 to 9, of what is asked: the first of them, or none. The reader shows where the pieces stand.
-#[tactic(auto, unfolding(calls::specs::Pieces::block_of))]
-fn refuse_requests(read: &ReadList) -> Result<(), Refusal>
-    requires { Called read.now }
-    ensures { number_in result ≡ verdict (take 6 (place_tests (read_call read.now.list.now))) }
-{
-    let s = read.list;
-    let h = read.head;
-    let pieces = read.requests;
-    if h.bucket_sectors == 0 {
-        return Err(Refusal::NoSectors);
-    }
-    if 3 < h.option {
-        return Err(Refusal::ChecksumOption);
-    }
-    if !requests::kinds_listed(s, pieces) {
-        return Err(Refusal::CompressionKind);
-    }
-    if !requests::option_fits(s, pieces, h.option) {
-        return Err(Refusal::NoChecksum);
-    }
-    let block = requests::block_of(h.block_sectors);
-    if !requests::block_fits(block, h.bucket_sectors) {
-        return Err(Refusal::BlockSectors);
-    }
-    if !requests::pieces_sized(s, pieces, h.bucket_sectors, block) {
-        return Err(Refusal::PieceSectors);
-    }
-    Ok(())
+// What is chosen for a placement: the checksum option, the slots of the pieces, the buckets taken, and how far the walk over the runs is.
+#[derive(Clone, Copy, Drop)]
+pub struct Chosen<'a> {
+    pub option: ChecksumOption,
+    pub slots: &'a [Slot],
+    pub taken: &'a [Bucket],
+    pub walked: Walked,
 }
 
-// Refusal 11: whether enough buckets are free for the n that are needed. Refusals 2, 3 and 10, the reader and 1,024 pieces show what is asked.
-#[tactic(auto, unfolding(calls::specs::Freespace::wanted))]
-fn enough_free(read: &ReadList, n: usize) -> bool
-    requires { Called read.now × (overlaps (runs_of (read_volume read.now.list.now).trees.freespace) ≡ false) × (n ≤ 1024) }
-    ensures { result ≡ leb (wanted n read.now.head.reserve) (free_count (is_in (read_volume read.now.list.now).reserved) (runs_of (read_volume read.now.list.now).trees.freespace)) }
-{
-    let wanted = n as u64 + 32 + read.head.reserve as u64;
-    wanted <= runs::free_count(read.freespace, read.reserved)
-}
+impl<'a> Placement<'a> {
+    ghost use Rattle.place_tests.specs.Choice.{ChosenIs};
 
-// The slots and the buckets of the pieces: the first refusal of 4 to 13, or the buckets taken. The reader and the lent tables show what is required.
-pub fn choose_buckets(
-    read: &ReadList,
-    taken: &mut [Bucket],
-    slots: &mut [u32],
-) -> Result<Walked, Refusal>
-    requires { Called read.now × (1024 ≤ length taken.old) × (1024 ≤ length slots.old) }
-    ensures { ChosenIs read.now.list.now taken.old taken.new (take (length read.now.requests.now) slots.new) result }
-{
-    // 4 to 9: what is asked
-    refuse_requests(read)?;
-    // 10: two runs overlap
-    if runs::overlaps(read.freespace) {
-        return Err(Refusal::RunsOverlap);
+    // Refusals 4 to 9, of what is asked: the first of them, or the checksum option.
+    #[tactic(auto, unfolding(calls::specs::Pieces::block_of))]
+    fn refuse_requests(&self) -> Result<ChecksumOption, Refusal>
+        ensures refusal { number_in result ≡ verdict (take 6 (place_tests (read_call self.now.read.now.list.now))) }
+        ensures option { IfOk result (λ o. option_byte o ≡ self.now.read.now.head.option) }
+    {
+        let h = self.read.head;
+        if h.bucket_sectors == 0 {
+            return Err(Refusal::NoSectors);
+        }
+        let Ok(option) = ChecksumOption::try_from(h.option) else {
+            return Err(Refusal::ChecksumOption);
+        };
+        if !requests::kinds_listed(&self.pieces) {
+            return Err(Refusal::CompressionKind);
+        }
+        if !requests::option_fits(&self.pieces, h.option) {
+            return Err(Refusal::NoChecksum);
+        }
+        let block = requests::block_of(h.block_sectors);
+        if !requests::block_fits(block, h.bucket_sectors) {
+            return Err(Refusal::BlockSectors);
+        }
+        if !requests::pieces_sized(&self.pieces, h.bucket_sectors, block) {
+            return Err(Refusal::PieceSectors);
+        }
+        Ok(option)
     }
-    // 11: too few buckets are free
-    let n = needed::lay_out(read.list, read.requests, read.head.bucket_sectors, slots);
-    if !enough_free(read, n) {
-        return Err(Refusal::TooFewFree);
+
+    // Refusal 11: whether enough buckets are free for the n that are needed. Refusal 10 and 1,024 pieces show what is asked.
+    #[tactic(auto, unfolding(calls::specs::Freespace::wanted))]
+    fn enough_free(&self, n: usize) -> bool
+        requires { (overlaps (runs_of (read_volume self.now.read.now.list.now).trees.freespace) ≡ false) × (n ≤ 1024) }
+        ensures { result ≡ leb (wanted n self.now.read.now.head.reserve) (free_count (is_in (read_volume self.now.read.now.list.now).reserved) (runs_of (read_volume self.now.read.now.list.now).trees.freespace)) }
+    {
+        let read = self.read;
+        let wanted = n as u64 + 32 + read.head.reserve as u64;
+        wanted <= runs::free_count(read.freespace, read.reserved)
     }
-    // 12 and 13: the walk meets a run begun before bucket 0, or a used bucket
-    take::walk_runs(read, n, taken)
+
+    // The slots and the buckets of the pieces: the first refusal of 4 to 13, or what is chosen. The lent tables show what is required.
+    pub fn choose_buckets(
+        &self,
+        taken: &'a mut [Bucket],
+        slots: &'a mut [Slot],
+    ) -> Result<Chosen<'a>, Refusal>
+        requires { (1024 ≤ length taken.old) × (1024 ≤ length slots.old) }
+        ensures { ChosenIs self.now.read.now.list.now result }
+    {
+        let read = self.read;
+        // 4 to 9: what is asked
+        let option = self.refuse_requests()?;
+        // 10: two runs overlap
+        if runs::overlaps(read.freespace) {
+            return Err(Refusal::RunsOverlap);
+        }
+        // 11: too few buckets are free
+        let slots = layout::lay_out(&self.pieces, read.head.bucket_sectors, slots);
+        let n = layout::buckets_needed(slots);
+        if !self.enough_free(n) {
+            return Err(Refusal::TooFewFree);
+        }
+        // 12 and 13: the walk meets a run begun before bucket 0, or a used bucket
+        let walked = take::walk_runs(read, n, taken)?;
+        Ok(Chosen {
+            option,
+            slots,
+            taken: &taken[..walked.count],
+            walked,
+        })
+    }
 }

@@ -13,7 +13,7 @@ returns c =
     let n : length ps ≡ c.args.t.now.all.count = sym (length-map ps (λ p. p.piece)) ∙ ap (λ (x : Tallies). x.all.count) (sym t) in
     simp (
       c.put_owner.ensures,
-      c.put_extents_row.ensures ps n,
+      c.put_extents_row.ensures (head_in c.args.h) ps c.requires.bounds.1 n,
       c.put_kinds.ensures,
       c.put_taken_rows.ensures,
       rows-then,

@@ -1,27 +1,19 @@
-use Rattle.std.proofs.Common.{arith, ◌∙◌, take_all}
-use Rattle.calls.specs.Answers.{read_call}
-use Rattle.reader.specs.Located.{no_piece}
+use Rattle.std.proofs.Common.{arith, ap, ◌∙◌, []}
 use Rattle.reader.specs.Pieces.{piece_in}
-use Rattle.accounting.proofs.TallyLaws.{tallies-next, smalls-none, smalls-more, smalls-next}
+use Rattle.reader.specs.PieceLists.{pieces_left}
+use Rattle.accounting.specs.Tally.{tally_of}
+use Rattle.accounting.proofs.TallyLaws.{zero-tallies, tallied-first, tallied-few, tallied-next, tallied-end}
 use Rattle.accounting.proofs.tally.tally_pieces.Goals as goal
 
-pub loop-at-init : goal.loop-at-init
-loop-at-init c = (c.none-tallies.ensures, rw c.none-tallies.ensures smalls-none)
+pub loop-p-init : goal.loop-p-init
+loop-p-init c = tallied-first (let d = c.default-tallies.ensures in zero-tallies d.0 d.1.long (λ i h. d.1.at i (tally_of []) h)) (ap pieces_left c.into_iter-p-iterator.ensures.into_iter_gives ∙ c.iter-p-items.ensures)
 
 pub add-requires : goal.add-requires
-add-requires c = smalls-more (omega arith) c.loop-at.invariant.1
+add-requires c = tallied-few c.loop-p.invariant c.in-Some.ensures.steps c.requires
 
-pub loop-at-preserved : goal.loop-at-preserved
-loop-at-preserved c =
-    let i = c.loop-at.at-index in
-    let p = piece_in c.read_piece.result in (
-      tallies-next (read_call c.args.s.now).pieces i no_piece p c.loop-at.tallies c.add.new.self (omega (arith, c.requires.pieces_at.count)) (c.read_piece.ensures ∙ (c.requires.pieces_at.at i (omega arith)).is) c.loop-at.invariant.0 c.add.ensures,
-      smalls-next p (omega (arith, c.read_piece.type_inv)) (omega (arith, c.read_piece.type_inv)) c.loop-at.invariant.1 c.add.ensures,
-    )
+pub loop-p-preserved : goal.loop-p-preserved
+loop-p-preserved c =
+    tallied-next c.loop-p.invariant (piece_in c.in-Some.p) (pieces_left c.next.new.self) c.in-Some.ensures.steps (omega arith) (omega arith) c.add.ensures
 
 pub returns : goal.returns
-returns c =
-    record {
-      is = rw (take_all c.loop-at.at-index (read_call c.args.s.now).pieces (omega (arith, c.requires.pieces_at.count))) at c.loop-at.invariant.0;
-      small = smalls-more (omega arith) c.loop-at.invariant.1;
-    }
+returns c = tallied-end c.loop-p.invariant c.in-None.ensures.steps.0 c.requires

@@ -1,7 +1,7 @@
-use Rattle.std.proofs.Common.{◌≡◌, take}
-use Rattle.calls.specs.Answers.{read_call}
-use Rattle.accounting.specs.Tally.{tallies_of, Smalls}
+-- The loop's invariant: the pieces passed are tallied.
+use Rattle.reader.specs.PieceLists.{pieces_of, pieces_left}
+use Rattle.accounting.proofs.TallyLaws.{TalliedUpTo}
 use Rattle.accounting.proofs.tally.tally_pieces.Given as goal
 
-abbrev pub invariant-loop-at : goal.invariant-loop-at
-invariant-loop-at l = (l.tallies ≡ tallies_of (take l.at-index (read_call l.s).pieces)) × Smalls l.at-index l.tallies
+abbrev pub invariant-loop-p : goal.invariant-loop-p
+invariant-loop-p l = TalliedUpTo (pieces_of l.pieces) (pieces_left l.p-iterator) l.tallies

@@ -7,7 +7,8 @@ use Rattle.wire.specs.declared.kinds.Bucket.{Bucket}
 use Rattle.wire.specs.Output.{with_bytes}
 use Rattle.wire.proofs.OutputLaws.{drop-next}
 use Rattle.calls.specs.Lru.{part_filled, lru_keys, lru_wanted}
-use Rattle.calls.specs.Place.{dirty_in}
+use Rattle.calls.specs.Place.{placed_of, dirty_in}
+use Rattle.calls.specs.Answers.{read_call}
 use Rattle.change_fields.specs.FieldBytes.{keys_bytes}
 use Rattle.change_fields.proofs.FieldLists.{flat-next, flat-none}
 use Rattle.place_keys.proofs.StepLaws.{bucket-at}
@@ -18,17 +19,19 @@ use Rattle.place_keys.proofs.lru.put_lrus.Goals as goal
 pub loop-b-preserved : goal.loop-b-preserved
 loop-b-preserved c =
     let i = length c.loop-b.yielded in
-    let bs = c.args.taken.now in
-    let n = c.args.sectors in
+    let bs = c.args.counted.now.plan.now.taken.now in
+    let n = c.args.counted.now.plan.now.head.bucket_sectors in
     let b = get_or bs i no_bucket in
     let first = ap (λ z. z.a.rest.now) c.into_iter-b-iterator.ensures.into_iter_gives ∙ ap (λ z. z.rest.now) c.zip-b-items.ensures.first ∙ c.iter.ensures.rest in
     let second = ap (λ z. z.b.rest.now) c.into_iter-b-iterator.ensures.into_iter_gives ∙ c.zip-b-items.ensures.second.0 in
-    let turn = zip_turn bs c.args.dirty.now c.loop-b.yielded _ c.loop-b.b-iterator c.next.new.self c.next.result first second c.loop-b.yielded_by _ c.in-Some.is c.next.ensures.steps in
+    let turn = zip_turn bs c.args.counted.now.dirty.now c.loop-b.yielded _ c.loop-b.b-iterator c.next.new.self c.next.result first second c.loop-b.yielded_by _ c.in-Some.is c.next.ensures.steps in
     let next = drop-next no_bucket bs i turn.0 in
     let more : length (c.loop-b.yielded ++ (c.in-Some.b, c.in-Some.stored) ∷ []) ≡ i + 1 = length-append c.loop-b.yielded _ in
-    rw more λ ps d.
+    let ps = placed_of (read_call c.args.counted.now.plan.now.list.now) in
+    let d = c.args.counted.now.counted in
     let e : c.in-Some.stored.now ≡ dirty_in ps b = turn.3 0 ∙ d.at i turn.0 ∙ ap (dirty_in ps) (sym (bucket-at bs i)) in
-    let q = c.loop-b.invariant ps d in (
+    let q = c.loop-b.invariant in
+    rw more (
       run-put c.loop-b.out _ _ (flat-next (key_field 10) (λ a. lru_keys n a (dirty_in ps a)) next)
           (c.put_lru-root_wanted.ensures.0 ∙ ap (λ (y : Bucket). with_bytes c.loop-b.out (keys_bytes 10 (lru_keys n y c.in-Some.stored.now))) (turn.2 no_bucket) ∙ ap (λ (z : ℕ). with_bytes c.loop-b.out (keys_bytes 10 (lru_keys n b z))) e)
           ∙ q.0,
@@ -36,14 +39,21 @@ loop-b-preserved c =
           ∙ wanted-next n (dirty_in ps) c.loop-b.root_wanted next q.1,
     )
 
-pub returns : goal.returns
-returns c =
+-- where the loop ends, no bucket is left
+pub returns-clause-keys : goal.returns-clause-keys
+returns-clause-keys c =
+    let plan = c.args.counted.now.plan.now in
     let first = ap (λ z. z.a.rest.now) c.into_iter-b-iterator.ensures.into_iter_gives ∙ ap (λ z. z.rest.now) c.zip-b-items.ensures.first ∙ c.iter.ensures.rest in
     let second = ap (λ z. z.b.rest.now) c.into_iter-b-iterator.ensures.into_iter_gives ∙ c.zip-b-items.ensures.second.0 in
-    let end = zip_end c.args.taken.now c.args.dirty.now c.loop-b.yielded _ c.loop-b.b-iterator c.next.new.self c.next.result first second c.loop-b.yielded_by c.in-None.is c.next.ensures.steps in
-    let none = drop_of_length-le c.args.taken.now {i = length c.loop-b.yielded} (omega (arith, end, c.requires.taken_in_bounds.0)) in
-    λ ps d.
-    let q = c.loop-b.invariant ps d in (
-      sym (all-put c.loop-b.out (flat-none (key_field 10) (λ b. lru_keys c.args.sectors b (dirty_in ps b)) none)) ∙ q.0,
-      wanted-none c.args.sectors (dirty_in ps) c.loop-b.root_wanted none q.1,
-    )
+    let end = zip_end plan.taken.now c.args.counted.now.dirty.now c.loop-b.yielded _ c.loop-b.b-iterator c.next.new.self c.next.result first second c.loop-b.yielded_by c.in-None.is c.next.ensures.steps in
+    let none = drop_of_length-le plan.taken.now {i = length c.loop-b.yielded} (omega (arith, end, c.args.counted.now.counted.long)) in
+    sym (all-put c.loop-b.out (flat-none (key_field 10) (λ b. lru_keys plan.head.bucket_sectors b (dirty_in (placed_of (read_call plan.list.now)) b)) none)) ∙ c.loop-b.invariant.0
+
+pub returns-clause-root : goal.returns-clause-root
+returns-clause-root c =
+    let plan = c.args.counted.now.plan.now in
+    let first = ap (λ z. z.a.rest.now) c.into_iter-b-iterator.ensures.into_iter_gives ∙ ap (λ z. z.rest.now) c.zip-b-items.ensures.first ∙ c.iter.ensures.rest in
+    let second = ap (λ z. z.b.rest.now) c.into_iter-b-iterator.ensures.into_iter_gives ∙ c.zip-b-items.ensures.second.0 in
+    let end = zip_end plan.taken.now c.args.counted.now.dirty.now c.loop-b.yielded _ c.loop-b.b-iterator c.next.new.self c.next.result first second c.loop-b.yielded_by c.in-None.is c.next.ensures.steps in
+    let none = drop_of_length-le plan.taken.now {i = length c.loop-b.yielded} (omega (arith, end, c.args.counted.now.counted.long)) in
+    wanted-none plan.head.bucket_sectors (dirty_in (placed_of (read_call plan.list.now))) c.loop-b.root_wanted none c.loop-b.invariant.1

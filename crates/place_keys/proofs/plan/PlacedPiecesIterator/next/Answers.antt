@@ -1,11 +1,11 @@
 use Rattle.std.proofs.Common.{arith, ap, length}
 use Rattle.place_keys.specs.Left.{placed_left}
 use Rattle.place_keys.proofs.WalkLaws.{no_more}
-use Rattle.place_keys.proofs.plan.PiecesIterator.next.Goals as goal
+use Rattle.place_keys.proofs.plan.PlacedPiecesIterator.next.Goals as goal
 
-pub returns-then-self-clause-steps : goal.returns-then-self-clause-steps
+pub returns-then-self-len-clause-steps : goal.returns-then-self-len-clause-steps
 unfolding placed_left
-returns-then-self-clause-steps c = no_more c.args.self.now.plan.planned c.args.self.now.next c.args.self.now.end (omega arith)
+returns-then-self-len-clause-steps c = no_more c.args.self.now.plan.planned c.args.self.now.next c.args.self.now.end (omega arith)
 
 pub returns-clause-steps : goal.returns-clause-steps
 unfolding placed_left

@@ -1,0 +1,3 @@
+pub mod LastSlotLaws
+pub mod LaidLaws
+pub mod NextFitLaws

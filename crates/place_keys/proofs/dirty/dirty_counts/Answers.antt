@@ -1,0 +1,32 @@
+use Rattle.std.proofs.Common.{arith, refl, get_or}
+use Rattle.place_keys.proofs.SlotTables.{no_slot}
+use Rattle.place_keys.proofs.StepLaws.{slots-many, index-low}
+use Rattle.place_keys.proofs.BucketLaws.{counting-first, counting-next, counting-end, zero-at}
+use Rattle.place_keys.proofs.dirty.dirty_counts.Goals as goal
+
+pub loop-i-init : goal.loop-i-init
+loop-i-init c = counting-first (omega (arith, c.args.plan.now.planned.short)) (λ k. zero-at 1024 k)
+
+pub get-requires : goal.get-requires
+get-requires c = omega (arith, c.loop-i-test.true, slots-many c.args.plan.now.planned)
+
+pub bounds-dirty-slot : goal.bounds-dirty-slot
+bounds-dirty-slot c =
+    let p = c.args.plan.now.planned in
+    omega (arith, p.short, index-low p c.loop-i.i (omega (arith, c.loop-i-test.true, slots-many p)) _ refl)
+
+pub bounds-dirty-slot-in-loop-i : goal.bounds-dirty-slot-in-loop-i
+bounds-dirty-slot-in-loop-i c =
+    let p = c.args.plan.now.planned in
+    omega (arith, p.short, index-low p c.loop-i.i (omega (arith, c.loop-i-test.true, slots-many p)) _ refl)
+
+pub loop-i-preserved : goal.loop-i-preserved
+loop-i-preserved c =
+    let p = c.args.plan.now.planned in
+    counting-next p c.loop-i.invariant (omega (arith, c.loop-i-test.true, slots-many p)) c.get.result c.get.ensures
+    (get_or c.args.plan.now.slots.now c.loop-i.i no_slot) refl
+
+pub returns : goal.returns
+returns c =
+    let p = c.args.plan.now.planned in
+    counting-end p c.loop-i.invariant (omega (arith, c.loop-i-test.false, slots-many p))
