@@ -1,14 +1,29 @@
-use Rattle.std.proofs.Common.{arith, sym, ap, ◌≡◌, ◌∙◌}
+use Rattle.std.proofs.Common.{Bool, arith, sym, ap, ◌≡◌, ◌∙◌}
 use Rattle.std.proofs.lemmas.Result.{err_from_is_err_and}
-use Rattle.calls.specs.Answers.{read_call}
+use Rattle.calls.specs.Answers.{read_call, read_volume}
+use Rattle.calls.specs.Freespace.{runs_of, overlaps}
 use Rattle.calls.specs.Pieces.{buckets_needed}
 use Rattle.calls.specs.Place.{slots_of}
 use Rattle.calls.specs.CallList.{Head}
 use Rattle.reader.specs.declared.refusal.Refusal.TheVariants.{RunsOverlap, TooFewFree}
+use Rattle.reader.specs.ListedKeys.{keys_listed}
+use Rattle.reader.specs.declared.read_list.ReadList.{ReadList}
+use Rattle.reader.specs.declared.pieces.Pieces.{Pieces}
+use Rattle.reader.proofs.CheckedLaws.{alloc-checked, runs-checked, reserved-checked}
+use Rattle.place_tests.specs.Called.{Called}
 use Rattle.place_tests.proofs.ChoiceLaws.{chosen-stopped, chosen-walk, enough-is, took-front}
 use Rattle.place_tests.proofs.RefusalLaws.{asked, asked-stops, overlap-stops, shortage-stops, walk-decides}
 use Rattle.place_tests.proofs.SizedLaws.{slots-are, needed-short}
 use Rattle.place_tests.proofs.asked.Placement.choose_buckets.Goals as goal
+
+-- what is found of the runs is found of the volume's
+found :
+    {r : ReadList} {ps : Pieces} {t : Bool} (q : Called r ps) → t ≡ overlaps (runs_of (keys_listed r.freespace))
+    → t ≡ overlaps (runs_of (read_volume r.list.now).trees.freespace)
+found q e = rw q.runs_are at e
+
+pub overlaps-requires : goal.overlaps-requires
+overlaps-requires c = let q = c.args.self.now.called in rw q.runs_are (runs-checked q.checked)
 
 pub returns-in_err-option : goal.returns-in_err-option
 returns-in_err-option c =
@@ -18,7 +33,7 @@ returns-in_err-option c =
 
 pub returns-then-overlaps : goal.returns-then-overlaps
 returns-then-overlaps c =
-    chosen-stopped RunsOverlap (overlap-stops (read_call c.args.self.now.read.now.list.now) (sym c.in_ok-option.ensures.refusal) (sym c.if-overlaps.ensures))
+    chosen-stopped RunsOverlap (overlap-stops (read_call c.args.self.now.read.now.list.now) (sym c.in_ok-option.ensures.refusal) (sym (found c.args.self.now.called c.if-overlaps.ensures)))
 
 pub enough_free-requires : goal.enough_free-requires
 enough_free-requires c =
@@ -26,7 +41,7 @@ enough_free-requires c =
     let q = c.args.self.now.called in
     let needed : c.buckets_needed-n.result ≡ buckets_needed (slots_of (read_call r.list.now)) = c.buckets_needed-n.ensures ∙ ap buckets_needed (c.lay_out-slots.ensures ∙ slots-are q) in
     let few = needed-short q (asked (read_call r.list.now) r.head q.head (sym c.in_ok-option.ensures.refusal)) in
-    (sym c.if-overlaps.ensures, omega arith)
+    (sym (found c.args.self.now.called c.if-overlaps.ensures), omega arith)
 
 pub returns-then-not-enough_free : goal.returns-then-not-enough_free
 returns-then-not-enough_free c =
@@ -34,7 +49,7 @@ returns-then-not-enough_free c =
     let q = c.args.self.now.called in
     let needed = c.buckets_needed-n.ensures ∙ ap buckets_needed (c.lay_out-slots.ensures ∙ slots-are q) in
     chosen-stopped TooFewFree
-    (shortage-stops (read_call r.list.now) (sym c.in_ok-option.ensures.refusal) (sym c.if-overlaps.ensures)
+    (shortage-stops (read_call r.list.now) (sym c.in_ok-option.ensures.refusal) (sym (found c.args.self.now.called c.if-overlaps.ensures))
     (enough-is r.list.now needed r.head q.head c.if-not-enough_free.ensures))
 
 pub walk_runs-requires : goal.walk_runs-requires
@@ -43,7 +58,7 @@ walk_runs-requires c =
     let q = c.args.self.now.called in
     let needed : c.buckets_needed-n.result ≡ buckets_needed (slots_of (read_call r.list.now)) = c.buckets_needed-n.ensures ∙ ap buckets_needed (c.lay_out-slots.ensures ∙ slots-are q) in
     let few = needed-short q (asked (read_call r.list.now) r.head q.head (sym c.in_ok-option.ensures.refusal)) in
-    (q.checked, q.alloc, q.runs, q.reserved, omega arith)
+    (rw q.alloc_are (alloc-checked q.checked), rw q.runs_are (runs-checked q.checked), rw q.reserved_are (reserved-checked q.checked), omega arith)
 
 pub returns-in_err-walked : goal.returns-in_err-walked
 returns-in_err-walked c =
@@ -54,8 +69,8 @@ returns-in_err-walked c =
     let e = c.in_err-walked.field-0.0 in
     rw (p.1, p.2)
     (chosen-stopped e
-    ((chosen-walk r.list.now needed c.in_err-walked.ensures).refusal
-    ∙ walk-decides (read_call r.list.now) (sym c.in_ok-option.ensures.refusal) (sym c.if-overlaps.ensures)
+    ((chosen-walk r.list.now needed (rw (q.alloc_are, q.runs_are, q.reserved_are) at c.in_err-walked.ensures)).refusal
+    ∙ walk-decides (read_call r.list.now) (sym c.in_ok-option.ensures.refusal) (sym (found c.args.self.now.called c.if-overlaps.ensures))
     (enough-is r.list.now needed r.head q.head c.if-not-enough_free.ensures)))
 
 pub returns : goal.returns
@@ -63,11 +78,11 @@ returns c =
     let r = c.args.self.now.read.now in
     let q = c.args.self.now.called in
     let needed = c.buckets_needed-n.ensures ∙ ap buckets_needed (c.lay_out-slots.ensures ∙ slots-are q) in
-    let w = chosen-walk r.list.now needed c.in_ok-walked.ensures in
+    let w = chosen-walk r.list.now needed (rw (q.alloc_are, q.runs_are, q.reserved_are) at c.in_ok-walked.ensures) in
     record {
       refusal =
           w.refusal
-          ∙ walk-decides (read_call r.list.now) (sym c.in_ok-option.ensures.refusal) (sym c.if-overlaps.ensures)
+          ∙ walk-decides (read_call r.list.now) (sym c.in_ok-option.ensures.refusal) (sym (found c.args.self.now.called c.if-overlaps.ensures))
           (enough-is r.list.now needed r.head q.head c.if-not-enough_free.ensures);
       chosen =
           record {
