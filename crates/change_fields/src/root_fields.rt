@@ -9,12 +9,13 @@ ghost use Rattle.change_fields.specs.FieldBytes.{roots_bytes};
 use reader::roots;
 use reader::roots::Root;
 use wire::output::Output;
+use wire::tags::Tag;
 
 // A root, by its id.
 pub fn put_root(out: &mut Output, id: u8)
     ensures { out.new ≡ with_bytes out.old (roots_bytes (id ∷ [])) }
 {
-    out.put_head(70, 1);
+    out.put_head(Tag::Root.number(), 1);
     out.put_u8(id);
 }
 

@@ -6,6 +6,7 @@ ghost use Rattle.wire.specs.Encode.{encode_field};
 ghost use Rattle.wire.specs.Rows.{signed_bytes, row_field};
 
 use crate::output::Output;
+use crate::tags::Tag;
 
 // An amount as a signed number. Counts of sectors and buckets within the limits show the bound.
 pub fn plus(n: u64) -> i64
@@ -40,12 +41,12 @@ impl<'a> Output<'a> {
         }
     }
 
-    // A row: tag 73. Rows have one number or three.
+    // A row. Rows have one number or three.
     pub fn put_row(&mut self, inode: u64, offset: u64, numbers: &[i64])
         requires { length numbers.now ≤ 3 }
         ensures { self.new ≡ with_bytes self.old (encode_field (row_field (record { inode = inode; offset = offset; numbers = numbers.now }))) }
     {
-        self.put_head(73, 16 + 8 * numbers.len());
+        self.put_head(Tag::Row.number(), 16 + 8 * numbers.len());
         self.put_u64(inode);
         self.put_u64(offset);
         self.put_numbers(numbers);

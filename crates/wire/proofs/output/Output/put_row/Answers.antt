@@ -7,5 +7,5 @@ use Rattle.std.proofs.Common.{append_assoc}
 pub returns : goal.returns
 unfolding encode_field row_body
 returns c =
-    let h = rw (row-size c.args.inode c.args.offset c.args.numbers.now) at c.put_head.ensures in
+    let h = rw (c.number.ensures, row-size c.args.inode c.args.offset c.args.numbers.now) at c.put_head.ensures in
     rw (c.put_numbers.ensures, c.put_u64-2.ensures, c.put_u64.ensures, h) (simp (with-with, append_assoc))
