@@ -1,20 +1,19 @@
 -- A table that is cut where the places of each tag end: the keys, the reserved buckets and the places of a list that was read.
-use mathlib.Core.Path.{◌≡◌, refl, sym, ap, ◌∙◌}
+use mathlib.Core.Path.{◌≡◌, refl, ap, ◌∙◌}
 use mathlib.Core.Bool.{Bool}
 use mathlib.Core.List.{List, [], ◌∷◌, map}
-use Prim.Native.Nat.{ℕ, ◌+◌, ◌-◌, ◌≤◌, ◌<◌}
+use Prim.Native.Nat.{ℕ, ◌≤◌, ◌<◌}
 use native.Mathlib.Omega.{arith}
-use lib.ListN.{length, take, drop}
+use lib.ListN.{take}
 use Rattle.wire.specs.Bytes.{Bytes}
 use Rattle.wire.specs.Fields.{fields}
 use Rattle.wire.specs.Keys.{key_of}
-use Rattle.wire.specs.Kinds.{bucket_read}
 use Rattle.calls.specs.Sorting.{sorted_by}
 use Rattle.calls.specs.CallList.{bodies, key_below, call_list_of, sorted_trees, keys_of, reserved_of}
-use Rattle.reader.specs.Table.{between, InTurn, Ended, sorted_bodies, request_bodies}
+use Rattle.reader.specs.Table.{between, sorted_bodies, request_bodies}
 use Rattle.reader.specs.Collected.{body_at, PlacesOf}
-use Rattle.reader.specs.KeyHere.{key_here, keys_here, WholeKeys}
-use Rattle.reader.specs.BucketHere.{buckets_here, WholeBuckets}
+use Rattle.reader.specs.KeyHere.{key_here, keys_here}
+use Rattle.reader.specs.BucketHere.{WholeBuckets}
 use Rattle.reader.specs.Readings.{list_refusal, TableRead, TableKnown, KeysBetween, KeysRead, BucketsRead, Read}
 use Rattle.reader.specs.declared.head.Head.{Head}
 use Rattle.reader.specs.declared.table.Ends.{Ends}

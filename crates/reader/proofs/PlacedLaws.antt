@@ -10,7 +10,7 @@ use Rattle.wire.specs.Bytes.{none, more}
 use Rattle.wire.specs.Fields.{fields}
 use Rattle.calls.specs.CallList.{bodies}
 use Rattle.calls.proofs.lists.AllLaws.{all-nth}
-use Rattle.reader.specs.Table.{FieldHere, Tabled, InTurn, between, sorted_bodies, request_bodies}
+use Rattle.reader.specs.Table.{FieldHere, Tabled, InTurn, between, sorted_bodies}
 use Rattle.reader.specs.Collected.{body_at, TagHere, PlacesOf}
 use Rattle.reader.specs.Readings.{TableRead}
 use Rattle.reader.specs.declared.head.Head.{Head}

@@ -1,5 +1,5 @@
 -- The keys that stand at places of a list, as clauses see them, and a step along them.
-use Rattle.std.specs.Prelude.{ℕ, ◌-◌, ◌≡◌, ◌≤◌, ◌<◌, List, [], ◌∷◌, ◌++◌, map, Option, Some, None, length, get_or}
+use Rattle.std.specs.Prelude.{ℕ, ◌-◌, ◌≡◌, ◌≤◌, ◌<◌, List, [], ◌∷◌, ◌++◌, Option, Some, None, length, get_or}
 use Rattle.wire.specs.Keys.{Key}
 use Rattle.reader.specs.KeyHere.{key_here, keys_here}
 use Rattle.reader.specs.declared.key.ListedKey.{ListedKey}

@@ -1,4 +1,4 @@
-use Rattle.std.proofs.Common.{rules, refl}
+use Rattle.std.proofs.Common.{refl}
 use Rattle.reader.proofs.call.answer_by.Goals as goal
 
 pub returns-clause-answered : goal.returns-clause-answered

@@ -1,6 +1,5 @@
 use Rattle.std.proofs.Common.{rules, tests, ◌∙◌, ap, sym, ◌+◌}
 use lib.ListN.{drop}
-use mathlib.Core.List.{map}
 use Rattle.std.specs.List.{prefix_len}
 use Rattle.calls.proofs.lists.AllLaws.{all-imp}
 use Rattle.calls.proofs.lists.MapLaws.{map-drop}

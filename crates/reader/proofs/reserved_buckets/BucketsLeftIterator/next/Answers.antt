@@ -1,4 +1,4 @@
-use Rattle.std.proofs.Common.{ap, sym, ◌∙◌, ◌∷◌, List, ℕ}
+use Rattle.std.proofs.Common.{ap, sym, ◌∙◌, ◌∷◌}
 use mathlib.Core.List.{map}
 use Rattle.reader.specs.BucketHere.{bucket_here}
 use Rattle.reader.proofs.ListedKeyLaws.{buckets-rest}
