@@ -1,4 +1,4 @@
-// Field 76.
+// The field at the end of a batch.
 ghost use Rattle.std.specs.Prelude.{◌≡◌};
 ghost use Rattle.wire.specs.Encode.{encode_field};
 ghost use Rattle.wire.specs.Output.{with_bytes};

@@ -47,12 +47,12 @@ fn change_field_ok(field: Field) -> bool
     }
 }
 
-// Whether a tag may stand after another: tags ascend within a batch, and begin anew after 76.
+// Whether a tag may stand after another: tags ascend within a batch, and begin anew after the end of one.
 #[tactic(auto, unfolding(crate::specs::Bodies::tag_after))]
 fn tag_after(last: u8, tag: u8) -> bool
     ensures { result ≡ tag_after last tag }
 {
-    last == 76 || last <= tag
+    last == Tag::End.number() || last <= tag
 }
 
 // Whether a change list keeps its layout; a field that passes the end breaks it.
@@ -60,12 +60,12 @@ pub fn check_change(s: &[u8]) -> bool
     ensures { result ≡ change_laid_out s.now }
 {
     let mut fields = Fields::of(s);
-    let mut last: u8 = 76;
+    let mut last = Tag::End.number();
     while let Some(field) = fields.next() {
         if !change_field_ok(field) || !tag_after(last, field.tag) {
             return false;
         }
         last = field.tag;
     }
-    fields.at_end() && last == 76
+    fields.at_end() && last == Tag::End.number()
 }

@@ -8,7 +8,7 @@ use borrow.Author.Tests.{eqb-true}
 use lib.Dec.{eqb}
 use lib.ListN.{length, drop}
 use Rattle.std.proofs.Common.{Some, None}
-use Rattle.wire.specs.Fields.{Field, fields, field_at, step_of, found}
+use Rattle.wire.specs.Fields.{fields, field_at, step_of, found}
 use Rattle.wire.specs.FieldsFound.{field_in}
 use Rattle.wire.specs.FieldSteps.{FieldStepped}
 use Rattle.wire.specs.declared.fields.Field as code

@@ -41,7 +41,7 @@ impl<'a> Output<'a> {
         }
     }
 
-    // A row: tag 73. Rows have one number or three.
+    // A row. Rows have one number or three.
     pub fn put_row(&mut self, inode: u64, offset: u64, numbers: &[i64])
         requires { length numbers.now ≤ 3 }
         ensures { self.new ≡ with_bytes self.old (encode_field (row_field (record { inode = inode; offset = offset; numbers = numbers.now }))) }

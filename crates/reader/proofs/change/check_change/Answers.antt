@@ -6,7 +6,7 @@ use Rattle.reader.proofs.change.check_change.Goals.{then-not-change_field_ok-via
 use Rattle.reader.proofs.change.check_change.Goals as goal
 
 pub loop-field-init : goal.loop-field-init
-loop-field-init c = let o = c.of-fields.ensures in (o.0, rw o.1 (start _))
+loop-field-init c = let o = c.of-fields.ensures in (o.0, rw (o.1, c.number-last.ensures) (start _))
 
 pub returns-then-not-change_field_ok : goal.returns-then-not-change_field_ok
 returns-then-not-change_field_ok c =
@@ -33,7 +33,7 @@ pub returns-then-at_end : goal.returns-then-at_end
 returns-then-at_end c =
     let i = c.loop-field.invariant in
     let w = c.in_default.ensures.steps in
-    ends _ _ _ i.1 (steps-nowhere i.0 w) (ended i.0 w c.if-at_end.ensures)
+    rw c.number.ensures (ends _ _ _ i.1 (steps-nowhere i.0 w) (ended i.0 w c.if-at_end.ensures))
 
 pub returns-else-at_end : goal.returns-else-at_end
 returns-else-at_end c =
