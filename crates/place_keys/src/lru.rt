@@ -1,5 +1,6 @@
 // Tree 10: the LRU keys of the buckets taken that are part filled.
-ghost use Rattle.std.specs.Prelude.{◌≡◌, ◌<◌};
+ghost use Rattle.std.specs.Prelude.{◌≡◌};
+ghost use Rattle.std.specs.Int.NonZero.{non_zero_u64_get};
 ghost use mathlib.Core.List.{flat_map, map};
 ghost use Rattle.calls.specs.Lru.{part_filled, lru_keys, lru_wanted};
 ghost use Rattle.calls.specs.Place.{placed_of, dirty_in};
@@ -9,16 +10,16 @@ ghost use Rattle.wire.specs.Output.{with_bytes};
 
 use crate::dirty::DirtyPlan;
 use change_fields::lru_keys;
+use std::num::NonZero;
 use wire::kinds::Bucket;
 use wire::output::Output;
 
-// The LRU key of a bucket that is part filled, and whether it is, which wants the root. Refusal 4 shows that a bucket has sectors.
-fn put_lru(out: &mut Output, b: Bucket, dirty: u32, sectors: u64) -> bool
-    requires { 0 < sectors }
-    ensures { (out.new ≡ with_bytes out.old (keys_bytes 10 (lru_keys sectors b dirty))) × (result ≡ part_filled sectors dirty) }
+// The LRU key of a bucket that is part filled, and whether it is, which wants the root.
+fn put_lru(out: &mut Output, b: Bucket, dirty: u32, sectors: NonZero<u64>) -> bool
+    ensures { (out.new ≡ with_bytes out.old (keys_bytes 10 (lru_keys (non_zero_u64_get sectors) b dirty))) × (result ≡ part_filled (non_zero_u64_get sectors) dirty) }
 {
     lru_keys::put_lru_key(out, b, dirty, sectors);
-    (dirty as u64) < sectors
+    (dirty as u64) < sectors.get()
 }
 
 // The LRU keys of the buckets taken, in order, and whether the LRU root is wanted.
@@ -26,7 +27,7 @@ pub fn put_lrus(out: &mut Output, counted: &DirtyPlan) -> bool
     ensures keys { out.new ≡ with_bytes out.old (keys_bytes 10 (flat_map (λ b. lru_keys counted.now.plan.now.head.bucket_sectors b (dirty_in (placed_of (read_call counted.now.plan.now.list.now)) b)) counted.now.plan.now.taken.now)) }
     ensures root { result ≡ lru_wanted counted.now.plan.now.head.bucket_sectors (map (dirty_in (placed_of (read_call counted.now.plan.now.list.now))) counted.now.plan.now.taken.now) }
 {
-    let sectors = counted.plan.head.bucket_sectors as u64;
+    let sectors = NonZero::<u64>::new(counted.plan.head.bucket_sectors as u64).unwrap();
     let mut root_wanted = false;
     for (b, stored) in counted.plan.taken.iter().zip(counted.dirty) {
         root_wanted |= put_lru(out, *b, *stored, sectors);
