@@ -10,7 +10,7 @@ ghost use Rattle.reader.specs.Refusals.{made_by};
 
 use crate::change::ChangeList;
 use accounting::tally;
-use gens::records;
+use gens::records::Records;
 use next_fit::slot::Slot;
 use place_keys::dirty::DirtyPlan;
 use place_keys::plan::Plan;
@@ -28,9 +28,8 @@ fn fill_gens(read: &ReadList, taken: &[Bucket], out: &mut [u8])
     requires { ReadAs (Some 1) read.now × (length taken.now ≤ length out.old) × (all_of bucket_in_range taken.now ≡ true) }
     ensures { take (length taken.now) out.new ≡ map (gen_of (read_volume read.now.list.now).trees.gens) taken.now }
 {
-    let mut records = [0u32; 256];
-    records::find_records(read.list, read.gens.places, &mut records);
-    generations::fill_gens(out, read.list, &records, taken);
+    let records = Records::of(read.gens);
+    generations::fill_gens(out, &records, taken);
 }
 
 // The answer to a list that was read: refusals 4 to 13, or its change list.
