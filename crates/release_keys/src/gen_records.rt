@@ -68,7 +68,7 @@ fn next_record(records: &Records, last: Option<Bkey>, b: Bucket, generation: u8)
     with_generation(key, b, generation)
 }
 
-// The records of all emptied buckets, which ascend. The list of them shows what is required.
+// The records of all emptied buckets, which ascend. `find_emptied` shows what is required.
 pub fn put_gens(out: &mut Output, records: &Records, emptied: &[EmptiedBucket])
     requires { (all_of bucket_in_range (emptied_buckets emptied.now) ≡ true) × (in_order bucket_below (emptied_buckets emptied.now) ≡ true) }
     ensures { (generation_of : kinds.Bucket → ℕ) → emptied.now ≡ map (emptied_row generation_of) (emptied_buckets emptied.now) → out.new ≡ with_bytes out.old (keys_bytes 14 (gens_queued generation_of (keys_listed records.now.gens) (emptied_buckets emptied.now))) }

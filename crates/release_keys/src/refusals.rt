@@ -14,7 +14,7 @@ use reader::key::ListedKey;
 use reader::read_list::ReadList;
 use reader::refusal::Refusal;
 
-// 15 to 19 at a bucket. The table shows what is required.
+// 15 to 19 at a bucket. The table and `Records::of` show what is required.
 fn bucket_refusal(read: &ReadList, records: &Records, f: FreedBucket) -> Result<(), Refusal>
     requires { FreedEntry read.now.alloc.list.now (volume_in read.now) (requests_in read.now) f × (keys_listed records.now.gens ≡ keys_listed read.now.gens) }
     ensures { number_in result ≡ bucket_refusal (volume_in read.now) (requests_in read.now) f.bucket }
@@ -43,7 +43,7 @@ fn bucket_refusal(read: &ReadList, records: &Records, f: FreedBucket) -> Result<
     Ok(())
 }
 
-// 15 to 19 over the freed buckets, which ascend. Whoever takes the records shows that they are those of the list.
+// 15 to 19 over the freed buckets, which ascend. `Records::of` shows what is required.
 pub fn refuse(table: &FreedTable, records: &Records) -> Result<(), Refusal>
     requires { keys_listed records.now.gens ≡ keys_listed table.now.read.gens }
     ensures { number_in result ≡ verdict (map (bucket_refusal (volume_in table.now.read) (requests_in table.now.read)) (freed_buckets table.now.read.head.bucket_sectors (requests_in table.now.read))) }
