@@ -31,6 +31,7 @@ use Rattle.calls.proofs.freespace.BucketLaws.{is_in-those, all_in}
 use Rattle.calls.proofs.release.ReleaseFits.{named-few}
 use Rattle.calls.proofs.release.ReleaseLaws.{named-range}
 use Rattle.release_sums.proofs.FoundLaws.{freed-up}
+use Rattle.gens.specs.declared.records.Records.{Records}
 use Rattle.release_keys.specs.Counting.{kept_of, lost_of, Unused-of}
 use Rattle.release_keys.specs.declared.counts.Unused.{Unused}
 use Rattle.change_fields.specs.FieldBytes.{keys_bytes, roots_bytes}
@@ -92,7 +93,7 @@ emptied-named : (generation : Bucket → ℕ) (bs : List Bucket) → emptied_buc
 emptied-named generation [] = refl
 emptied-named generation (b ∷ bs) = λ x. b ∷ emptied-named generation bs x
 
-module _ {t : HeldTable} {records : List ℕ} {emptied : List EmptiedBucket} (d : BatchTables t records emptied) where
+module _ {t : HeldTable} {records : Records} {emptied : List EmptiedBucket} (d : BatchTables t records emptied) where
   abbrev g : ReadList
   g = t.table.read
 

@@ -4,6 +4,12 @@ use mathlib.Core.Bool.{Bool, true, false, not}
 use mathlib.Core.List.{List, [], ◌∷◌, ◌++◌, map}
 use Prim.Native.Nat.{ℕ, zero, suc, ◌≤◌, ◌<◌}
 use native.Mathlib.Omega.{arith}
+use Rattle.std.specs.Int.NonZero.{non_zero_u64_get}
+use Rattle.std.specs.Option.{ok_or}
+use Rattle.std.specs.Result.{result_ok}
+use Rattle.std.specs.declared.num.NonZeroU64.{NonZeroU64}
+use Rattle.std.proofs.Common.{Option, Result, Ok, Err, MatchOption}
+use Rattle.std.proofs.lemmas.Option.{MatchOption-at_some, MatchOption-at_none}
 use lib.ListN.{length, get_or, drop, replicate}
 use borrow.Author.Tests.{eq-eqb, ne_eqb, lt-ltb}
 use Rattle.calls.specs.Answers.{Answer, answer, Outcome, made, outcome}
@@ -18,12 +24,27 @@ use Rattle.release_sums.specs.Summing.{Cleared}
 use Rattle.release_keys.specs.Given.{volume_in, requests_in, RequestsChecked}
 use Rattle.release.specs.Given.{change_of}
 use Rattle.release.specs.Outcomes.{bucket_tests}
+use Rattle.reader.specs.declared.refusal.Refusal.{Refusal}
 use Rattle.reader.specs.declared.read_list.ReadList.{ReadList}
 
+-- ---- refusal 4: the sectors of a bucket, which are not 0
+module _ {n : ℕ} {o : Option NonZeroU64} {r : Result NonZeroU64 Refusal} (made_of : MatchOption o (n ≡ 0) (λ x. non_zero_u64_get x ≡ n)) (is : o ≡ result_ok r) where
+  pub sectors-some : {x : NonZeroU64} → r ≡ Ok x → (non_zero_u64_get x ≡ n) × (n ≡ 0 → ⊥)
+  sectors-some {x} e =
+      let same = MatchOption-at_some (n ≡ 0) (λ y. non_zero_u64_get y ≡ n) x (is ∙ ap result_ok e) made_of in
+      (same, λ z. omega (arith, z, same, x.ok))
+
+  pub sectors-none : {x y : Refusal} → r ≡ ok_or o y → r ≡ Err x → (x ≡ y) × (n ≡ 0)
+  sectors-none {x} {y} v e =
+      let none = is ∙ ap result_ok e in
+      let same : Err x ≡ ok_or o y = sym e ∙ v in
+      let err : x ≡ y = cc in
+      (err, MatchOption-at_none (n ≡ 0) (λ a. non_zero_u64_get a ≡ n) none made_of)
+
 -- ---- the requests
-pub checked-made : {g : ReadList} → Requested g.list.now g.requests.now → length g.requests.now ≤ 1024 → 0 < g.head.bucket_sectors → g.head.bucket_sectors < 65536
+pub checked-made : {g : ReadList} → Requested g.list.now g.requests.now → length g.requests.now ≤ 1024 → g.head.bucket_sectors < 65536
     → all_of (freed_ok g.head.bucket_sectors) (requests_in g) ≡ true → RequestsChecked g
-checked-made q f h l ok = record { requested = q; few = f; some-sectors = h; small = l; checked = ok }
+checked-made q f l ok = record { requested = q; few = f; small = l; checked = ok }
 
 -- ---- refusals 15 to 19, and what follows
 module _ (g : ReadList) (room : ℕ) (out : List ℕ) (r : ℕ) (e : r ≡ verdict (map (bucket_refusal (volume_in g) (requests_in g)) (freed_buckets g.head.bucket_sectors (requests_in g)))) where

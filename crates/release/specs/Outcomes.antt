@@ -4,7 +4,8 @@ use Rattle.calls.specs.CallList.{Volume, Freed}
 use Rattle.calls.specs.Lists.{those}
 use Rattle.calls.specs.Refusals.{verdict}
 use Rattle.calls.specs.Release.{freed_buckets, is_emptied, bucket_refusal, emptied_gen}
-use Rattle.gens.specs.Records.{RecordsFound}
+use Rattle.reader.specs.ListedKeys.{keys_listed}
+use Rattle.gens.specs.declared.records.Records.{Records}
 use Rattle.release_keys.specs.Emptied.{emptied_row}
 use Rattle.release_keys.specs.Given.{volume_in, requests_in}
 use Rattle.release_keys.specs.declared.freed_buckets.EmptiedBucket.{EmptiedBucket}
@@ -14,9 +15,9 @@ use Rattle.release_keys.specs.declared.table.HeldTable.{HeldTable}
 abbrev pub bucket_tests : Volume → List Freed → List ℕ
 bucket_tests v rs = verdict (map (bucket_refusal v rs) (freed_buckets v.head.bucket_sectors rs)) ∷ []
 
--- the tables hold the volume's generation records, and the buckets that are emptied
-pub record BatchTables (t : HeldTable) (records : List ℕ) (emptied : List EmptiedBucket) : Type 0 where
-  pub recorded : RecordsFound t.table.read.gens.list.now (volume_in t.table.read).trees.gens records
+-- the volume's generation records, and the buckets that are emptied
+pub record BatchTables (t : HeldTable) (records : Records) (emptied : List EmptiedBucket) : Type 0 where
+  pub recorded : keys_listed records.gens ≡ keys_listed t.table.read.gens
   pub chosen :
       emptied
       ≡ map (emptied_row (emptied_gen (volume_in t.table.read).trees))

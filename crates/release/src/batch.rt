@@ -6,6 +6,7 @@ ghost use Rattle.release.specs.Outcomes.{BatchTables};
 
 use accounting::released;
 use change_fields::batch_end;
+use gens::records::Records;
 use reader::answer::Emit;
 use release_keys::freed_buckets::EmptiedBucket;
 use release_keys::table::HeldTable;
@@ -17,7 +18,7 @@ use wire::output::Output;
 #[derive(Drop)]
 pub struct ReleaseBatch<'a> {
     held: HeldTable<'a>,
-    records: &'a [u32],
+    records: &'a Records<'a>,
     emptied: &'a [EmptiedBucket],
 }
 
@@ -34,10 +35,10 @@ impl<'a> Model for ReleaseBatch<'a> {
 }
 
 impl<'a> ReleaseBatch<'a> {
-    // The batch of a table. `find_records` and `find_emptied` show what is required.
+    // The batch of a table. `Records::of` and `find_emptied` show what is required.
     pub fn new(
         held: HeldTable<'a>,
-        records: &'a [u32],
+        records: &'a Records<'a>,
         emptied: &'a [EmptiedBucket],
     ) -> ReleaseBatch<'a>
         requires { BatchTables held records.now emptied.now }
@@ -65,7 +66,7 @@ impl<'a> Emit for ReleaseBatch<'a> {
         lru_keys::put_lrus(out, &self.held);
         need_discards::put_need_discards(out, read.head.journal, self.emptied);
         backpointers::put_deletions(out, table);
-        gen_records::put_gens(out, read.gens.list, self.records, self.emptied);
+        gen_records::put_gens(out, self.records, self.emptied);
         roots::put_roots(out, count != 0, read.head.roots);
         released::put_rows(out, count as u64, total, unused.kept, unused.lost);
         batch_end::put_end(out);

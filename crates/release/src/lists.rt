@@ -5,7 +5,6 @@ ghost use Rattle.calls.specs.CallList.{keys_ascend};
 ghost use Rattle.calls.specs.Release.{release_tests};
 ghost use Rattle.reader.specs.ListedKeys.{keys_listed};
 ghost use Rattle.reader.specs.Refusals.{made_by};
-ghost use Rattle.gens.specs.Records.{RecordsFound};
 ghost use Rattle.release_sums.specs.Freeds.{Requested};
 ghost use Rattle.release_sums.specs.Summing.{Cleared};
 ghost use Rattle.release_keys.specs.Given.{volume_in, requests_in};
@@ -13,7 +12,7 @@ ghost use Rattle.release.specs.Given.{change_of};
 ghost use Rattle.release.specs.Outcomes.{bucket_tests};
 
 use crate::batch::ReleaseBatch;
-use gens::records;
+use gens::records::Records;
 use reader::answer;
 use reader::read_list::ReadList;
 use reader::refusal::Refusal;
@@ -21,21 +20,22 @@ use release_keys::freed_buckets::EmptiedBucket;
 use release_keys::table::{FreedBucket, FreedTable, HeldTable};
 use release_keys::{allocs, freed_buckets, refusals};
 use release_sums::requests::Freeds;
+use std::num::NonZero;
 use wire::kinds::Bucket;
 
-// The answer where the freed buckets are listed: refusals 15 to 19, and what follows. `find_records` shows what is required.
-fn release_table(table: FreedTable, records: &[u32], out: &mut [u8]) -> Result<usize, Refusal>
-    requires { RecordsFound table.read.gens.list.now (volume_in table.read).trees.gens records.now }
+// The answer where the freed buckets are listed: refusals 15 to 19, and what follows.
+fn release_table(table: FreedTable, out: &mut [u8]) -> Result<usize, Refusal>
     ensures { made_by result out.new ≡ outcome (answer (bucket_tests (volume_in table.entry.read) (requests_in table.entry.read)) (change_of table.entry.read) (length out.old)) out.old }
 {
-    refusals::refuse(&table, records)?;
+    let records = Records::of(table.read.gens);
+    refusals::refuse(&table, &records)?;
     let held = HeldTable { table };
     let mut emptied = [EmptiedBucket {
         bucket: Bucket(0),
         generation: 0,
     }; 1024];
     let emptied = freed_buckets::find_emptied(&held, &mut emptied);
-    let batch = ReleaseBatch::new(held, records, emptied);
+    let batch = ReleaseBatch::new(held, &records, emptied);
     answer::written(&batch, out)
 }
 
@@ -45,10 +45,7 @@ pub fn release_lists(read: &ReadList, scratch: &mut [u32], out: &mut [u8]) -> Re
     requires requested { Requested read.now.list.now read.now.requests.now × (length read.now.requests.now ≤ 1024) × Cleared scratch.old }
     ensures { (made_by result out.new ≡ outcome (answer (release_tests (volume_in read.now) (requests_in read.now)) (change_of read.now) (length out.old)) out.old) × (scratch.new ≡ replicate 65536 0 ++ drop 65536 scratch.old) }
 {
-    let sectors = read.head.bucket_sectors as u64;
-    if sectors == 0 {
-        return Err(Refusal::NoSectors);
-    }
+    let sectors = NonZero::<u64>::new(read.head.bucket_sectors as u64).ok_or(Refusal::NoSectors)?;
     let freeds = Freeds {
         list: read.list,
         places: read.requests,
@@ -61,8 +58,6 @@ pub fn release_lists(read: &ReadList, scratch: &mut [u32], out: &mut [u8]) -> Re
         sectors: 0,
         place: None,
     }; 1024];
-    let table = allocs::list_freed(*read, scratch, &mut buckets);
-    let mut records = [0u32; 256];
-    records::find_records(read.gens.list, read.gens.places, &mut records);
-    release_table(table, &records, out)
+    let table = allocs::list_freed(*read, sectors, scratch, &mut buckets);
+    release_table(table, out)
 }

@@ -32,8 +32,9 @@ use Rattle.std.proofs.Common.{Some, None}
 use Rattle.std.proofs.Common as std
 use Rattle.calls.proofs.trees.TreeLaws.{on_eq-ne}
 use Rattle.calls.proofs.release.GensLaws.{key-is}
-use Rattle.reader.specs.KeyHere.{key_here}
-use Rattle.gens.specs.Records.{record_at}
+use Rattle.reader.specs.ListedKeys.{key_listed}
+use Rattle.reader.specs.declared.key.ListedKey.{ListedKey}
+use Rattle.gens.specs.Records.{record_listed}
 use Rattle.change_fields.specs.FieldBytes.{keys_bytes}
 use Rattle.release_keys.specs.GenRecords.{continued, next_queued}
 use Rattle.release_keys.specs.Emptied.{emptied_row, emptied_buckets}
@@ -56,13 +57,13 @@ order-at named (n ∷ m ∷ ns) d o (suc i) zero h l = absurd (omega arith)
 order-at named (n ∷ m ∷ ns) d o (suc i) (suc j) h l =
     order-at named (m ∷ ns) d (parts (bucket_below (named n) (named m)) _ o).1 i j (omega arith) (omega arith)
 
--- ---- a bucket's record in the tree, by its entry
-module _ (s : List ℕ) (gens : List Key) (b : Bucket) where
-  pub key-new : {place : std.Option ℕ} → record_at s place ≡ gen_record gens b → place ≡ None → gen_key gens b ≡ new_key 30 0 (gens_at b) no_gens
+-- ---- a bucket's record in the tree, as it is found
+module _ (gens : List Key) (b : Bucket) where
+  pub key-new : {found : std.Option ListedKey} → record_listed found ≡ gen_record gens b → found ≡ None → gen_key gens b ≡ new_key 30 0 (gens_at b) no_gens
   unfolding gen_key
   key-new e n = rw (← e, n) refl
 
-  pub key-old : {place : std.Option ℕ} {at : ℕ} → record_at s place ≡ gen_record gens b → place ≡ Some at → gen_key gens b ≡ key_here s at
+  pub key-old : {found : std.Option ListedKey} {k : ListedKey} → record_listed found ≡ gen_record gens b → found ≡ Some k → gen_key gens b ≡ key_listed k
   unfolding gen_key
   key-old e n = rw (← e, n) refl
 

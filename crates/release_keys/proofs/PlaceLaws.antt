@@ -1,12 +1,10 @@
 -- Keys at their places.
 use mathlib.Core.Path.{◌≡◌, refl, sym, ap, ◌∙◌, subst}
-use Prim.Native.Nat.{ℕ, ◌≤◌}
-use native.Mathlib.Omega.{arith}
+use Prim.Native.Nat.{ℕ}
 use mathlib.Core.List.{List, []}
 use mathlib.Core.Option.{Option, none, some, none-ne-some, some-injective}
 use Rattle.std.proofs.Common.{Some, None, IsSome, rules}
 use Rattle.std.proofs.Common as std
-use lib.ListN.{length}
 use Rattle.wire.specs.Keys.{Key}
 use Rattle.calls.specs.Lists.{from_option}
 use Rattle.reader.specs.KeyHere.{key_here, Whole}

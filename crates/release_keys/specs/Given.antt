@@ -29,6 +29,5 @@ requests_in r = freeds_in r.list.now r.requests.now
 pub record RequestsChecked (r : ReadList) : Type 0 where
   pub requested : Requested r.list.now r.requests.now
   pub few : length r.requests.now ≤ 1024
-  pub some-sectors : 0 < r.head.bucket_sectors
   pub small : r.head.bucket_sectors < 65536
   pub checked : all_of (freed_ok r.head.bucket_sectors) (requests_in r) ≡ true

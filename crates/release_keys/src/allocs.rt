@@ -1,5 +1,6 @@
 // The freed buckets, each with its sum and its alloc key: buckets and keys ascend, so that one walk over the keys finds those of all buckets.
 ghost use Rattle.std.specs.Prelude.{◌≡◌, true, false, ◌++◌, ◌<◌, ◌≤◌, length, get_or, take, drop, map, replicate};
+ghost use Rattle.std.specs.Int.NonZero.{non_zero_u64_get};
 ghost use Rattle.wire.specs.Order.{pos_less};
 ghost use Rattle.calls.specs.CallList.{keys_ascend};
 ghost use Rattle.calls.specs.Trees.{lookup};
@@ -18,6 +19,7 @@ use reader::listed_keys::Keys;
 use reader::read_list::ReadList;
 use release_sums::requests::Freeds;
 use release_sums::sums::Sums;
+use std::num::NonZero;
 use wire::bpos::Bpos;
 use wire::{bpos, positions};
 
@@ -72,10 +74,11 @@ fn list_sums<'a>(
 // The freed buckets of the requests, in the front of a slice; the scratch, which comes cleared, is left cleared. The reader, refusals 4 and 14 and `clear` show what is required.
 pub fn list_freed<'a>(
     read: ReadList<'a>,
+    bucket_sectors: NonZero<u64>,
     scratch: &mut [u32],
     buckets: &'a mut [FreedBucket; 1024],
 ) -> FreedTable<'a>
-    requires { RequestsChecked read × Cleared scratch.old × (keys_ascend (keys_listed read.alloc) ≡ true) }
+    requires { RequestsChecked read × Cleared scratch.old × (keys_ascend (keys_listed read.alloc) ≡ true) × (non_zero_u64_get bucket_sectors ≡ read.head.bucket_sectors) }
     ensures { (result.read ≡ read.entry) × (scratch.new ≡ replicate 65536 0 ++ drop 65536 scratch.old) }
 {
     let freeds = Freeds {
@@ -83,7 +86,11 @@ pub fn list_freed<'a>(
         places: read.requests,
     };
     let mut sums = Sums::new(scratch);
-    sums.add_up(freeds, read.head.bucket_sectors as u64);
+    sums.add_up(freeds, bucket_sectors);
     let buckets = list_sums(&mut sums, read.alloc, buckets);
-    FreedTable { read, buckets }
+    FreedTable {
+        read,
+        bucket_sectors,
+        buckets,
+    }
 }

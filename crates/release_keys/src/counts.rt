@@ -29,7 +29,7 @@ pub fn unused_in(table: &HeldTable) -> Unused
     // A loop: in a `fold` nothing is known that bounds the totals so far, and two chains would pass over the buckets twice.
     for h in table.iter() {
         if h.is_emptied() {
-            u.lost += h.bucket_sectors as u64 - h.dirty() as u64;
+            u.lost += h.bucket_sectors.get() - h.dirty() as u64;
         } else {
             u.kept += h.freed.sectors as u64;
         }

@@ -1,6 +1,5 @@
 // Tree 14: the generation records of emptied buckets, each continuing the one that is queued before it.
-ghost use Rattle.std.specs.Prelude.{◌≡◌, true, List, map, ℕ, ◌<◌};
-ghost use Rattle.wire.specs.Keys.{Key};
+ghost use Rattle.std.specs.Prelude.{◌≡◌, true, map, ℕ};
 ghost use Rattle.wire.specs.Held.{key_in};
 ghost use Rattle.wire.specs.Kinds.{bucket_below, bucket_in_range};
 ghost use Rattle.wire.specs.declared.kinds.Bucket as kinds;
@@ -11,14 +10,13 @@ ghost use Rattle.calls.specs.Lists.{all_of, in_order};
 ghost use Rattle.calls.specs.Generations.{gen_key};
 ghost use Rattle.calls.specs.Release.{gens_queued};
 ghost use Rattle.calls.specs.Trees.{new_key, with_value};
-ghost use Rattle.gens.specs.Records.{Recorded, RecordsFound};
+ghost use Rattle.reader.specs.ListedKeys.{keys_listed};
 ghost use Rattle.change_fields.specs.FieldBytes.{keys_bytes};
 ghost use Rattle.release_keys.specs.Emptied.{emptied_row, emptied_buckets};
 ghost use Rattle.release_keys.specs.GenRecords.{next_queued};
 
 use crate::freed_buckets::EmptiedBucket;
-use gens::records;
-use reader::key;
+use gens::records::Records;
 use wire::key_types::KeyType;
 use wire::keys::{Bkey, KeyHead};
 use wire::kinds::Bucket;
@@ -36,13 +34,13 @@ fn new_record(b: Bucket) -> Bkey
     }
 }
 
-// A bucket's record before this release. The tables show what is required, here and below.
-fn old_record(s: &[u8], records: &[u32], b: Bucket) -> Bkey
-    requires { Recorded s.now records.now × (bucket_in_range b ≡ true) }
-    ensures { (gens : List Key) → RecordsFound s.now gens records.now → key_in result ≡ gen_key gens b }
+// A bucket's record before this release. The limits show the bound, here and below.
+fn old_record(records: &Records, b: Bucket) -> Bkey
+    requires { bucket_in_range b ≡ true }
+    ensures { key_in result ≡ gen_key (keys_listed records.now.gens) b }
 {
-    match records::record_of(records, b) {
-        Some(at) => key::key_at(s, at),
+    match records.record_of(b) {
+        Some(key) => key.key(),
         None => new_record(b),
     }
 }
@@ -59,25 +57,25 @@ fn with_generation(k: Bkey, b: Bucket, generation: u8) -> Bkey
 }
 
 // The record of the next emptied bucket: the last one queued is continued where it is the bucket's, and else the one before this release.
-fn next_record(s: &[u8], records: &[u32], last: Option<Bkey>, b: Bucket, generation: u8) -> Bkey
-    requires { Recorded s.now records.now × (bucket_in_range b ≡ true) }
-    ensures { (gens : List Key) → RecordsFound s.now gens records.now → key_in result ≡ next_queued gens last b generation }
+fn next_record(records: &Records, last: Option<Bkey>, b: Bucket, generation: u8) -> Bkey
+    requires { bucket_in_range b ≡ true }
+    ensures { key_in result ≡ next_queued (keys_listed records.now.gens) last b generation }
 {
     let key = match last {
         Some(key) if bpos::pos_same(key.head.pos, positions::gens_at(b)) => key,
-        _ => old_record(s, records, b),
+        _ => old_record(records, b),
     };
     with_generation(key, b, generation)
 }
 
-// The records of all emptied buckets, which ascend.
-pub fn put_gens(out: &mut Output, s: &[u8], records: &[u32], emptied: &[EmptiedBucket])
-    requires { Recorded s.now records.now × (all_of bucket_in_range (emptied_buckets emptied.now) ≡ true) × (in_order bucket_below (emptied_buckets emptied.now) ≡ true) }
-    ensures { (gens : List Key) (generation_of : kinds.Bucket → ℕ) → RecordsFound s.now gens records.now → emptied.now ≡ map (emptied_row generation_of) (emptied_buckets emptied.now) → out.new ≡ with_bytes out.old (keys_bytes 14 (gens_queued generation_of gens (emptied_buckets emptied.now))) }
+// The records of all emptied buckets, which ascend. `find_emptied` shows what is required.
+pub fn put_gens(out: &mut Output, records: &Records, emptied: &[EmptiedBucket])
+    requires { (all_of bucket_in_range (emptied_buckets emptied.now) ≡ true) × (in_order bucket_below (emptied_buckets emptied.now) ≡ true) }
+    ensures { (generation_of : kinds.Bucket → ℕ) → emptied.now ≡ map (emptied_row generation_of) (emptied_buckets emptied.now) → out.new ≡ with_bytes out.old (keys_bytes 14 (gens_queued generation_of (keys_listed records.now.gens) (emptied_buckets emptied.now))) }
 {
     let mut last = None;
     for e in emptied {
-        let key = next_record(s, records, last, e.bucket, e.generation);
+        let key = next_record(records, last, e.bucket, e.generation);
         out.put_key(Tree::BucketGens.tag(), &key);
         last = Some(key);
     }

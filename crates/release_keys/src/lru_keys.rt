@@ -1,5 +1,6 @@
 // Tree 10: a deletion at each freed bucket's old key, and its new one unless it is emptied.
 ghost use Rattle.std.specs.Prelude.{◌≡◌};
+ghost use Rattle.std.specs.Int.NonZero.{non_zero_u64_get};
 ghost use mathlib.Core.List.{flat_map};
 ghost use Rattle.wire.specs.Output.{with_bytes};
 ghost use Rattle.calls.specs.Release.{freed_buckets, released_lru};
@@ -13,13 +14,13 @@ use wire::output::Output;
 
 // The keys of one freed bucket.
 fn put_bucket_lru(out: &mut Output, h: HeldBucket)
-    ensures { out.new ≡ with_bytes out.old (keys_bytes 10 (row_lru h.entry.bucket_sectors h.entry.list.now h.entry.freed)) }
+    ensures { out.new ≡ with_bytes out.old (keys_bytes 10 (row_lru (non_zero_u64_get h.entry.bucket_sectors) h.entry.list.now h.entry.freed)) }
 {
     let dirty = h.dirty();
-    let sectors = h.bucket_sectors as u64;
-    lru::put_lru_deletion(out, h.freed.bucket, dirty, sectors);
+    lru::put_lru_deletion(out, h.freed.bucket, dirty, h.bucket_sectors);
     if !h.is_emptied() {
-        lru::put_lru_key(out, h.freed.bucket, dirty - h.freed.sectors, sectors);
+        let left = dirty - h.freed.sectors;
+        lru::put_lru_key(out, h.freed.bucket, left, h.bucket_sectors);
     }
 }
 

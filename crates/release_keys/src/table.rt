@@ -1,5 +1,6 @@
 // The table of a release: the freed buckets, before refusals 15 to 19 and after them.
-ghost use Rattle.std.specs.Prelude.{◌≡◌, ◌<◌, ◌≤◌, map};
+ghost use Rattle.std.specs.Prelude.{◌≡◌, ◌≤◌, map};
+ghost use Rattle.std.specs.Int.NonZero.{non_zero_u64_get};
 ghost use Rattle.calls.specs.Refusals.{verdict};
 ghost use Rattle.calls.specs.Release.{bucket_refusal, freed_buckets};
 ghost use Rattle.release_keys.specs.Given.{volume_in, requests_in, RequestsChecked};
@@ -9,6 +10,7 @@ use format::alloc;
 use reader::key::ListedKey;
 use reader::read_list::ReadList;
 use release_sums::requests::Freeds;
+use std::num::NonZero;
 use wire::kinds::Bucket;
 
 // A bucket of which something is freed, how many sectors of it, and the place of its alloc key, or none where it has none. A place takes four bytes, where a `ListedKey` would take 24 in each of the 1,024.
@@ -19,11 +21,13 @@ pub struct FreedBucket {
     pub place: Option<u32>,
 }
 
-// The freed buckets of a list that was read, whose requests refusals 4 and 14 passed.
+// The freed buckets of a list that was read, whose requests refusals 4 and 14 passed, and how many sectors a bucket has.
 #[derive(Clone, Copy, Drop)]
 pub struct FreedTable<'a> {
     pub read: ReadList<'a>,
+    pub bucket_sectors: NonZero<u64>,
     pub buckets: &'a [FreedBucket],
+    pub ghost same_sectors: { non_zero_u64_get bucket_sectors ≡ read.head.bucket_sectors },
     pub ghost checked: { RequestsChecked read },
     pub ghost tabled: { FreedTables read.alloc.list.now (volume_in read) (requests_in read) buckets.now },
 }
@@ -39,22 +43,20 @@ pub struct HeldTable<'a> {
 #[derive(Clone, Copy, Drop)]
 pub struct HeldBucket<'a> {
     pub list: &'a [u8],
-    pub bucket_sectors: u16,
+    pub bucket_sectors: NonZero<u64>,
     pub freed: FreedBucket,
     pub ghost held: { RowHeld list.now freed },
-    pub ghost within: { row_dirty list.now freed ≤ bucket_sectors },
-    pub ghost some_sectors: { 0 < bucket_sectors },
+    pub ghost within: { row_dirty list.now freed ≤ non_zero_u64_get bucket_sectors },
 }
 
 // Those of them that are left.
 #[derive(Drop)]
 pub struct HeldLeft<'a> {
     pub list: &'a [u8],
-    pub bucket_sectors: u16,
+    pub bucket_sectors: NonZero<u64>,
     pub buckets: &'a [FreedBucket],
     pub ghost held: { RowsHeld list.now buckets.now },
-    pub ghost within: { RowsWithin list.now bucket_sectors buckets.now },
-    pub ghost some_sectors: { 0 < bucket_sectors },
+    pub ghost within: { RowsWithin list.now (non_zero_u64_get bucket_sectors) buckets.now },
 }
 
 impl<'a> FreedTable<'a> {
@@ -81,7 +83,7 @@ impl<'a> HeldTable<'a> {
         let table = &self.table;
         HeldLeft {
             list: table.read.alloc.list,
-            bucket_sectors: table.read.head.bucket_sectors,
+            bucket_sectors: table.bucket_sectors,
             buckets: table.buckets,
         }
     }

@@ -1,9 +1,11 @@
 // The released pieces: field 66.
 ghost use Rattle.std.specs.Prelude.{◌≡◌, ◌+◌, ◌<◌, ◌≤◌, length, take, drop};
+ghost use Rattle.std.specs.Int.NonZero.{non_zero_u64_get};
 ghost use Rattle.calls.specs.CallList.{freed_of};
 ghost use Rattle.calls.specs.Release.{freed_ok};
 ghost use Rattle.release_sums.specs.Freeds.{freed_held, Requested};
 
+use std::num::NonZero;
 use wire::kinds::DeviceSector;
 use wire::{kinds, le};
 
@@ -39,14 +41,14 @@ fn read_freed(s: &[u8], at: usize) -> Freed
     }
 }
 
-// Refusal 14 at one piece. Refusal 4 and two bytes of a field show the bounds, here and below.
+// Refusal 14 at one piece. Two bytes of a field show the bound, here and below.
 #[tactic(auto, unfolding(calls::specs::Release::freed_ok))]
-fn freed_ok(r: Freed, sectors: u64) -> bool
-    requires { (0 < sectors) × (sectors < 65536) }
-    ensures { result ≡ freed_ok sectors (freed_held r) }
+fn freed_ok(r: Freed, sectors: NonZero<u64>) -> bool
+    requires { non_zero_u64_get sectors < 65536 }
+    ensures { result ≡ freed_ok (non_zero_u64_get sectors) (freed_held r) }
 {
     (1..=128).contains(&r.sectors)
-        && kinds::offset_in(r.first, sectors) + r.sectors as u64 <= sectors
+        && kinds::offset_in(r.first, sectors) + r.sectors as u64 <= sectors.get()
         && kinds::bucket_in_range(kinds::bucket_of(r.first, sectors))
 }
 
@@ -62,9 +64,9 @@ impl<'a> Freeds<'a> {
     }
 
     // Refusal 14: whether every piece lies within its bucket.
-    pub fn all_ok(self, sectors: u64) -> bool
-        requires { (0 < sectors) × (sectors < 65536) }
-        ensures { result ≡ all_of (freed_ok sectors) (freeds_of self.entry) }
+    pub fn all_ok(self, sectors: NonZero<u64>) -> bool
+        requires { non_zero_u64_get sectors < 65536 }
+        ensures { result ≡ all_of (freed_ok (non_zero_u64_get sectors)) (freeds_of self.entry) }
     {
         self.iter().all(|r| freed_ok(r, sectors))
     }

@@ -3,6 +3,7 @@ ghost use Rattle.std.specs.Prelude.{◌≡◌, ◌+◌, ◌≤◌, ◌++◌, len
 ghost use Rattle.release_sums.specs.Summing.{Cleared, Marked};
 
 use crate::requests::Freeds;
+use std::num::NonZero;
 use wire::kinds;
 use wire::kinds::Bucket;
 
@@ -34,7 +35,8 @@ pub fn clear(sums: &mut [u32])
 }
 
 impl<'a> Sums<'a> {
-    ghost use Rattle.std.specs.Prelude.{true, ◌<◌};
+    ghost use Rattle.std.specs.Prelude.{true};
+    ghost use Rattle.std.specs.Int.NonZero.{non_zero_u64_get};
     ghost use Rattle.calls.specs.Lists.{all_of};
     ghost use Rattle.calls.specs.Release.{freed_ok};
     ghost use Rattle.release_sums.specs.FreedsOf.{freeds_of};
@@ -54,11 +56,11 @@ impl<'a> Sums<'a> {
         }
     }
 
-    // Adds each piece's sectors to the sum of its bucket, and marks its group. Refusals 4 and 14, the limits and `clear` show what is required.
-    pub fn add_up(&mut self, freeds: Freeds, sectors: u64)
-        requires { (0 < sectors) × (length (freeds_of freeds) ≤ 1024) × (all_of (freed_ok sectors) (freeds_of freeds) ≡ true) × Cleared self.old.sums.now × (self.old.next ≡ 0) }
+    // Adds each piece's sectors to the sum of its bucket, and marks its group. Refusal 14, the limits and `clear` show what is required.
+    pub fn add_up(&mut self, freeds: Freeds, sectors: NonZero<u64>)
+        requires { (length (freeds_of freeds) ≤ 1024) × (all_of (freed_ok (non_zero_u64_get sectors)) (freeds_of freeds) ≡ true) × Cleared self.old.sums.now × (self.old.next ≡ 0) }
         ensures same_reference { self.new.sums.ghost_name ≡ self.old.sums.ghost_name }
-        ensures summed { Summed sectors (freeds_of freeds.entry) self.new.sums.now × (drop 65536 self.new.sums.now ≡ drop 65536 self.old.sums.now) × (self.new.next ≡ 0) }
+        ensures summed { Summed (non_zero_u64_get sectors) (freeds_of freeds.entry) self.new.sums.now × (drop 65536 self.new.sums.now ≡ drop 65536 self.old.sums.now) × (self.new.next ≡ 0) }
     {
         for r in freeds.iter() {
             let b = kinds::bucket_of(r.first, sectors).0 as usize;

@@ -7,18 +7,19 @@ use Rattle.release_keys.proofs.allocs.list_freed.Goals as goal
 pub list_sums-buckets-requires : goal.list_sums-buckets-requires
 list_sums-buckets-requires c =
     let p = c.requires.0 in
-    let m = c.add_up.ensures.summed in
     let g = c.args.read in
+    let m = rw c.requires.3 at c.add_up.ensures.summed in
     let few = sums-few (volume_in g) (requests_in g) m.0 p.checked in
     rw m.2 (omega (arith, few, p.requested.count, p.few), sums-up (volume_in g) (requests_in g) m.0 p.checked, c.requires.2)
 
 pub invariant_of-result : goal.invariant_of-result
 invariant_of-result c =
     let p = c.requires.0 in
-    let m = c.add_up.ensures.summed in
     let g = c.args.read in
+    let m = rw c.requires.3 at c.add_up.ensures.summed in
     let l = c.list_sums-buckets.ensures.listed in
     record {
+      same_sectors = c.requires.3;
       checked = p;
       tabled = tables-listed (volume_in g) (requests_in g) m.0 p.checked g.alloc.list.now _ (l.0 ∙ ap (λ n. sums_from n c.add_up.new.self.sums.now) m.2) l.1;
     }

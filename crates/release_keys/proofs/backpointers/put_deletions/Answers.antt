@@ -1,4 +1,4 @@
-use Rattle.std.proofs.Common.{◌∙◌, ap, sym, map}
+use Rattle.std.proofs.Common.{arith, ◌∙◌, ap, sym, map}
 use Rattle.wire.specs.Encode.{key_field}
 use Rattle.wire.specs.Output.{with_bytes}
 use Rattle.wire.specs.Positions.{backpointer_at}
@@ -23,7 +23,7 @@ loop-r-init c =
 pub backpointer_at-requires : goal.backpointer_at-requires
 backpointer_at-requires c =
     let n = c.args.table.now.read.head.bucket_sectors in
-    sector-low (first-within n c.loop-r.invariant.0 c.in-Some.ensures.steps) c.args.table.now.checked.some-sectors c.args.table.now.checked.small
+    sector-low (first-within n c.loop-r.invariant.0 c.in-Some.ensures.steps) (omega (arith, c.args.table.now.bucket_sectors.ok, c.args.table.now.same_sectors)) c.args.table.now.checked.small
 
 pub loop-r-preserved : goal.loop-r-preserved
 loop-r-preserved c =

@@ -1,4 +1,5 @@
 use Rattle.std.proofs.Common.{◌-◌, sym}
+use Rattle.std.specs.Int.NonZero.{non_zero_u64_get}
 use Rattle.wire.proofs.AppendLaws.{with-with}
 use Rattle.calls.specs.Lru.{lru_keys, lru_deletions}
 use Rattle.release_keys.specs.Tables.{row_dirty, row_emptied}
@@ -13,7 +14,7 @@ returns-then-not-is_emptied c =
       c.put_lru_key.ensures,
       c.put_lru_deletion.ensures,
       c.dirty-dirty.ensures,
-      lru-left (lru_deletions h.bucket_sectors h.freed.bucket d) (lru_keys h.bucket_sectors h.freed.bucket (d - h.freed.sectors)) (row_emptied h.list.now h.freed) (sym c.if-not-is_emptied.ensures),
+      lru-left (lru_deletions (non_zero_u64_get h.bucket_sectors) h.freed.bucket d) (lru_keys (non_zero_u64_get h.bucket_sectors) h.freed.bucket (d - h.freed.sectors)) (row_emptied h.list.now h.freed) (sym c.if-not-is_emptied.ensures),
       with-with,
     )
 
@@ -24,5 +25,5 @@ returns-else-not-is_emptied c =
     rw (
       c.put_lru_deletion.ensures,
       c.dirty-dirty.ensures,
-      lru-emptied (lru_deletions h.bucket_sectors h.freed.bucket d) (lru_keys h.bucket_sectors h.freed.bucket (d - h.freed.sectors)) (row_emptied h.list.now h.freed) (sym c.if-not-is_emptied.ensures),
+      lru-emptied (lru_deletions (non_zero_u64_get h.bucket_sectors) h.freed.bucket d) (lru_keys (non_zero_u64_get h.bucket_sectors) h.freed.bucket (d - h.freed.sectors)) (row_emptied h.list.now h.freed) (sym c.if-not-is_emptied.ensures),
     )

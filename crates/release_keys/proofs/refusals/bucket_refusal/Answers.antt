@@ -1,6 +1,7 @@
 use Rattle.std.proofs.Common.{◌≤◌, ◌∙◌, ap, sym, arith, length}
 use Rattle.format.specs.Packing.{get}
 use Rattle.format.specs.AllocV4.{dirty_sectors}
+use Rattle.calls.specs.Generations.{gen_short}
 use Rattle.reader.specs.KeyHere.{key_here}
 use Rattle.release_keys.proofs.RefusalLaws.{row-15, row-16, row-17, row-18, row-19, row-room, row-kept}
 use Rattle.release_keys.proofs.refusals.bucket_refusal.Goals as goal
@@ -34,7 +35,7 @@ returns-then-gen_short c =
     let e = c.value-value.ensures in
     let long : 56 ≤ length (key_here c.args.read.now.alloc.list.now c.in-Some.at).value = omega (arith, ap length e) in
     let d = c.dirty_sectors-dirty.ensures ∙ ap (get dirty_sectors) e in
-    sym (row-19 c.requires.0 c.in-Some.at c.in-Some.is long (omega (arith, d)) (sym d ∙ c.if-dirty-f-2.true) (sym (c.gen_short.ensures _ c.requires.1) ∙ c.if-gen_short.true))
+    sym (row-19 c.requires.0 c.in-Some.at c.in-Some.is long (omega (arith, d)) (sym d ∙ c.if-dirty-f-2.true) (sym (c.gen_short.ensures ∙ ap (λ gens. gen_short gens c.args.f.bucket) c.requires.1) ∙ c.if-gen_short.true))
 
 pub returns : goal.returns
 returns c =
@@ -43,7 +44,7 @@ returns c =
     let d = c.dirty_sectors-dirty.ensures ∙ ap (get dirty_sectors) e in
     elim c.else-dirty-f-2.branch [
       | else-dirty-f-2-via-then-dirty-f-2+else-gen_short w ↦
-          sym (row-room c.requires.0 c.in-Some.at c.in-Some.is long (omega (arith, d)) (sym d ∙ w.if-dirty-f-2.true) (sym (w.gen_short.ensures _ c.requires.1) ∙ w.if-gen_short.false))
+          sym (row-room c.requires.0 c.in-Some.at c.in-Some.is long (omega (arith, d)) (sym d ∙ w.if-dirty-f-2.true) (sym (w.gen_short.ensures ∙ ap (λ gens. gen_short gens c.args.f.bucket) c.requires.1) ∙ w.if-gen_short.false))
       | else-dirty-f-2-via-else-dirty-f-2 w ↦
           sym (row-kept c.requires.0 c.in-Some.at c.in-Some.is long (omega (arith, d)) (omega (arith, d)) (λ z. w.if-dirty-f-2.false (d ∙ z)))
     ]
