@@ -1,15 +1,14 @@
--- The bucket, or the piece, at the place with an index, and those after it.
+-- The bucket at the place with an index, and those after it.
 use mathlib.Core.Path.{◌≡◌, ap, sym, ◌∙◌}
 use mathlib.Core.List.{List, ◌∷◌}
 use Prim.Native.Nat.{ℕ, ◌+◌, ◌<◌}
 use native.Mathlib.Omega.{arith}
-use lib.ListN.{length, get_or, take, drop}
+use lib.ListN.{length, get_or, drop}
 use Rattle.wire.specs.Kinds.{bucket_read, no_bucket}
 use Rattle.wire.specs.declared.kinds.Bucket.{Bucket}
 use Rattle.wire.proofs.NumberLaws.{le-take}
 use Rattle.wire.proofs.OutputLaws.{drop-next}
-use Rattle.calls.specs.CallList.{Piece, piece_of}
-use Rattle.reader.specs.Located.{BucketsAt, PiecesAt, no_piece}
+use Rattle.reader.specs.Located.{BucketsAt}
 
 pub buckets-next :
     {s offsets : List ℕ} {bs : List Bucket} (f : BucketsAt s offsets bs) (i : ℕ) → i < length offsets
@@ -18,9 +17,3 @@ buckets-next {s} {offsets} {bs} f i h =
     let a = f.at i h in
     let e : bucket_read (drop (get_or offsets i 0) s) ≡ get_or bs i no_bucket = rw (← le-take 4 4 (drop (get_or offsets i 0) s) (omega arith)) a.is in
     drop-next no_bucket bs i (omega (arith, f.count)) ∙ ap (λ (b : Bucket). b ∷ drop (i + 1) bs) (sym e)
-
-pub pieces-next :
-    {s offsets : List ℕ} {ps : List Piece} (f : PiecesAt s offsets ps) (i : ℕ) → i < length offsets
-    → drop i ps ≡ piece_of (take 13 (drop (get_or offsets i 0) s)) ∷ drop (i + 1) ps
-pieces-next {s} {offsets} {ps} f i h =
-    drop-next no_piece ps i (omega (arith, f.count)) ∙ ap (λ (p : Piece). p ∷ drop (i + 1) ps) (sym (f.at i h).is)
