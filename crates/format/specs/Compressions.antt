@@ -1,5 +1,5 @@
 -- The compression kinds that a piece may have, as the Linux header's BCH_COMPRESSION_TYPE has them.
-use Rattle.std.specs.Prelude.{◌≡◌, ℕ, Bool, false, ◌&&◌, ◌||◌, leb, eqb, Option, Some, None}
+use Rattle.std.specs.Prelude.{◌≡◌, ℕ, false, ◌&&◌, ◌||◌, leb, eqb, Option, Some, None}
 use Rattle.format.specs.declared.compression.Compression.{Compression}
 use Rattle.format.specs.declared.compression.Compression.TheVariants.{Off, Gzip, Lz4, Zstd, Incompressible}
 

@@ -52,8 +52,3 @@ record_entry table b = record_place (get_or table (b.0 / 256) 0)
 pub record RecordsFound (s : List ℕ) (gens : List Key) (table : List ℕ) : Type 0 where
   pub stand : RecordsStand s table
   pub is : (b : Bucket) → bucket_in_range b ≡ true → record_at s (record_entry table b) ≡ gen_record gens b
-
--- it finds those of some tree
-pub record Recorded (s table : List ℕ) : Type 0 where
-  pub gens : List Key
-  pub are : RecordsFound s gens table

@@ -21,7 +21,8 @@ pub fn dirty_counts(plan: &Plan) -> [u32; 1024]
     let mut dirty = [0u32; 1024];
     // By index: what is known of a piece and of its slot is known by their index.
     for (i, slot) in plan.slots.iter().enumerate() {
-        dirty[slot.index as usize] += plan.pieces.get(i).stored as u32;
+        let index = slot.index as usize;
+        dirty[index] += plan.pieces.get(i).stored as u32;
     }
     dirty
 }

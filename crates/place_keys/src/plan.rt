@@ -83,7 +83,7 @@ impl<'a> Iterator for PlacedPieces<'a> {
 
     // The next piece, if one is left.
     fn next(&mut self) -> Option<Placed> {
-        // By index: that the slots are those of the pieces is known of whole lists, and two that are cut from the front would each need the index too.
+        // By index: what a plan says of its pieces and of their slots it says of whole lists, and of two lists cut from the front it would have to be said anew.
         if self.next >= self.plan.pieces.len() {
             return None;
         }

@@ -29,7 +29,6 @@ pub mod TableLaws
 pub mod TagLaws
 pub mod VolumeLaws
 pub mod PartsLaws
-pub mod NextLaws
 pub mod CheckedLaws
 pub mod SortedBodyLaws
 pub mod LaidLaws

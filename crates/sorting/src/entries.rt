@@ -1,6 +1,6 @@
 // Where the keys of a section stand: in a volume, and queued in a change list. A reserved bucket is a key at inode 0 and its number.
 ghost use Rattle.std.specs.Prelude.{◌≡◌, ◌+◌, ◌≤◌, ◌<◌, length, get_or};
-ghost use Rattle.sorting.specs.Entries.{sections, is_bucket, is_entry};
+ghost use Rattle.sorting.specs.Entries.{is_bucket, is_entry};
 ghost use Rattle.sorting.specs.EntryPlaces.{EntryAt, entry_from};
 
 use crate::places;
@@ -24,14 +24,6 @@ pub const SECTIONS: [u8; 7] = [
     Tree::BucketGens as u8,
     BUCKETS,
 ];
-
-// The section at an index of them. The caller's loop shows the bound.
-pub fn section_at(i: usize) -> u8
-    requires { i < 7 }
-    ensures { result ≡ get_or sections i 0 }
-{
-    SECTIONS[i]
-}
 
 // Whether a field is a bucket that is reserved, in a volume or by a change list, or unreserved.
 #[tactic(auto, unfolding(crate::specs::Entries::is_bucket, crate::specs::Places::section_of))]

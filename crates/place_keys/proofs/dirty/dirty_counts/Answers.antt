@@ -10,13 +10,13 @@ loop-i-init c = counting-first (omega (arith, c.args.plan.now.planned.short)) (Î
 pub get-requires : goal.get-requires
 get-requires c = omega (arith, c.loop-i-test.true, slots-many c.args.plan.now.planned)
 
-pub bounds-dirty-slot : goal.bounds-dirty-slot
-bounds-dirty-slot c =
+pub bounds-dirty-index : goal.bounds-dirty-index
+bounds-dirty-index c =
     let p = c.args.plan.now.planned in
     omega (arith, p.short, index-low p c.loop-i.i (omega (arith, c.loop-i-test.true, slots-many p)) _ refl)
 
-pub bounds-dirty-slot-in-loop-i : goal.bounds-dirty-slot-in-loop-i
-bounds-dirty-slot-in-loop-i c =
+pub bounds-dirty-index-in-loop-i : goal.bounds-dirty-index-in-loop-i
+bounds-dirty-index-in-loop-i c =
     let p = c.args.plan.now.planned in
     omega (arith, p.short, index-low p c.loop-i.i (omega (arith, c.loop-i-test.true, slots-many p)) _ refl)
 
