@@ -1,17 +1,14 @@
 // The generation of a bucket.
-ghost use Rattle.std.specs.Prelude.{◌≡◌, true, List};
-ghost use Rattle.wire.specs.Keys.{Key};
+ghost use Rattle.std.specs.Prelude.{◌≡◌, true};
 ghost use Rattle.wire.specs.Kinds.{bucket_in_range};
 ghost use Rattle.calls.specs.Generations.{found_in, or_zero, gen_lookup, gen_of, gen_short};
 ghost use Rattle.gens.specs.Lookups.{lookup_is};
-ghost use Rattle.gens.specs.Records.{record_at, record_listed, RecordStands, Recorded, RecordsFound};
+ghost use Rattle.gens.specs.Records.{record_listed};
 
-use crate::records;
 use crate::records::Records;
-use reader::key;
 use reader::key::ListedKey;
 use wire::kinds::Bucket;
-use wire::{le, positions};
+use wire::positions;
 
 // Why tree 14 has no generation of a bucket.
 #[derive(Clone, Copy, PartialEq, Eq, Debug, Drop)]
@@ -20,46 +17,6 @@ pub enum NoGeneration {
     NoRecord,
     // The record is too short for its byte.
     TooShort,
-}
-
-// Looks a bucket up in the record at a place, if there is one. Whoever finds the place shows that a record stands there, here and below.
-#[tactic(auto, unfolding(format::specs::Gens::gen_in))]
-fn gen_at(s: &[u8], place: Option<usize>, b: Bucket) -> Result<u8, NoGeneration>
-    requires { RecordStands s.now place }
-    ensures { lookup_is result ≡ found_in b (record_at s.now place) }
-{
-    let at = place.ok_or(NoGeneration::NoRecord)?;
-    let i = positions::gens_byte(b);
-    if key::value_len(s, at) <= i {
-        return Err(NoGeneration::TooShort);
-    }
-    Ok(le::le8(s, key::value_at(s, at) + i))
-}
-
-// Looks a bucket up. `find_records` makes the table, and the limits show the bound, here and below.
-pub fn find_gen(s: &[u8], table: &[u32], b: Bucket) -> Result<u8, NoGeneration>
-    requires { Recorded s.now table.now × (bucket_in_range b ≡ true) }
-    ensures { (gens : List Key) → RecordsFound s.now gens table.now → lookup_is result ≡ gen_lookup gens b }
-{
-    gen_at(s, records::record_of(table, b), b)
-}
-
-// Its generation, and 0 where none is found.
-#[tactic(auto, unfolding(calls::specs::Generations::gen_of))]
-pub fn bucket_gen(s: &[u8], table: &[u32], b: Bucket) -> u8
-    requires { Recorded s.now table.now × (bucket_in_range b ≡ true) }
-    ensures { (gens : List Key) → RecordsFound s.now gens table.now → result ≡ gen_of gens b }
-{
-    find_gen(s, table, b).unwrap_or(0)
-}
-
-// Whether its record is too short.
-#[tactic(auto, unfolding(calls::specs::Generations::gen_short))]
-pub fn gen_short(s: &[u8], table: &[u32], b: Bucket) -> bool
-    requires { Recorded s.now table.now × (bucket_in_range b ≡ true) }
-    ensures { (gens : List Key) → RecordsFound s.now gens table.now → result ≡ gen_short gens b }
-{
-    matches!(find_gen(s, table, b), Err(NoGeneration::TooShort))
 }
 
 // Looks a bucket up in its record, if there is one.

@@ -1,10 +1,9 @@
 // The generation records: a table of where each stands.
-ghost use Rattle.std.specs.Prelude.{◌≡◌, true, ◌/◌, ◌<◌, eqb, length, replicate};
+ghost use Rattle.std.specs.Prelude.{◌≡◌, true, eqb, replicate};
 ghost use Rattle.wire.specs.Kinds.{bucket_in_range};
 ghost use Rattle.reader.specs.KeyHere.{keys_here};
 ghost use Rattle.reader.specs.ListedKeys.{key_listed};
-ghost use Rattle.reader.specs.Located.{KeysAt};
-ghost use Rattle.gens.specs.Records.{record_noted, record_entry, RecordsFound};
+ghost use Rattle.gens.specs.Records.{record_noted, RecordsFound};
 
 use reader::key::ListedKey;
 use reader::listed_keys::Keys;
@@ -46,31 +45,6 @@ fn fill_table(gens: Keys, table: &mut [u32; 256])
 {
     for key in gens.iter().rev() {
         note_record(key, table);
-    }
-}
-
-// Fills a table of zeros with the records among the keys at some places. The reader shows where the keys stand.
-pub fn find_records(s: &[u8], gens: &[u32], table: &mut [u32; 256])
-    requires { KeysAt s.now gens.now (keys_here s.now gens.now) × (table.old ≡ replicate 256 0) }
-    ensures { RecordsFound s.now (keys_here s.now gens.now) table.new }
-{
-    fill_table(
-        Keys {
-            list: s,
-            places: gens,
-        },
-        table,
-    );
-}
-
-// The place of a bucket's record, as the table has it. `find_records` makes the table, and the limits show the bound.
-pub fn record_of(table: &[u32], b: Bucket) -> Option<usize>
-    requires { (length table.now ≡ 256) × (bucket_in_range b ≡ true) }
-    ensures { result ≡ record_entry table.now b }
-{
-    match table[(b.0 / 256) as usize] {
-        0 => None,
-        at => Some(at as usize),
     }
 }
 

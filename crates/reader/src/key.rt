@@ -1,8 +1,8 @@
-// A key at a place of a list, and each part of it. The places that the reader lists show that a whole key stands there.
-ghost use Rattle.std.specs.Prelude.{◌≡◌, length};
+// A key of a list, and each part of it.
+ghost use Rattle.std.specs.Prelude.{◌≡◌};
 ghost use Rattle.wire.specs.Held.{key_in};
 ghost use Rattle.wire.specs.Positions.{bucket_in};
-ghost use Rattle.reader.specs.KeyHere.{body_len, value_at, key_here, Whole};
+ghost use Rattle.reader.specs.KeyHere.{body_len, Whole};
 
 use wire::bpos::Bpos;
 use wire::keys::Bkey;
@@ -74,73 +74,4 @@ impl<'a> ListedKey<'a> {
     {
         keys::read_key(self.list, self.at as usize, self.body_len())
     }
-}
-
-// How many bytes its body has.
-fn body_len(s: &[u8], at: usize) -> usize
-    requires { Whole s.now at }
-    ensures { result ≡ body_len s.now at }
-{
-    fields::len_at(s, at)
-}
-
-// The whole key.
-#[tactic(auto, unfolding(crate::specs::KeyHere::key_here))]
-pub fn key_at(s: &[u8], at: usize) -> Bkey
-    requires { Whole s.now at }
-    ensures { key_in result ≡ key_here s.now at }
-{
-    keys::read_key(s, at, body_len(s, at))
-}
-
-// Its type.
-#[tactic(auto, using(crate::proofs::KeyHereLaws::key_parts))]
-pub fn type_at(s: &[u8], at: usize) -> u8
-    requires { Whole s.now at }
-    ensures { result ≡ (key_here s.now at).type }
-{
-    keys::type_at(s, at)
-}
-
-// Its size.
-#[tactic(auto, using(crate::proofs::KeyHereLaws::key_parts))]
-pub fn size_at(s: &[u8], at: usize) -> u32
-    requires { Whole s.now at }
-    ensures { result ≡ (key_here s.now at).size }
-{
-    keys::size_at(s, at)
-}
-
-// Its position.
-#[tactic(auto, using(crate::proofs::KeyHereLaws::key_parts))]
-pub fn pos_at(s: &[u8], at: usize) -> Bpos
-    requires { Whole s.now at }
-    ensures { result ≡ (key_here s.now at).pos }
-{
-    keys::pos_at(s, at)
-}
-
-// The bucket that its position names.
-pub fn bucket_at(s: &[u8], at: usize) -> Bucket
-    requires { Whole s.now at }
-    ensures { result ≡ bucket_in (key_here s.now at).pos }
-{
-    positions::bucket_in(pos_at(s, at))
-}
-
-// How many bytes its value has.
-#[tactic(auto, using(crate::proofs::KeyHereLaws::key_parts))]
-pub fn value_len(s: &[u8], at: usize) -> usize
-    requires { Whole s.now at }
-    ensures { result ≡ length (key_here s.now at).value }
-{
-    body_len(s, at) - 37
-}
-
-// Where its value starts.
-pub fn value_at(s: &[u8], at: usize) -> usize
-    requires { Whole s.now at }
-    ensures { result ≡ value_at at }
-{
-    at + 37
 }
