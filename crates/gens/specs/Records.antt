@@ -29,16 +29,6 @@ abbrev pub record_listed : Maybe ListedKey → Option Key
 record_listed None = none
 record_listed (Some k) = some (key_listed k)
 
--- where there is a place, a key stands there
-abbrev pub RecordStands : List ℕ → Maybe ℕ → Type 0
-RecordStands s None = Unit {0}
-RecordStands s (Some at) = Whole s at
-
--- it is that of the record that holds a bucket's generation
-pub record RecordIs (s : List ℕ) (gens : List Key) (b : Bucket) (at : Maybe ℕ) : Type 0 where
-  pub stands : RecordStands s at
-  pub is : record_at s at ≡ gen_record gens b
-
 -- each entry of a table is the place of a whole key, or 0
 pub record RecordsStand (s table : List ℕ) : Type 0 where
   pub count : length table ≡ 256

@@ -1,5 +1,5 @@
 // The generation records: a table of where each stands.
-ghost use Rattle.std.specs.Prelude.{◌≡◌, true, ◌/◌, ◌<◌, eqb, replicate};
+ghost use Rattle.std.specs.Prelude.{◌≡◌, true, eqb, replicate};
 ghost use Rattle.wire.specs.Kinds.{bucket_in_range};
 ghost use Rattle.reader.specs.KeyHere.{keys_here};
 ghost use Rattle.reader.specs.ListedKeys.{key_listed};

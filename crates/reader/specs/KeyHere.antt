@@ -7,10 +7,6 @@ use Rattle.wire.specs.Keys.{Key, key_of}
 abbrev pub body_len : List ℕ → ℕ → ℕ
 body_len s at = le 2 (drop (at - 2) s)
 
--- where its value starts
-abbrev pub value_at : ℕ → ℕ
-value_at at = at + 37
-
 -- the key whose body starts at a place
 unfoldable pub key_here : List ℕ → ℕ → Key
 key_here s at = key_of (take (body_len s at) (drop at s))

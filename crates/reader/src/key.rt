@@ -1,8 +1,8 @@
-// A key at a place of a list, and each part of it. The places that the reader lists show that a whole key stands there.
-ghost use Rattle.std.specs.Prelude.{◌≡◌, length};
+// A key of a list, and each part of it.
+ghost use Rattle.std.specs.Prelude.{◌≡◌};
 ghost use Rattle.wire.specs.Held.{key_in};
 ghost use Rattle.wire.specs.Positions.{bucket_in};
-ghost use Rattle.reader.specs.KeyHere.{body_len, value_at, key_here, Whole};
+ghost use Rattle.reader.specs.KeyHere.{body_len, Whole};
 
 use wire::bpos::Bpos;
 use wire::keys::Bkey;
