@@ -1,4 +1,4 @@
--- FORMAT.md, "Field 1": the roots, by the id of their trees, and a bit for each.
+-- FORMAT.md, "Call list": the roots of field 1, by the id of their trees, and a bit for each.
 use Rattle.std.specs.Prelude.{◌≡◌, Bool, false, ◌||◌, cond, ℕ, ◌+◌, ◌/◌, ◌%◌, ◌^◌, Option, Some, None, eqb}
 use Rattle.calls.specs.Apply.{root_bit}
 use Rattle.reader.specs.declared.roots.Root.{Root}
