@@ -11,17 +11,18 @@ use Rattle.calls.specs.Pieces.{next_fit}
 use Rattle.next_fit.specs.Fit.{slot_in, slots_in}
 use Rattle.next_fit.specs.declared.slot.Slot.{Slot}
 use Rattle.next_fit.specs.declared.slot.OpenBucket.{OpenBucket}
-use Rattle.next_fit.proofs.NextFitLaws.{fit_next, fit-high, fit_none}
+use Rattle.next_fit.proofs.NextFitLaws.{fit_next, fit-high, fit-used, fit_none}
 
 -- The first `at` of the pieces with these sectors are laid out: c is open after them, ts has their slots, and the others are left.
 pub record LaidUpTo (B : ℕ) (all : List ℕ) (at : ℕ) (left : List ℕ) (c : OpenBucket) (ts : List Slot) : Type 0 where
   pub count : at + length left ≡ length all
   pub slots : slots_in (take at ts) ++ next_fit B c.index c.used left ≡ next_fit B 0 0 all
   pub below : c.index ≤ at
+  pub short : c.used < 65536
 
 pub laid-first : (B : ℕ) (all left : List ℕ) (ts : List Slot) → left ≡ all → LaidUpTo B all 0 left (record { index = 0; used = 0 }) ts
 unfolding slots_in
-laid-first B all left ts e = record { count = omega (arith, ap length e); slots = ap (next_fit B 0 0) e; below = omega arith }
+laid-first B all left ts e = record { count = omega (arith, ap length e); slots = ap (next_fit B 0 0) e; below = omega arith; short = omega arith }
 
 -- a table's front with one slot more
 slots-put : (ts : List Slot) (i : ℕ) (t : Slot) → i < length ts → slots_in (take (i + 1) (set ts i t)) ≡ slots_in (take i ts) ++ (slot_in t ∷ [])
@@ -30,15 +31,16 @@ slots-put ts i t l = rw (add-one, take-suc-set ts i t l) (map-append slot_in (ta
 
 module _ {B at : ℕ} {all left : List ℕ} {c : OpenBucket} {ts : List Slot} (d : LaidUpTo B all at left c ts) where
   -- by the slot that next fit gives the next piece
-  pub laid_next : (z : ℕ) (rest : List ℕ) (t : Slot) → left ≡ z ∷ rest → length all ≤ length ts → next_fit B c.index c.used (z ∷ []) ≡ slot_in t ∷ []
+  pub laid_next : (z : ℕ) (rest : List ℕ) (t : Slot) → left ≡ z ∷ rest → length all ≤ length ts → next_fit B c.index c.used (z ∷ []) ≡ slot_in t ∷ [] → z < 65536 → B < 65536
       → LaidUpTo B all (at + 1) rest (record { index = t.index; used = t.offset + z }) (set ts at t)
-  laid_next z rest t f k e =
+  laid_next z rest t f k e h b =
       let more = next_fit B t.index (t.offset + z) rest in
       let on : next_fit B c.index c.used left ≡ slot_in t ∷ more = rw f (fit_next B c.index c.used z (slot_in t) e rest) in
       record {
         count = omega (arith, d.count, ap length f);
         slots = rw (slots-put ts at t (omega (arith, d.count, ap length f, k)), append_snoc (slots_in (take at ts)) (slot_in t) more, ← on) d.slots;
         below = omega (arith, fit-high B c.index c.used z (slot_in t) e, d.below);
+        short = fit-used B c.index c.used z (slot_in t) e h b;
       }
 
   -- at the end all are

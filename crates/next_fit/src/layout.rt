@@ -1,28 +1,62 @@
 // The layout of pieces: the slot of each, in a table, and how many buckets they need.
-ghost use Rattle.std.specs.Prelude.{◌≡◌, ◌≤◌, map, length};
+ghost use Rattle.std.specs.Prelude.{◌≡◌, ◌<◌, ◌≤◌, map, length, take};
 ghost use Rattle.calls.specs.Pieces.{next_fit, buckets_needed};
+ghost use Rattle.reader.specs.Pieces.{piece_in};
 ghost use Rattle.reader.specs.PieceLists.{pieces_of};
 ghost use Rattle.next_fit.specs.Fit.{slots_in};
 
 use crate::slot::{OpenBucket, Slot};
+use reader::piece::Piece;
 use reader::pieces::Pieces;
 
-// The slots of the pieces, each by next fit, at the front of a table. Refusal 3 shows that the pieces are few.
-pub fn lay_out<'a>(pieces: &Pieces, bucket: u16, slots: &'a mut [Slot]) -> &'a [Slot]
-    requires { (length (pieces_of pieces.now) ≤ 1024) × (length (pieces_of pieces.now) ≤ length slots.old) }
-    ensures { slots_in result.now ≡ next_fit bucket 0 0 (map (λ p. p.stored) (pieces_of pieces.now)) }
+// The slots of the pieces that are lent, each by next fit, at the front of a table.
+pub fn layout<'a>(pieces: &[Piece], bucket: u64, slots: &'a mut [Slot]) -> &'a [Slot]
+    requires { (length pieces.now ≤ 1024) × (length pieces.now ≤ length slots.old) × (bucket < 65536) }
+    ensures { slots_in result.now ≡ next_fit bucket 0 0 (map (λ p. p.stored) pieces.now) }
 {
     let mut open = OpenBucket { index: 0, used: 0 };
     // By index: nothing is known of what a slice holds after `iter_mut().zip(..)`.
     for (i, p) in pieces.iter().enumerate() {
-        let slot = open.next_fit(p.stored, bucket);
-        slots[i] = slot;
+        let stored = p.stored as u64;
+        let fit = open.next_fit(stored, bucket);
+        slots[i] = Slot {
+            index: fit.index as u16,
+            offset: fit.offset as u16,
+        };
         open = OpenBucket {
-            index: slot.index,
-            used: slot.offset + p.stored,
+            index: fit.index,
+            used: fit.offset + stored,
         };
     }
     &slots[..pieces.len()]
+}
+
+// The pieces of a call list as records, at the front of an array. Refusal 3 shows that they are few, here and for `lay_out`.
+fn read_pieces(pieces: &Pieces) -> [Piece; 1024]
+    requires { length (pieces_of pieces.now) ≤ 1024 }
+    ensures { map piece_in (take (length (pieces_of pieces.now)) result) ≡ pieces_of pieces.now }
+{
+    let none = Piece {
+        file: 0,
+        stored: 0,
+        kind: 0,
+        checksum: 0,
+    };
+    let mut records = [none; 1024];
+    // By index: nothing is known of what an array holds after `iter_mut().zip(..)`.
+    for (i, p) in pieces.iter().enumerate() {
+        records[i] = p;
+    }
+    records
+}
+
+// The slots of the pieces of a call list, which are handed on as a slice of records.
+pub fn lay_out<'a>(pieces: &Pieces, bucket: u16, slots: &'a mut [Slot]) -> &'a [Slot]
+    requires { (length (pieces_of pieces.now) ≤ 1024) × (length (pieces_of pieces.now) ≤ length slots.old) }
+    ensures { slots_in result.now ≡ next_fit bucket 0 0 (map (λ p. p.stored) (pieces_of pieces.now)) }
+{
+    let records = read_pieces(pieces);
+    layout(&records[..pieces.len()], bucket as u64, slots)
 }
 
 // How many buckets pieces with these slots need.
