@@ -14,7 +14,7 @@ pub struct Piece {
     pub file_sectors: u16,
     /// Sectors that it takes on the device.
     pub stored_sectors: u16,
-    /// The compression kind: 0 none, 2 LZ4, 3 gzip, 4 zstd, 5 incompressible.
+    /// The compression kind: 0 none, 2 gzip, 3 LZ4, 4 zstd, 5 incompressible.
     pub compression: u8,
     /// The checksum of what is stored.
     pub checksum: u64,
