@@ -87,4 +87,3 @@ module _ {s : List ℕ} {pieces : List calls.Piece} {slots : List Slot} {buckets
       (five (map taken_field (walk_of (read_call s)).taken) (map spot_field (map spot_at ps))
       (map row_field (place_rows (read_volume s).head (walk_of (read_call s)).taken ps (map (extent_key (read_volume s).head) ps)))
       (sectors_field (total (λ p. p.piece.file) ps)) end_field)
-
