@@ -6,6 +6,7 @@ use lib.ListN.{length, get_or, drop, take, length-take, length-drop}
 use lib.Seq.{get_or-drop, drop-drop}
 use native.Mathlib.Nat.{add_assoc, zero-add, add-zero, suc-add, one-le-pow, pow-suc, pow-zero, mul_assoc, mul_comm}
 use native.Mathlib.Omega.{arith}
+use Rattle.std.specs.Int.{w16, w32, w64, from_le_bytes}
 use Rattle.wire.specs.Numbers.{le, le_bytes}
 use Rattle.wire.specs.Bytes.{All, none, more, Bytes}
 
@@ -81,8 +82,6 @@ module _ (s : List ℕ) where
       + 72057594037927936 * get_or s (at + 7) 0
   eight_bytes at = omega (arith, le-at 4 4 s at, four_bytes at, simp add_assoc at (four_bytes (at + 4)))
 
-pub ruleset numbers_at = (le-byte, two_bytes, four_bytes, eight_bytes)
-
 -- a number within the first m bytes
 pub le-take : (n m : ℕ) (s : List ℕ) → n ≤ m → le n (take m s) ≡ le n s
 unfolding le
@@ -90,6 +89,19 @@ le-take zero m s h = refl
 le-take (suc n) zero s h = absurd (omega arith)
 le-take (suc n) (suc m) [] h = refl
 le-take (suc n) (suc m) (b ∷ s) h = rw (le-take n m s (omega arith))
+
+-- the number that is made of the first bytes
+module _ (s : List ℕ) where
+  pub from_two : from_le_bytes w16 (take 2 s) ≡ le 2 s
+  from_two = omega (arith, two_bytes (take 2 s) 0, le-take 2 2 s (omega arith))
+
+  pub from_four : from_le_bytes w32 (take 4 s) ≡ le 4 s
+  from_four = omega (arith, four_bytes (take 4 s) 0, le-take 4 4 s (omega arith))
+
+  pub from_eight : from_le_bytes w64 (take 8 s) ≡ le 8 s
+  from_eight = omega (arith, eight_bytes (take 8 s) 0, le-take 8 8 s (omega arith))
+
+pub ruleset numbers_at = (le-byte, from_two, from_four, from_eight)
 
 pub le-drop-take : (n k m : ℕ) (s : List ℕ) → k + n ≤ m → le n (drop k (take m s)) ≡ le n (drop k s)
 le-drop-take n zero m s h = le-take n m s (omega arith)
