@@ -8,7 +8,7 @@ use crate::data_types::DataType;
 use wire::keys::Value;
 use wire::le;
 
-// The generation of the alloc value at a place of a list. The value's length shows the bound, here and below.
+// The generation of the alloc value at a place of a list. The value's length shows the bound. Each of the four readers asks for no more of a value than its own member's end, as values that end sooner are read too.
 #[tactic(auto, using(crate::proofs::ValueLaws::get_at))]
 pub fn generation(s: &[u8], at: usize) -> u8
     requires { at + 13 ≤ length s.now }
@@ -17,7 +17,7 @@ pub fn generation(s: &[u8], at: usize) -> u8
     le::le8(s, at + 12)
 }
 
-// Its data type.
+// The data type of the value at a place. The value's length shows the bound. A byte and no `DataType`: a value that is read may have any of the header's types, or none.
 #[tactic(auto, using(crate::proofs::ValueLaws::get_at))]
 pub fn data_type(s: &[u8], at: usize) -> u8
     requires { at + 15 ≤ length s.now }
@@ -26,7 +26,7 @@ pub fn data_type(s: &[u8], at: usize) -> u8
     le::le8(s, at + 14)
 }
 
-// Its dirty sectors.
+// The dirty sectors of the value at a place. The value's length shows the bound.
 #[tactic(auto, using(crate::proofs::ValueLaws::get_at))]
 pub fn dirty_sectors(s: &[u8], at: usize) -> u32
     requires { at + 20 ≤ length s.now }
@@ -35,7 +35,7 @@ pub fn dirty_sectors(s: &[u8], at: usize) -> u32
     le::le32(s, at + 16)
 }
 
-// Its write clock.
+// The write clock of the value at a place. The value's length shows the bound.
 #[tactic(auto, using(crate::proofs::ValueLaws::get_at))]
 pub fn write_time(s: &[u8], at: usize) -> u64
     requires { at + 40 ≤ length s.now }
@@ -62,7 +62,8 @@ pub fn new_alloc(journal: u64, generation: u8, dirty: u32, clock: u64) -> [u64; 
     ]
 }
 
-// The value after a part is freed: another dirty count. Refusal 16 shows that a freed bucket's alloc key is so long, here and where it is emptied.
+// The value after a part is freed: another dirty count. Refusal 16 shows that a freed bucket's alloc key is so long.
+// `with_dirty`, `emptied` and `discarded` each ask for 56 bytes: a value is changed once, so that a type with the fact would be made for one call, and its making would ask for them.
 #[tactic(auto, using(wire::proofs::AppendLaws::bytes_32), unfolding(crate::specs::AllocV4::with_dirty, crate::specs::Packing::store))]
 pub fn with_dirty(v: &mut Value, dirty: u32)
     requires { 56 ≤ length v.old }
@@ -86,7 +87,7 @@ fn emptied_flags(x: u32) -> u32
     x & 0xfd
 }
 
-// The value after emptying, at a journal number.
+// The value after emptying, at a journal number. Refusal 16 shows that a freed bucket's alloc key is so long.
 pub fn emptied(v: &mut Value, journal: u64)
     requires { 56 ≤ length v.old }
     ensures { v.new ≡ emptied journal v.old }

@@ -1,6 +1,6 @@
-// The checksum options of a head, and their bytes.
+// The checksum options of a head, and their bytes; the checksum types of an entry, and their numbers.
 ghost use Rattle.std.specs.Prelude.{◌≡◌, ◌≤◌, ℕ, length};
-ghost use Rattle.format.specs.Checksums.{option_byte, Names};
+ghost use Rattle.format.specs.Checksums.{option_byte, Names, csum_number};
 ghost use Rattle.format.specs.Entries.{extent_words};
 
 // What checksum a placed piece's extent has.
@@ -48,5 +48,27 @@ impl ChecksumOption {
             ChecksumOption::Crc32c => 2,
             ChecksumOption::Crc64 | ChecksumOption::Xxhash => 3,
         }
+    }
+}
+
+// What checksum an entry has, by the Linux header's BCH_CSUM types.
+#[derive(Clone, Copy, PartialEq, Eq, Debug, Drop)]
+pub enum ChecksumType {
+    // None.
+    None = 0,
+    // crc32c.
+    Crc32c = 5,
+    // crc64.
+    Crc64 = 6,
+    // xxhash.
+    Xxhash = 7,
+}
+
+impl ChecksumType {
+    // Its number. A method and not `From`: its name says which number, where `u8::from` does not.
+    pub fn number(self) -> u8
+        ensures { result ≡ csum_number self }
+    {
+        self as u8
     }
 }

@@ -1,4 +1,4 @@
-// The kinds of compression that a piece may have, and their bytes, which are those of the Linux header's BCH_COMPRESSION_TYPE.
+// The kinds of compression that a piece may have, and their bytes: those of the Linux header's BCH_COMPRESSION_TYPE, and of the Rust's extent.rs (its module `compression`).
 ghost use Rattle.format.specs.Compressions.{NamesKind};
 
 // How a piece is compressed. The header's type 1, lz4_old, is none of them.
@@ -16,18 +16,24 @@ pub enum Compression {
     Incompressible = 5,
 }
 
-impl Compression {
+// A byte that names no kind.
+#[derive(Clone, Copy, PartialEq, Eq, Debug, Drop)]
+pub struct UnknownCompression(pub u8);
+
+impl TryFrom<u8> for Compression {
+    type Error = UnknownCompression;
+
+    ghost try_from_gives = { NamesKind };
+
     // The kind that a byte names, if it names one.
-    pub fn named(byte: u8) -> Option<Compression>
-        ensures { NamesKind byte result }
-    {
+    fn try_from(byte: u8) -> Result<Compression, UnknownCompression> {
         match byte {
-            0 => Some(Compression::Off),
-            2 => Some(Compression::Gzip),
-            3 => Some(Compression::Lz4),
-            4 => Some(Compression::Zstd),
-            5 => Some(Compression::Incompressible),
-            _ => None,
+            0 => Ok(Compression::Off),
+            2 => Ok(Compression::Gzip),
+            3 => Ok(Compression::Lz4),
+            4 => Ok(Compression::Zstd),
+            5 => Ok(Compression::Incompressible),
+            _ => Err(UnknownCompression(byte)),
         }
     }
 }

@@ -14,7 +14,7 @@ pub enum DataType {
 }
 
 impl DataType {
-    // Its number.
+    // Its number. A method and not `From`: its name says which number, where `u8::from` does not.
     pub fn number(self) -> u8
         ensures { result ≡ type_number self }
     {

@@ -1,14 +1,14 @@
 // The entries of an extent: its checksum entry and its pointer.
 ghost use Rattle.std.specs.Prelude.{◌≡◌, ◌^◌, ◌<◌, ◌≤◌, ℕ, List, length, take};
 ghost use Rattle.wire.specs.Kinds.{sector_number};
-ghost use Rattle.format.specs.Checksums.{option_byte};
+ghost use Rattle.format.specs.Checksums.{option_byte, csum_number};
 ghost use Rattle.format.specs.Entries.{pointer, crc32, crc64, csum_type_of, extent_words};
 
-use crate::checksums::ChecksumOption;
+use crate::checksums::{ChecksumOption, ChecksumType};
 use std::marker::Model;
 use wire::kinds::DeviceSector;
 
-// The words of an extent's value: at most three.
+// The words of an extent's value: at most three. No heap: the words and how many there are stand beside one another.
 #[derive(Drop)]
 pub struct Words {
     words: [u64; 3],
@@ -43,59 +43,61 @@ pub fn pointer(d: DeviceSector, generation: u8) -> u64
     1 + (d.0 << 4) + ((generation as u64) << 56)
 }
 
-// The crc32 entry. Refusals 6 and 9 show the bounds, here and below.
-pub fn crc32(stored: u64, file: u64, ctype: u64, kind: u64, checksum: u64) -> u64
-    requires { ((1 ≤ stored) × (stored ≤ 128)) × ((1 ≤ file) × (file ≤ 128)) × (ctype < 16) × (kind < 16) }
-    ensures { result ≡ crc32 stored file ctype kind checksum }
+// How a piece is stored: its sectors as they are stored and in the file, and the number of its kind of compression. Refusals 6 and 9 show the bounds.
+#[derive(Clone, Copy, Drop)]
+pub struct Storage {
+    pub stored: u64,
+    pub file: u64,
+    pub kind: u64,
+    pub ghost within: { ((1 ≤ stored) × (stored ≤ 128)) × ((1 ≤ file) × (file ≤ 128)) × (kind < 16) },
+}
+
+// The crc32 entry. A checksum type's number shows the bound. It stays a number: for C an entry of each of the sixteen is made.
+pub fn crc32(storage: Storage, ctype: u64, checksum: u64) -> u64
+    requires { ctype < 16 }
+    ensures { result ≡ crc32 storage.stored storage.file ctype storage.kind checksum }
 {
-    2 + ((stored - 1) << 2)
-        + ((file - 1) << 9)
+    2 + ((storage.stored - 1) << 2)
+        + ((storage.file - 1) << 9)
         + (ctype << 24)
-        + (kind << 28)
+        + (storage.kind << 28)
         + ((checksum % 4294967296) << 32)
 }
 
-// The first word of the crc64 entry; the checksum is the second.
-pub fn crc64(stored: u64, file: u64, ctype: u64, kind: u64) -> u64
-    requires { ((1 ≤ stored) × (stored ≤ 128)) × ((1 ≤ file) × (file ≤ 128)) × (ctype < 16) × (kind < 16) }
-    ensures { result ≡ crc64 stored file ctype kind }
+// The first word of the crc64 entry; the checksum is the second. The type is a number for the same reason.
+pub fn crc64(storage: Storage, ctype: u64) -> u64
+    requires { ctype < 16 }
+    ensures { result ≡ crc64 storage.stored storage.file ctype storage.kind }
 {
-    4 + ((stored - 1) << 3) + ((file - 1) << 12) + (ctype << 40) + (kind << 44)
+    4 + ((storage.stored - 1) << 3)
+        + ((storage.file - 1) << 12)
+        + (ctype << 40)
+        + (storage.kind << 44)
 }
 
 // The checksum type of an option.
 #[tactic(auto, unfolding(crate::specs::Entries::csum_type_of))]
-pub fn csum_type(option: ChecksumOption) -> u64
-    ensures { result ≡ csum_type_of (option_byte option) }
+pub fn csum_type(option: ChecksumOption) -> ChecksumType
+    ensures { csum_number result ≡ csum_type_of (option_byte option) }
 {
     match option {
-        ChecksumOption::Off => 0,
-        ChecksumOption::Crc32c => 5,
-        ChecksumOption::Crc64 => 6,
-        ChecksumOption::Xxhash => 7,
+        ChecksumOption::Off => ChecksumType::None,
+        ChecksumOption::Crc32c => ChecksumType::Crc32c,
+        ChecksumOption::Crc64 => ChecksumType::Crc64,
+        ChecksumOption::Xxhash => ChecksumType::Xxhash,
     }
 }
 
 // An extent's value: by option, the checksum entry and then the pointer.
 #[tactic(auto, unfolding(crate::specs::Entries::csum_type_of, crate::specs::Entries::checksum_entry, crate::specs::Entries::extent_words))]
-pub fn extent_words(
-    option: ChecksumOption,
-    kind: u64,
-    stored: u64,
-    file: u64,
-    checksum: u64,
-    word: u64,
-) -> Words
-    requires { ((1 ≤ stored) × (stored ≤ 128)) × ((1 ≤ file) × (file ≤ 128)) × (kind < 16) }
-    ensures { result ≡ extent_words (option_byte option) kind stored file checksum word }
+pub fn extent_words(option: ChecksumOption, storage: Storage, checksum: u64, word: u64) -> Words
+    ensures { result ≡ extent_words (option_byte option) storage.kind storage.stored storage.file checksum word }
 {
-    let t = csum_type(option);
+    let t = csum_type(option).number() as u64;
     let words = match option {
         ChecksumOption::Off => [word, 0, 0],
-        ChecksumOption::Crc32c => [crc32(stored, file, t, kind, checksum), word, 0],
-        ChecksumOption::Crc64 | ChecksumOption::Xxhash => {
-            [crc64(stored, file, t, kind), checksum, word]
-        }
+        ChecksumOption::Crc32c => [crc32(storage, t, checksum), word, 0],
+        ChecksumOption::Crc64 | ChecksumOption::Xxhash => [crc64(storage, t), checksum, word],
     };
     Words {
         words,

@@ -12,6 +12,7 @@ ghost use Rattle.format.specs.Gens.{with_gen};
 ghost use Rattle.format.specs.Lru.{fragmentation};
 ghost use Rattle.format_c.specs.Sized.{where_sized};
 
+use format::entries::Storage;
 use format::{alloc, backpointer, entries, gens, lru};
 use std::num::NonZero;
 use wire::bpos::Bpos;
@@ -39,6 +40,17 @@ fn sized(value: &[u8], lo: usize) -> Option<Value>
     Some(Value::new(value))
 }
 
+// How a piece is stored, of sizes from 1 to 128 and a kind below 16.
+fn storage(stored: u64, file: u64, kind: u64) -> Storage
+    ensures { (result.stored ≡ stored % 128 + 1) × (result.file ≡ file % 128 + 1) × (result.kind ≡ kind % 16) }
+{
+    Storage {
+        stored: stored % 128 + 1,
+        file: file % 128 + 1,
+        kind: kind % 16,
+    }
+}
+
 // struct bch_extent_ptr, of a sector below 2^44.
 #[unsafe(no_mangle)]
 pub extern "C" fn format_pointer(sector: u64, generation: u8) -> u64
@@ -52,13 +64,7 @@ pub extern "C" fn format_pointer(sector: u64, generation: u8) -> u64
 pub extern "C" fn format_crc32(stored: u64, file: u64, ctype: u64, kind: u64, checksum: u64) -> u64
     ensures { result ≡ crc32 (stored % 128 + 1) (file % 128 + 1) (ctype % 16) (kind % 16) checksum }
 {
-    entries::crc32(
-        stored % 128 + 1,
-        file % 128 + 1,
-        ctype % 16,
-        kind % 16,
-        checksum,
-    )
+    entries::crc32(storage(stored, file, kind), ctype % 16, checksum)
 }
 
 // The first word of struct bch_extent_crc64, with the same ranges.
@@ -66,7 +72,7 @@ pub extern "C" fn format_crc32(stored: u64, file: u64, ctype: u64, kind: u64, ch
 pub extern "C" fn format_crc64(stored: u64, file: u64, ctype: u64, kind: u64) -> u64
     ensures { result ≡ crc64 (stored % 128 + 1) (file % 128 + 1) (ctype % 16) (kind % 16) }
 {
-    entries::crc64(stored % 128 + 1, file % 128 + 1, ctype % 16, kind % 16)
+    entries::crc64(storage(stored, file, kind), ctype % 16)
 }
 
 // struct bch_alloc_v4 of a bucket that data is placed in.
@@ -84,7 +90,8 @@ pub extern "C" fn format_new_alloc(
 }
 
 // struct bch_alloc_v4 after emptying, at a journal number. A value that ends before byte 56, or has more than 256 bytes, is left alone.
-// The three functions that change a value repeat these lines: one that takes the change as a closure would state of it what it asks of a value and that it keeps the length, which is longer.
+// The three functions that change a value have these four lines each. One that takes the change as a closure has them once, but a head of six lines more, with what the change asks of a value
+// and that it keeps the length, and a call with its contract in each of the three: thirteen lines and more for twelve.
 #[unsafe(no_mangle)]
 pub extern "C" fn format_emptied(value: &mut [u8], journal: u64)
     ensures { value.new ≡ where_sized 56 256 (emptied journal) value.old }
@@ -95,7 +102,7 @@ pub extern "C" fn format_emptied(value: &mut [u8], journal: u64)
     }
 }
 
-// struct bch_alloc_v4 after discard, likewise.
+// struct bch_alloc_v4 after discard. A value that ends before byte 56, or has more than 256 bytes, is left alone.
 #[unsafe(no_mangle)]
 pub extern "C" fn format_discarded(value: &mut [u8])
     ensures { value.new ≡ where_sized 56 256 discarded value.old }

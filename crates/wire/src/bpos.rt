@@ -24,7 +24,7 @@ pub fn read_pos(s: &[u8], at: usize) -> Bpos
     }
 }
 
-// Whether a stands before b. It has a name, as the operator's law has to be cited where `<` stands (tried in sorting, `bound`): here that is once.
+// Whether a stands before b. It has a name, as each function where `<` stands has to cite the law of the derived order (`parts_compared`; with it, sorting's `bound` proves): here that is once, for the nine places that compare.
 #[tactic(auto, using(crate::proofs::OrderLaws::parts_compared))]
 pub fn pos_less(a: Bpos, b: Bpos) -> bool
     ensures { result ≡ pos_less a b }
@@ -32,7 +32,7 @@ pub fn pos_less(a: Bpos, b: Bpos) -> bool
     a < b
 }
 
-// Whether two positions are the same, with a name for the same reason.
+// Whether two positions are the same. It has a name, as each function where `==` stands has to cite `parts_same`: here that is once, for the four places that ask.
 #[tactic(auto, using(crate::proofs::OrderLaws::parts_same))]
 pub fn pos_same(a: Bpos, b: Bpos) -> bool
     ensures { result ≡ pos_same a b }

@@ -20,7 +20,7 @@ pub enum KeyType {
 }
 
 impl KeyType {
-    // Its number.
+    // Its number. A method and not `From`: its name says which number, where `u8::from` does not.
     pub fn number(self) -> u8
         ensures { result ≡ key_type_number self }
     {

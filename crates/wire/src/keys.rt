@@ -9,7 +9,7 @@ use crate::bpos::Bpos;
 use crate::{bpos, le};
 use std::marker::Model;
 
-// A key's value: at most 256 bytes.
+// A key's value: at most 256 bytes. No heap: the bytes and how many there are stand beside one another.
 #[derive(Drop)]
 pub struct Value {
     bytes: [u8; 256],
@@ -117,7 +117,8 @@ pub fn key_sized(len: usize) -> bool
     (37..=293).contains(&len)
 }
 
-// The type of the key whose body starts at a place. The length of a key's field shows the bounds, here and below.
+// The type of the key whose body starts at a place. The length of a key's field shows the bound.
+// `type_at`, `size_at` and `pos_at` each ask for the 37 bytes: a type with the fact would be made where the part is read, and its making would ask for them. Where a key is read more than once, reader's `ListedKey` holds the fact.
 pub fn type_at(s: &[u8], start: usize) -> u8
     requires { start + 37 ≤ length s.now }
     ensures { result ≡ le 1 (drop start s.now) }
@@ -125,7 +126,7 @@ pub fn type_at(s: &[u8], start: usize) -> u8
     le::le8(s, start)
 }
 
-// Its size.
+// The size of the key whose body starts at a place. The length of a key's field shows the bound.
 pub fn size_at(s: &[u8], start: usize) -> u32
     requires { start + 37 ≤ length s.now }
     ensures { result ≡ le 4 (drop (start + 1) s.now) }
@@ -133,7 +134,7 @@ pub fn size_at(s: &[u8], start: usize) -> u32
     le::le32(s, start + 1)
 }
 
-// Its position.
+// The position of the key whose body starts at a place. The length of a key's field shows the bound.
 pub fn pos_at(s: &[u8], start: usize) -> Bpos
     requires { start + 37 ≤ length s.now }
     ensures { result ≡ pos_of (drop (start + 17) s.now) }

@@ -5,4 +5,4 @@ use Rattle.format.proofs.entries.crc32.Goals as goal
 pub returns : goal.returns
 returns c =
     let a = c.args in
-    omega (arith, crc32-is a.stored a.file a.ctype a.kind a.checksum (omega arith) (omega arith) (omega arith) (omega arith))
+    omega (arith, crc32-is a.storage.stored a.storage.file a.ctype a.storage.kind a.checksum (omega arith) (omega arith) (omega arith) (omega arith))

@@ -5,4 +5,4 @@ use Rattle.format.proofs.entries.crc64.Goals as goal
 pub returns : goal.returns
 returns c =
     let a = c.args in
-    omega (arith, crc64-is a.stored a.file a.ctype a.kind (omega arith) (omega arith) (omega arith) (omega arith))
+    omega (arith, crc64-is a.storage.stored a.storage.file a.ctype a.storage.kind (omega arith) (omega arith) (omega arith) (omega arith))
