@@ -1,16 +1,30 @@
-use Rattle.std.proofs.Common.{◌+◌, sym, arith}
-use Rattle.wire.proofs.FieldLaws.{step_cut, step-long, body-cut, cut-found}
+use Rattle.std.proofs.Common.{◌+◌, ◌∙◌, ◌-◌, ◌≡◌, sym, arith, length, length-drop}
+use Rattle.wire.proofs.FieldLaws.{step_cut, step-long, found-here, left-is, rest-is, length-is}
 use Rattle.wire.proofs.fields.next_field.Goals as goal
 
-pub returns-then-left-lt3 : goal.returns-then-left-lt3
-returns-then-left-lt3 c = sym (step_cut _ _ (omega arith))
+pub returns-in_default : goal.returns-in_default
+returns-in_default c =
+    let s = c.args.s.now in
+    sym (step_cut _ _ (omega (arith, rw (left-is s c.args.at) at c.in_default.len_below, length-drop c.args.at s)))
 
-pub returns-then-left-len : goal.returns-then-left-len
-returns-then-left-len c = sym (step-long _ _ (omega arith) (rw c.le16-len.ensures at c.if-left-len.true))
+pub returns-in_err-body : goal.returns-in_err-body
+returns-in_err-body c =
+    let s = c.args.s.now in
+    let at = c.args.at in
+    let h = rw (left-is s at) at c.in-len3-up.len_at_least in
+    let n = rw (left-is s at) at c.from_le_bytes.ensures ∙ length-is s at in
+    let l = rw (rest-is s at) at c.in_err-body.ensures.lookup.0 in
+    rw c.from_residual.ensures (sym (step-long s at (omega (arith, h, length-drop at s)) (omega (arith, n, l, length-drop (at + 3) s))))
 
 pub returns : goal.returns
 returns c =
+    let s = c.args.s.now in
+    let at = c.args.at in
+    let h = rw (left-is s at) at c.in-len3-up.len_at_least in
+    let n = rw (left-is s at) at c.from_le_bytes.ensures ∙ length-is s at in
+    let l = rw (rest-is s at) at c.in_ok-body.ensures.lookup.0 in
+    let k : c.from_le_bytes.result - 0 ≡ length c.in_ok-body.body.now = omega (arith, l) in
     record {
-      place = cut-found _ _ (omega arith) _ _ (omega arith) c.le16-len.ensures (omega arith);
-      body = body-cut c.args.s.now (c.args.at + 3) _ (omega (arith, c.if-left-len.false));
+      place = rw (left-is s at) (found-here s at (omega (arith, h, length-drop at s)) c.in_ok-body.body.now (omega (arith, n, l)) (omega (arith, n, l, length-drop (at + 3) s)));
+      body = rw k at l.2;
     }
