@@ -40,7 +40,7 @@ impl Tally {
 fn kind_index(kind: u8) -> Option<usize>
     ensures { CountedAs kind result }
 {
-    match Compression::named(kind)? {
+    match Compression::try_from(kind).ok()? {
         Compression::Off => None,
         Compression::Gzip => Some(0),
         Compression::Lz4 => Some(1),

@@ -13,6 +13,7 @@ use crate::placed::Placed;
 use crate::plan::Plan;
 use format::checksums::ChecksumOption;
 use format::entries;
+use format::entries::Storage;
 use reader::head::Head;
 use wire::key_types::KeyType;
 use wire::keys::KeyHead;
@@ -26,11 +27,14 @@ pub fn put_extent(out: &mut Output, h: Head, option: ChecksumOption, p: Placed)
     ensures { out.new ≡ with_bytes out.old (encode_field (key_field 0 (extent_key (head_in h) (placed_in p)))) }
 {
     let piece = p.piece;
+    let storage = Storage {
+        stored: piece.stored as u64,
+        file: piece.file as u64,
+        kind: piece.kind as u64,
+    };
     let v = entries::extent_words(
         option,
-        piece.kind as u64,
-        piece.stored as u64,
-        piece.file as u64,
+        storage,
         piece.checksum,
         entries::pointer(p.first, p.generation),
     );

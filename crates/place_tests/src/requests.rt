@@ -16,7 +16,7 @@ use reader::pieces::Pieces;
 fn kind_listed(p: Piece) -> bool
     ensures { result ≡ kind_listed (piece_in p) }
 {
-    Compression::named(p.kind).is_some()
+    Compression::try_from(p.kind).is_ok()
 }
 
 // Block sectors, of which 0 counts as 1.
