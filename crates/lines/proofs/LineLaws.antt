@@ -15,7 +15,7 @@ use Rattle.wire.specs.Fields.{Field, fields, field_at, whole}
 use Rattle.wire.specs.Keys.{Key, key_of, key_sized}
 use Rattle.wire.specs.declared.output.Output.{Output}
 use Rattle.wire.specs.Output.{with_bytes}
-use Rattle.wire.proofs.OutputLaws.{lt-or-ge}
+use Rattle.std.proofs.lemmas.Bool.{cases_lt}
 use Rattle.wire.proofs.AppendLaws.{with-none, with-with}
 use Rattle.wire.proofs.FieldLaws.{FieldAt}
 use Rattle.calls.specs.CallList.{shaped}
@@ -151,8 +151,8 @@ module _ (t : ℕ) (b : List ℕ) (h : change_field_ok (record { tag = t; body =
       ⊎_elim
       (λ (l : t < 10). absurd (other n0 n4 (λ x y. omega arith)))
       (λ (l : 10 ≤ t).
-      ⊎_elim (λ (m : t < 15). sized (key-tag t l m) (omega arith)) (λ (m : 15 ≤ t). absurd (other n0 n4 (λ x y. omega arith))) (lt-or-ge t 15))
-      (lt-or-ge t 10))
+      ⊎_elim (λ (m : t < 15). sized (key-tag t l m) (omega arith)) (λ (m : 15 ≤ t). absurd (other n0 n4 (λ x y. omega arith))) (cases_lt t 15))
+      (cases_lt t 10))
       (same_or t 4))
       (same_or t 0)
     where

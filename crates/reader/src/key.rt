@@ -72,6 +72,7 @@ impl<'a> ListedKey<'a> {
     pub fn key(&self) -> Bkey
         ensures { key_in result ≡ key_listed self.now }
     {
-        keys::read_key(self.list, self.at as usize, self.body_len())
+        let at = self.at as usize;
+        keys::read_key(&self.list[at..at + self.body_len()])
     }
 }

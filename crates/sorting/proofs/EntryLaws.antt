@@ -20,7 +20,7 @@ use Rattle.wire.specs.Positions.{alloc_at}
 use Rattle.wire.proofs.FieldLaws.{FieldAt, field-at, step_cut, step-long, step-found}
 use Rattle.wire.proofs.KeyLaws.{pos-at}
 use Rattle.wire.proofs.NumberLaws.{all_take, all_drop, le_bytes-le, le-byte, body-le, body-length}
-use Rattle.wire.proofs.OutputLaws.{lt-or-ge}
+use Rattle.std.proofs.lemmas.Bool.{cases_lt}
 use Rattle.wire.proofs.RoundTrip.{body-again}
 use Rattle.calls.specs.CallList.{reserved_field}
 use Rattle.calls.proofs.lists.BoolLaws.{parts}
@@ -50,8 +50,8 @@ step-at s at t b n e =
     let x : at ≡ b - 3 = omega (arith, f.on) in
     let y : at + 1 ≡ b - 2 = omega (arith, f.on) in
     record { field = f; tag = rw x at et; size = rw y at en })
-    (lt-or-ge (length s - at - 3) (le 2 (drop (at + 1) s))))
-    (lt-or-ge (length s - at) 3)
+    (cases_lt (length s - at - 3) (le 2 (drop (at + 1) s))))
+    (cases_lt (length s - at) 3)
 
 -- the bytes of a field, by the place of its body
 pub field-bytes : {s : List ℕ} {b : ℕ} → Bytes s → 3 ≤ b → b + size_at s b ≤ length s

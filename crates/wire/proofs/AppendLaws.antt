@@ -21,7 +21,8 @@ use Rattle.wire.specs.Held.{key_with}
 use Rattle.wire.specs.declared.keys.KeyHead.{KeyHead}
 use Rattle.wire.specs.Encode.{head_bytes, encode_field, pos_bytes, key_start, key_body, key_field}
 use Rattle.wire.specs.Output.{put, cap, with_bytes}
-use Rattle.wire.proofs.OutputLaws.{put-put, put-nil, put-out, put-eq, put-length, lt-or-ge, drop-next, each-length}
+use Rattle.std.proofs.lemmas.Bool.{cases_lt}
+use Rattle.wire.proofs.OutputLaws.{put-put, put-nil, put-out, put-eq, put-length, drop-next, each-length}
 
 -- an output whose slice holds these bytes, and whose place is this one
 abbrev moved : Output → List ℕ → ℕ → Output
@@ -44,7 +45,7 @@ put-room k xs at bs h =
     sym (put-out (drop k bs) (put xs at (take k bs)) (at + length (take k bs)) (omega (arith, put-length xs at (take k bs))))
     ∙ put-put xs at (take k bs) (drop k bs)
     ∙ ap (put xs at) (take-append-drop k bs))
-    (⊎_elim inr inl (lt-or-ge k (length bs)))
+    (⊎_elim inr inl (cases_lt k (length bs)))
 
 -- a part of the slice that is replaced
 pub put-mid : (at k : ℕ) (xs ys : List ℕ) → at + k ≤ length xs → length ys ≡ k → put_mid at k xs ys ≡ put xs at ys
@@ -80,7 +81,7 @@ pub with-with : (o : Output) (us bs : List ℕ) → with_bytes (with_bytes o us)
 unfolding with_bytes
 with-with o us bs =
     let s : put (put o.bytes.now o.at (take (cap - o.at) us)) (max o.at (min (o.at + length us) cap)) (take (cap - max o.at (min (o.at + length us) cap)) bs) ≡ put o.bytes.now o.at (take (cap - o.at) (us ++ bs)) =
-    ⊎_elim (stored_past o.bytes.now us bs o.at) (stored_within o.bytes.now us bs o.at) (lt-or-ge cap (o.at + length us)) in
+    ⊎_elim (stored_past o.bytes.now us bs o.at) (stored_within o.bytes.now us bs o.at) (cases_lt cap (o.at + length us)) in
     let n : max (max o.at (min (o.at + length us) cap)) (min (max o.at (min (o.at + length us) cap) + length bs) cap) ≡ max o.at (min (o.at + length (us ++ bs)) cap) =
     simp length-append (omega arith) in
     ap (λ (xs : List ℕ). moved o xs (max (max o.at (min (o.at + length us) cap)) (min (max o.at (min (o.at + length us) cap) + length bs) cap))) s

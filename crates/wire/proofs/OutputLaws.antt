@@ -1,10 +1,9 @@
 -- Laws of `put` and of what an emitter promises, each with no bound on the place.
 use mathlib.Core.Path.{◌≡◌, refl, sym, ap, ◌∙◌}
-use Prim.Native.Nat.{ℕ, zero, suc, ◌+◌, ◌*◌, ◌≤◌, ◌<◌, zero-le, suc-le-suc}
+use Prim.Native.Nat.{ℕ, zero, suc, ◌+◌, ◌*◌, ◌≤◌, ◌<◌}
 use native.Mathlib.Nat.{add-zero, zero-mul, suc-mul, add_comm}
 use native.Mathlib.Omega.{arith}
 use native.Mathlib.Numerals.{add-one}
-use mathlib.Core.Logic.{◌⊎◌, inl, inr, ⊎_elim}
 use mathlib.Core.List.{List, [], ◌∷◌, ◌++◌}
 use lib.ListN.{length, length-append, get_or, set, take, drop}
 use lib.Seq.{sets, length-sets, set_out, sets-eq, drop-cons}
@@ -38,12 +37,6 @@ put-out (b ∷ bs) xs at h =
 pub put-eq : (bs xs : List ℕ) (at : ℕ) → at + length bs ≤ length xs → put xs at bs ≡ take at xs ++ bs ++ drop (at + length bs) xs
 unfolding put
 put-eq bs xs at h = sets-eq bs xs at h
-
--- below or not
-pub lt-or-ge : (a b : ℕ) → (a < b) ⊎ (b ≤ a)
-lt-or-ge a zero = inr zero-le
-lt-or-ge zero (suc b) = inl (suc-le-suc zero-le)
-lt-or-ge (suc a) (suc b) = ⊎_elim (λ p. inl (suc-le-suc p)) (λ q. inr (suc-le-suc q)) (lt-or-ge a b)
 
 pub set-take : (n i x : ℕ) (l : List ℕ) → take n (set l i x) ≡ set (take n l) i x
 set-take zero i x l = refl

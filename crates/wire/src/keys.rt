@@ -92,21 +92,21 @@ impl KeyHead {
     }
 }
 
-// The key whose body of len bytes starts at a place of a list. `key_sized`, or the layout that refusal 2 tests, shows the bounds.
-pub fn read_key(s: &[u8], start: usize, len: usize) -> Bkey
-    requires { (start + len ≤ length s.now) × (37 ≤ len) × (len ≤ 293) }
-    ensures { key_in result ≡ key_of (take len (drop start s.now)) }
+// The key that a body holds. `key_sized`, or the layout that refusal 2 tests, shows the bounds.
+pub fn read_key(body: &[u8]) -> Bkey
+    requires { (37 ≤ length body.now) × (length body.now ≤ 293) }
+    ensures { key_in result ≡ key_of body.now }
 {
     let head = KeyHead {
-        key_type: le::le8(s, start),
-        size: le::le32(s, start + 1),
-        version_hi: le::le32(s, start + 5),
-        version_lo: le::le64(s, start + 9),
-        pos: bpos::read_pos(s, start + 17),
+        key_type: le::le8(body, 0),
+        size: le::le32(body, 1),
+        version_hi: le::le32(body, 5),
+        version_lo: le::le64(body, 9),
+        pos: bpos::read_pos(body, 17),
     };
     Bkey {
         head,
-        value: Value::new(&s[start + 37..start + len]),
+        value: Value::new(&body[37..]),
     }
 }
 

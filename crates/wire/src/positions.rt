@@ -6,7 +6,7 @@ use crate::bpos::Bpos;
 use crate::kinds::{Bucket, DeviceSector, FileSector};
 
 // A position at snapshot 0.
-fn at(inode: u64, offset: u64) -> Bpos
+fn position(inode: u64, offset: u64) -> Bpos
     ensures { result ≡ record { inode = inode; offset = offset; snapshot = 0 } }
 {
     Bpos {
@@ -31,7 +31,7 @@ pub fn extent_at(inode: u64, end: FileSector) -> Bpos
 pub fn alloc_at(b: Bucket) -> Bpos
     ensures { result ≡ alloc_at b }
 {
-    at(0, b.0)
+    position(0, b.0)
 }
 
 // Tree 10: a bucket at an index of fragmentation. The key is made only where the dirty count is below the bucket's sectors, so the index is below 2^31.
@@ -39,21 +39,21 @@ pub fn lru_at(index: u64, b: Bucket) -> Bpos
     requires { index < 2 ^ 61 }
     ensures { result ≡ lru_at index b }
 {
-    at((1 << 61) + index, b.0)
+    position((1 << 61) + index, b.0)
 }
 
 // Tree 11: a run of free buckets, at its end.
 pub fn run_at(end: Bucket) -> Bpos
     ensures { result ≡ run_at end }
 {
-    at(0, end.0)
+    position(0, end.0)
 }
 
 // Tree 12: a bucket that waits for discard.
 pub fn need_discard_at(journal: u64, b: Bucket) -> Bpos
     ensures { result ≡ need_discard_at journal b }
 {
-    at(journal, b.0)
+    position(journal, b.0)
 }
 
 // Tree 13: a backpointer. A bucket below 65,536 of fewer than 65,536 sectors shows the bound.
@@ -61,14 +61,14 @@ pub fn backpointer_at(d: DeviceSector) -> Bpos
     requires { d.0 < 2 ^ 48 }
     ensures { result ≡ backpointer_at d }
 {
-    at(0, d.0 * 65536)
+    position(0, d.0 * 65536)
 }
 
 // Tree 14: the record with a bucket's generation.
 pub fn gens_at(b: Bucket) -> Bpos
     ensures { result ≡ gens_at b }
 {
-    at(0, b.0 / 256)
+    position(0, b.0 / 256)
 }
 
 // The byte of that record.
