@@ -1,4 +1,4 @@
-use Rattle.std.proofs.Common.{sym, ◌∙◌}
+use Rattle.std.proofs.Common.{◌∙◌}
 use Rattle.reader.proofs.RootBits.{root-told}
 use Rattle.reader.proofs.change.root_ok.Goals as goal
 
