@@ -6,8 +6,7 @@ use lib.ListN.{length, take, drop}
 use lib.Seq.{take_all}
 use lib.Dec.{leb, ltb, eqb}
 use borrow.Author.Tests.{leb-true, eq-eqb, ne_eqb}
-use Rattle.std.proofs.Common.{Option, Some, None}
-use Rattle.std.specs.Prelude.{is_some}
+use Rattle.std.specs.Prelude.{Result, Ok, Err, is_ok}
 use mathlib.Core.Bool.{Bool, true, false, ◌&&◌, ◌||◌, and_assoc}
 use native.Mathlib.Nat.{add-zero}
 use native.Mathlib.Omega.{arith}
@@ -21,6 +20,7 @@ use Rattle.reader.specs.CallFields.{head_field_ok}
 use Rattle.reader.specs.Heads.{call_byte}
 use Rattle.reader.specs.CallKinds.{CallNamed}
 use Rattle.reader.specs.declared.call_kinds.Call.{Call}
+use Rattle.reader.specs.declared.call_kinds.UnknownCall.{UnknownCall}
 use Rattle.reader.specs.declared.call_kinds.Call.TheVariants.{Place, Release, Discard}
 use Rattle.reader.proofs.ListLaws.{bodies-here, bodies-other}
 
@@ -105,23 +105,23 @@ module _ (call : ℕ) (any : Bool) (body : List ℕ) where
 
 -- a head's call and its roots
 module _ (h : Head) where
-  call_named : (r : Option Call) → CallNamed h.call r → is_some r ≡ (leb 1 h.call && leb h.call 3)
-  call_named (Some Place) e = rw e refl
-  call_named (Some Release) e = rw e refl
-  call_named (Some Discard) e = rw e refl
-  call_named None u = go (leb 1 h.call) (leb h.call 3) refl refl
+  call_named : (r : Result Call UnknownCall) → CallNamed h.call r → is_ok r ≡ (leb 1 h.call && leb h.call 3)
+  call_named (Ok Place) e = rw e refl
+  call_named (Ok Release) e = rw e refl
+  call_named (Ok Discard) e = rw e refl
+  call_named (Err x) u = go (leb 1 h.call) (leb h.call 3) refl refl
     where
       go : (p q : Bool) → leb 1 h.call ≡ p → leb h.call 3 ≡ q → false ≡ (p && q)
       go false q x y = refl
       go true false x y = refl
-      go true true x y = absurd (omega (arith, leb-true 1 h.call x, leb-true h.call 3 y, u Place, u Release, u Discard))
+      go true true x y = absurd (omega (arith, leb-true 1 h.call x, leb-true h.call 3 y, u.1 Place, u.1 Release, u.1 Discard))
 
-  module _ (r : Option Call) (n : CallNamed h.call r) where
-    pub head-called : true ≡ is_some r → ltb h.roots 8 ≡ head_ok h
+  module _ (r : Result Call UnknownCall) (n : CallNamed h.call r) where
+    pub head-called : true ≡ is_ok r → ltb h.roots 8 ≡ head_ok h
     unfolding head_ok
     head-called e = rw (← and_assoc (leb 1 h.call) (leb h.call 3) (ltb h.roots 8), sym (e ∙ call_named r n)) refl
 
-    pub head-uncalled : false ≡ is_some r → false ≡ head_ok h
+    pub head-uncalled : false ≡ is_ok r → false ≡ head_ok h
     unfolding head_ok
     head-uncalled e = rw (← and_assoc (leb 1 h.call) (leb h.call 3) (ltb h.roots 8), sym (e ∙ call_named r n)) refl
 

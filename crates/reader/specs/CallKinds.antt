@@ -1,6 +1,7 @@
 -- FORMAT.md, "Call list": the calls, by the byte of field 1 that names each.
-use Rattle.std.specs.Prelude.{◌≡◌, ℕ, Option, Some, None}
+use Rattle.std.specs.Prelude.{◌≡◌, ℕ, Result, Ok, Err}
 use Rattle.reader.specs.declared.call_kinds.Call.{Call}
+use Rattle.reader.specs.declared.call_kinds.UnknownCall.{UnknownCall}
 use Rattle.reader.specs.declared.call_kinds.Call.TheVariants.{Place, Release, Discard}
 
 -- the number of a call
@@ -10,6 +11,6 @@ call_number Release = 2
 call_number Discard = 3
 
 -- the call with this number, or none has it
-abbrev pub CallNamed : ℕ → Option Call → Type 0
-CallNamed n (Some c) = n ≡ call_number c
-CallNamed n None = (c : Call) → n ≡ call_number c → ⊥
+abbrev pub CallNamed : ℕ → Result Call UnknownCall → Type 0
+CallNamed n (Ok c) = n ≡ call_number c
+CallNamed n (Err e) = (e.0 ≡ n) × ((c : Call) → n ≡ call_number c → ⊥)

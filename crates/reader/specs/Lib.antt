@@ -1,6 +1,7 @@
 pub mod Heads
 pub mod Bodies
 pub mod CallFields
+pub mod NamedFields
 pub mod CallKinds
 pub mod Table
 pub mod Readings

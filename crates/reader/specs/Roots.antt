@@ -1,7 +1,8 @@
 -- FORMAT.md, "Call list": the roots of field 1, by the id of their trees, and a bit for each.
-use Rattle.std.specs.Prelude.{◌≡◌, Bool, false, ◌||◌, cond, ℕ, ◌+◌, ◌/◌, ◌%◌, ◌^◌, Option, Some, None, eqb}
+use Rattle.std.specs.Prelude.{◌≡◌, Bool, false, ◌||◌, cond, ℕ, ◌+◌, ◌/◌, ◌%◌, ◌^◌, Result, Ok, Err, eqb}
 use Rattle.calls.specs.Apply.{root_bit}
 use Rattle.reader.specs.declared.roots.Root.{Root}
+use Rattle.reader.specs.declared.roots.UnknownRoot.{UnknownRoot}
 use Rattle.reader.specs.declared.roots.Root.TheVariants.{Lru, NeedDiscard, BucketGens}
 
 -- the id of a root
@@ -14,9 +15,9 @@ unfoldable pub is_root : ℕ → Bool
 is_root id = eqb id 10 || (eqb id 12 || eqb id 14)
 
 -- an id names a root, or none
-abbrev pub RootNamed : ℕ → Option Root → Type 0
-RootNamed id (Some r) = id ≡ root_id r
-RootNamed id None = is_root id ≡ false
+abbrev pub RootNamed : ℕ → Result Root UnknownRoot → Type 0
+RootNamed id (Ok r) = id ≡ root_id r
+RootNamed id (Err e) = (e.0 ≡ id) × (is_root id ≡ false)
 
 -- a bit set, unless it is
 unfoldable pub with_root_bit : ℕ → ℕ → ℕ

@@ -13,20 +13,28 @@ pub enum Call {
     Discard = 3,
 }
 
-impl Call {
-    // The call with a number, if one has it.
-    pub fn named(number: u8) -> Option<Call>
-        ensures { CallNamed number result }
-    {
+// A byte that names no call.
+#[derive(Clone, Copy, PartialEq, Eq, Debug, Drop)]
+pub struct UnknownCall(pub u8);
+
+impl TryFrom<u8> for Call {
+    type Error = UnknownCall;
+
+    ghost try_from_gives = { CallNamed };
+
+    // The call that a byte names, if it names one.
+    fn try_from(number: u8) -> Result<Call, UnknownCall> {
         match number {
-            1 => Some(Call::Place),
-            2 => Some(Call::Release),
-            3 => Some(Call::Discard),
-            _ => None,
+            1 => Ok(Call::Place),
+            2 => Ok(Call::Release),
+            3 => Ok(Call::Discard),
+            _ => Err(UnknownCall(number)),
         }
     }
+}
 
-    // Its number.
+impl Call {
+    // Its number. A method and not `From`: its name says which number, where `u8::from` does not.
     pub fn number(self) -> u8
         ensures { result ≡ call_number self }
     {

@@ -5,17 +5,18 @@ ghost use Rattle.calls.specs.ChangeList.{change_laid_out};
 ghost use Rattle.reader.specs.Bodies.{root_ok, change_field_ok, tag_after};
 
 use crate::keys;
+use crate::roots::Root;
 use wire::fields::{Field, Fields};
 use wire::tags::Tag;
 use wire::trees::Tree;
 use wire::{keys as wire_keys, le};
 
-// Whether a field's body names a root: 10, 12 or 14.
+// Whether a field's body names a root.
 #[tactic(auto, unfolding(crate::specs::Bodies::root_ok, calls::specs::ChangeList::root_listed))]
 fn root_ok(body: &[u8]) -> bool
     ensures { result ≡ root_ok body.now }
 {
-    body.len() == 1 && matches!(le::le8(body, 0), 10 | 12 | 14)
+    body.len() == 1 && Root::try_from(le::le8(body, 0)).is_ok()
 }
 
 // Whether a row has one number or three.
@@ -31,7 +32,7 @@ fn change_field_ok(field: Field) -> bool
     ensures { result ≡ change_field_ok (field_in field.entry) }
 {
     let len = field.body.len();
-    let Some(tag) = Tag::named(field.tag) else {
+    let Ok(tag) = Tag::try_from(field.tag) else {
         return false;
     };
     match tag {

@@ -68,7 +68,7 @@ pub fn read_head(s: &[u8], at: usize) -> Head
 pub fn head_ok(h: Head) -> bool
     ensures { result ≡ head_ok (head_in h) }
 {
-    Call::named(h.call).is_some() && h.roots < 8
+    Call::try_from(h.call).is_ok() && h.roots < 8
 }
 
 // Whether a head is within FORMAT.md's limits.

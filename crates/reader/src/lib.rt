@@ -11,6 +11,7 @@ pub mod key;
 pub mod keys;
 pub mod limits;
 pub mod listed_keys;
+pub mod named_field;
 pub mod order;
 pub mod piece;
 pub mod pieces;

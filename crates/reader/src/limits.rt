@@ -4,8 +4,8 @@ ghost use Rattle.wire.specs.FieldsFound.{field_in};
 ghost use Rattle.wire.specs.Tags.{tag_number};
 ghost use Rattle.reader.specs.CallFields.{key_fits, field_within, least_of};
 
+use crate::named_field::NamedField;
 use wire::bpos::Bpos;
-use wire::fields::Field;
 use wire::key_types::KeyType;
 use wire::tags::Tag;
 use wire::trees::Tree;
@@ -31,28 +31,24 @@ fn key_within(tag: Tag, key_type: u8, pos: Bpos) -> bool
 pub fn key_fits(section: u8, key_type: u8, pos: Bpos) -> bool
     ensures { result ≡ key_fits section key_type pos }
 {
-    let Some(tag) = Tag::named(section) else {
+    let Ok(tag) = Tag::try_from(section) else {
         return true;
     };
     key_within(tag, key_type, pos)
 }
 
-// Whether a field after field 1 keeps the limits. The length that its tag asks shows the bound.
-#[tactic(auto, using(crate::proofs::OrderingLaws::within_cases))]
-pub fn field_within(field: Field) -> bool
-    requires { least_of field.tag ≤ length field.body.now }
-    ensures { result ≡ field_within (field_in field.entry) }
-{
-    let Some(tag) = Tag::named(field.tag) else {
-        return true;
-    };
-    match tag {
-        Tag::Key(_) => key_within(
-            tag,
-            keys::type_at(field.body, 0),
-            keys::pos_at(field.body, 0),
-        ),
-        Tag::Reserved => kinds::bucket_in_range(kinds::read_bucket(field.body, 0)),
-        _ => true,
+impl<'a> NamedField<'a> {
+    // Whether a field after field 1 keeps the limits. The length that its tag asks shows the bound.
+    #[tactic(auto, using(crate::proofs::OrderingLaws::within_cases))]
+    pub fn keeps_limits(self) -> bool
+        requires { least_of self.field.tag ≤ length self.field.body.now }
+        ensures { result ≡ field_within (field_in self.entry.field) }
+    {
+        let body = self.field.body;
+        match self.tag {
+            Tag::Key(_) => key_within(self.tag, keys::type_at(body, 0), keys::pos_at(body, 0)),
+            Tag::Reserved => kinds::bucket_in_range(kinds::read_bucket(body, 0)),
+            _ => true,
+        }
     }
 }

@@ -6,32 +6,13 @@ ghost use Rattle.reader.specs.CallFields as specs;
 
 use crate::call_kinds::Call;
 use crate::keys;
+use crate::named_field::NamedField;
 use wire::fields::Field;
 use wire::tags::Tag;
 use wire::trees::Tree;
 use wire::{bpos, keys as wire_keys, kinds};
 
-// Whether a field beside field 1 may stand in a list of the call that is asked for; without one no request may.
-#[tactic(auto, using(crate::proofs::ShapeLaws::call_cases))]
-pub fn call_field_ok(asked: Option<u8>, field: Field) -> bool
-    ensures { result ≡ call_field_ok (unwrap_or asked 0) (field_in field.entry) }
-{
-    let call = asked.unwrap_or(0);
-    let len = field.body.len();
-    let Some(tag) = Tag::named(field.tag) else {
-        return false;
-    };
-    match tag {
-        Tag::Key(Tree::Extents) => false,
-        Tag::Key(_) => keys::key_ok(field.body),
-        Tag::Reserved => len == 4,
-        Tag::Piece => call == Call::Place.number() && len == 13,
-        Tag::Freed => call == Call::Release.number() && len == 10,
-        _ => false,
-    }
-}
-
-// Whether two bodies of a tag, side by side, ascend. The length that the tag asks shows the bounds. By number and not by name: of a tag below 15 that has no name the clause says what it says of a key's.
+// Whether two bodies of a tag, side by side, ascend. The length that the tag asks shows the bounds. By number and not by name: of each tag below 15 the clause says what it says of a key's, of field 1's too.
 #[tactic(auto, using(crate::proofs::OrderingLaws::ascends_cases))]
 fn ascends(tag: u8, before: &[u8], body: &[u8]) -> bool
     requires { (least_of tag ≤ length before.now) × (least_of tag ≤ length body.now) }
@@ -44,11 +25,31 @@ fn ascends(tag: u8, before: &[u8], body: &[u8]) -> bool
     }
 }
 
-// Whether a field stands in order after another. The length that its tag asks, of both where they have one tag, shows the bounds.
-#[tactic(auto, using(crate::proofs::OrderingLaws::follows_cases))]
-pub fn follows(last: Field, field: Field) -> bool
-    requires { (last.tag ≡ field.tag → least_of field.tag ≤ length last.body.now) × (least_of field.tag ≤ length field.body.now) }
-    ensures { result ≡ specs.follows (field_in last.entry) (field_in field.entry) }
-{
-    last.tag < field.tag || (last.tag == field.tag && ascends(field.tag, last.body, field.body))
+impl<'a> NamedField<'a> {
+    // Whether a field beside field 1 may stand in a list of the call that is asked for; without one no request may.
+    #[tactic(auto, using(crate::proofs::ShapeLaws::call_cases))]
+    pub fn may_stand(self, asked: Option<u8>) -> bool
+        ensures { result ≡ call_field_ok (unwrap_or asked 0) (field_in self.entry.field) }
+    {
+        let call = asked.unwrap_or(0);
+        let len = self.field.body.len();
+        match self.tag {
+            Tag::Key(Tree::Extents) => false,
+            Tag::Key(_) => keys::key_ok(self.field.body),
+            Tag::Reserved => len == 4,
+            Tag::Piece => call == Call::Place.number() && len == 13,
+            Tag::Freed => call == Call::Release.number() && len == 10,
+            _ => false,
+        }
+    }
+
+    // Whether a field stands in order after another. The length that its tag asks, of both where they have one tag, shows the bounds.
+    #[tactic(auto, using(crate::proofs::OrderingLaws::follows_cases))]
+    pub fn follows(self, last: Field) -> bool
+        requires { (last.tag ≡ self.field.tag → least_of self.field.tag ≤ length last.body.now) × (least_of self.field.tag ≤ length self.field.body.now) }
+        ensures { result ≡ specs.follows (field_in last.entry) (field_in self.entry.field) }
+    {
+        let field = self.field;
+        last.tag < field.tag || (last.tag == field.tag && ascends(field.tag, last.body, field.body))
+    }
 }

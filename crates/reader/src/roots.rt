@@ -17,8 +17,29 @@ pub enum Root {
     BucketGens,
 }
 
+// An id that no root has.
+#[derive(Clone, Copy, PartialEq, Eq, Debug, Drop)]
+pub struct UnknownRoot(pub u8);
+
+impl TryFrom<u8> for Root {
+    type Error = UnknownRoot;
+
+    ghost try_from_gives = { RootNamed };
+
+    // The root with an id, if one has it.
+    #[tactic(auto, unfolding(crate::specs::Roots::is_root))]
+    fn try_from(id: u8) -> Result<Root, UnknownRoot> {
+        match Tree::try_from(id) {
+            Ok(Tree::Lru) => Ok(Root::Lru),
+            Ok(Tree::NeedDiscard) => Ok(Root::NeedDiscard),
+            Ok(Tree::BucketGens) => Ok(Root::BucketGens),
+            _ => Err(UnknownRoot(id)),
+        }
+    }
+}
+
 impl Root {
-    // Its id: the tag of its tree.
+    // Its id: the tag of its tree. A method and not `From`: its name says which number, where `u8::from` does not.
     pub fn id(self) -> u8
         ensures { result ≡ root_id self }
     {
@@ -26,19 +47,6 @@ impl Root {
             Root::Lru => Tree::Lru.tag(),
             Root::NeedDiscard => Tree::NeedDiscard.tag(),
             Root::BucketGens => Tree::BucketGens.tag(),
-        }
-    }
-
-    // The root with an id.
-    #[tactic(auto, unfolding(crate::specs::Roots::is_root))]
-    pub fn of_id(id: u8) -> Option<Root>
-        ensures { RootNamed id result }
-    {
-        match id {
-            10 => Some(Root::Lru),
-            12 => Some(Root::NeedDiscard),
-            14 => Some(Root::BucketGens),
-            _ => None,
         }
     }
 

@@ -5,8 +5,9 @@ ghost use Rattle.reader.specs.CallFields.{head_field_ok, least_of};
 ghost use Rattle.reader.specs.Table.{rank_of, Free, FieldNoted, Fits};
 ghost use Rattle.reader.specs.Surveyed.{HeadFirst, Surveyed, OrderSurveyed};
 
+use crate::named_field::NamedField;
 use crate::table::PlaceTable;
-use crate::{head, limits, order, table};
+use crate::{head, table};
 use wire::fields::{Field, Fields};
 use wire::tags::Tag;
 
@@ -46,11 +47,11 @@ fn head_first(s: &[u8], asked: Option<u8>) -> Option<Field>
 }
 
 // Whether a limit is passed, now or before: else the field's place is noted. The length that its tag asks shows the bound.
-fn passes(over: bool, field: Field, table: &mut PlaceTable) -> bool
-    requires { (least_of field.tag ≤ length field.body.now) × (over ≡ false → Free table.old (rank_of field.tag)) }
-    ensures { FieldNoted over (field_in field.entry) field.entry.start table.old table.new result }
+fn passes(over: bool, field: NamedField, table: &mut PlaceTable) -> bool
+    requires { (least_of field.field.tag ≤ length field.field.body.now) × (over ≡ false → Free table.old (rank_of field.field.tag)) }
+    ensures { FieldNoted over (field_in field.entry.field) field.entry.field.start table.old table.new result }
 {
-    over || !limits::field_within(field) || !table.note(table::rank_of(field.tag), field.start)
+    over || !field.keeps_limits() || !table.note(table::rank(field.tag), field.field.start)
 }
 
 // The pass over a list in any order, of the call that is asked for, or of whatever call its head names: field 1 may stand anywhere, and no order is told. None where the list breaks the layout, as a field that passes the end does. `Fits` says that the table that is lent is long enough.
@@ -63,8 +64,9 @@ fn survey_any(s: &[u8], asked: Option<u8>, index: &mut [u32]) -> Option<Laid>
     let mut over = false;
     let mut fields = Fields::of(s);
     while let Some(field) = fields.next() {
-        if order::call_field_ok(asked, field) {
-            over = passes(over, field, &mut table);
+        let named = NamedField::try_from(field).ok()?;
+        if named.may_stand(asked) {
+            over = passes(over, named, &mut table);
         } else {
             if field.tag != Tag::Head.number()
                 || head.is_some()
@@ -96,10 +98,11 @@ fn survey_ordered(s: &[u8], asked: Option<u8>, index: &mut [u32]) -> Option<Laid
     let mut last = head;
     let mut fields = Fields::from_place(s, head.start + head.body.len());
     while let Some(field) = fields.next() {
-        if !order::call_field_ok(asked, field) || !order::follows(last, field) {
+        let named = NamedField::try_from(field).ok()?;
+        if !named.may_stand(asked) || !named.follows(last) {
             return None;
         }
-        over = passes(over, field, &mut table);
+        over = passes(over, named, &mut table);
         last = field;
     }
     if !fields.at_end() {

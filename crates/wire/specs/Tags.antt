@@ -1,8 +1,10 @@
 -- FORMAT.md, "Fields": what a field is, by its tag.
-use Rattle.std.specs.Prelude.{◌≡◌, ℕ, Option, Some, None}
+use Rattle.std.specs.Prelude.{◌≡◌, ℕ, Result, Ok, Err}
 use Rattle.wire.specs.TreeTags.{tree_tag}
 use Rattle.wire.specs.declared.trees.Tree.{Tree}
+use Rattle.wire.specs.declared.trees.UnknownTree.{UnknownTree}
 use Rattle.wire.specs.declared.tags.Tag.{Tag}
+use Rattle.wire.specs.declared.tags.UnknownTag.{UnknownTag}
 use Rattle.wire.specs.declared.tags.Tag.TheVariants.{Head, Key, Reserved, Piece, Freed, Root, Taken, Spot, Row, Sectors, Unreserved, End}
 
 -- the number of a tag
@@ -21,11 +23,11 @@ tag_number Unreserved = 75
 tag_number End = 76
 
 -- the tree whose keys have this tag, or none has it
-abbrev pub TreeNamed : ℕ → Option Tree → Type 0
-TreeNamed n (Some t) = n ≡ tree_tag t
-TreeNamed n None = (t : Tree) → n ≡ tree_tag t → ⊥
+abbrev pub TreeNamed : ℕ → Result Tree UnknownTree → Type 0
+TreeNamed n (Ok t) = n ≡ tree_tag t
+TreeNamed n (Err e) = (e.0 ≡ n) × ((t : Tree) → n ≡ tree_tag t → ⊥)
 
 -- the tag with this number, or none has it
-abbrev pub TagNamed : ℕ → Option Tag → Type 0
-TagNamed n (Some t) = n ≡ tag_number t
-TagNamed n None = (t : Tag) → n ≡ tag_number t → ⊥
+abbrev pub TagNamed : ℕ → Result Tag UnknownTag → Type 0
+TagNamed n (Ok t) = n ≡ tag_number t
+TagNamed n (Err e) = (e.0 ≡ n) × ((t : Tag) → n ≡ tag_number t → ⊥)

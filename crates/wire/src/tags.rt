@@ -2,7 +2,7 @@
 ghost use Rattle.std.specs.Prelude.{◌≡◌};
 ghost use Rattle.wire.specs.Tags.{tag_number, TagNamed};
 
-use crate::trees::Tree;
+use crate::trees::{Tree, UnknownTree};
 
 // What a field is, by its tag.
 #[derive(Clone, Copy, PartialEq, Eq, Debug, Drop)]
@@ -33,28 +33,45 @@ pub enum Tag {
     End,
 }
 
-impl Tag {
+// A number that no tag has.
+#[derive(Clone, Copy, PartialEq, Eq, Debug, Drop)]
+pub struct UnknownTag(pub u8);
+
+// The same byte, as a number that no tag has.
+impl From<UnknownTree> for UnknownTag {
+    ghost from_gives = { λ tree tag. tag.0 ≡ tree.0 };
+
+    fn from(tree: UnknownTree) -> UnknownTag {
+        UnknownTag(tree.0)
+    }
+}
+
+impl TryFrom<u8> for Tag {
+    type Error = UnknownTag;
+
+    ghost try_from_gives = { TagNamed };
+
     // The tag with a number, if one has it.
-    pub fn named(number: u8) -> Option<Tag>
-        ensures { TagNamed number result }
-    {
+    fn try_from(number: u8) -> Result<Tag, UnknownTag> {
         match number {
-            1 => Some(Tag::Head),
-            64 => Some(Tag::Reserved),
-            65 => Some(Tag::Piece),
-            66 => Some(Tag::Freed),
-            70 => Some(Tag::Root),
-            71 => Some(Tag::Taken),
-            72 => Some(Tag::Spot),
-            73 => Some(Tag::Row),
-            74 => Some(Tag::Sectors),
-            75 => Some(Tag::Unreserved),
-            76 => Some(Tag::End),
-            _ => Some(Tag::Key(Tree::named(number)?)),
+            1 => Ok(Tag::Head),
+            64 => Ok(Tag::Reserved),
+            65 => Ok(Tag::Piece),
+            66 => Ok(Tag::Freed),
+            70 => Ok(Tag::Root),
+            71 => Ok(Tag::Taken),
+            72 => Ok(Tag::Spot),
+            73 => Ok(Tag::Row),
+            74 => Ok(Tag::Sectors),
+            75 => Ok(Tag::Unreserved),
+            76 => Ok(Tag::End),
+            _ => Ok(Tag::Key(Tree::try_from(number)?)),
         }
     }
+}
 
-    // Its number. Each stands here and in `named`: a variant that holds a tree leaves the others no discriminants, and a table of them would have to be searched at each field.
+impl Tag {
+    // Its number. A method and not `From`: its name says which number, where `u8::from` does not. Each stands here and in `try_from`: a variant that holds a tree leaves the others no discriminants, and a table of them would have to be searched at each field.
     pub fn number(self) -> u8
         ensures { result ≡ tag_number self }
     {
