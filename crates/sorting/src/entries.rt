@@ -62,6 +62,8 @@ pub struct Entry<'a> {
 }
 
 impl<'a> Entry<'a> {
+    ghost use Rattle.std.specs.Prelude.{◌+◌, ◌≤◌, length};
+    ghost use Rattle.sorting.specs.EntryPlaces.{size_at};
     ghost use Rattle.sorting.specs.EntrySteps.{entry_listed, entry_body};
 
     // Its position.
@@ -84,12 +86,20 @@ impl<'a> Entry<'a> {
         }
     }
 
+    // Where its body ends.
+    #[tactic(auto, unfolding(crate::specs::EntryPlaces::size_at))]
+    pub fn end(&self) -> usize
+        ensures ends { result ≡ self.now.at + size_at self.now.list.now self.now.at }
+        ensures within { result ≤ length self.now.list.now }
+    {
+        self.at + fields::len_at(self.list, self.at)
+    }
+
     // Its body.
     pub fn body(&self) -> &'a [u8]
         ensures { result.now ≡ entry_body self.now }
     {
-        let len = fields::len_at(self.list, self.at);
-        &self.list[self.at..self.at + len]
+        &self.list[self.at..self.end()]
     }
 }
 
