@@ -50,7 +50,3 @@ front (k ∷ g) l = below (upper k.pos) l ++ (shown k ++ front g (skip_at k.pos 
 unfoldable pub back : List Key → List Key → List Key
 back [] l = l
 back (k ∷ g) l = back g (skip_at k.pos (beyond (upper k.pos) l))
-
--- what one queued key makes of those gathered so far
-unfoldable pub considered : Bound → Key → List Key → List Key
-considered b k g = cond (over b k.pos) (upsert k g) g

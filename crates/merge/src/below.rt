@@ -7,13 +7,14 @@ ghost use Rattle.merge.specs.Counts.{StandsWithin};
 ghost use Rattle.merge.specs.Merging.{Left, left_in, stretch_of, Stretched, Put, KeyCounted};
 
 use crate::limits::KeyCount;
+use sorting::bound;
 use sorting::bound::Bound;
-use sorting::{bound, entries};
+use sorting::entries::Entry;
 use std::marker::Model;
+use wire::bpos;
 use wire::bpos::Bpos;
 use wire::key_types::KeyType;
 use wire::output::Output;
-use wire::{bpos, fields};
 
 // Neighbouring fields of the volume: how many they are, where the last of them ends, and the count up to it.
 #[derive(Clone, Copy, Drop)]
@@ -69,13 +70,17 @@ fn pass_below(
 {
     let mut end = start;
     let mut count = counted;
-    for (n, key) in keys.iter().enumerate() {
-        let o = *key as usize;
-        if o != end + 3 || !bound::is_under(lim, entries::pos_at(vol, o, section)) {
+    for (n, place) in keys.iter().enumerate() {
+        let key = Entry {
+            list: vol,
+            section,
+            at: *place as usize,
+        };
+        if key.at != end + 3 || !bound::is_under(lim, key.pos()) {
             return Stretch::of(n, end, count);
         }
         count = count.add_within();
-        end = o + fields::len_at(vol, o);
+        end = key.end();
     }
     Stretch::of(keys.len(), end, count)
 }
@@ -131,10 +136,12 @@ impl<'a> Rest<'a> {
         let [first, others @ ..] = self.keys else {
             return;
         };
-        if bpos::pos_same(
-            pos,
-            entries::pos_at(self.vol, *first as usize, self.section),
-        ) {
+        let key = Entry {
+            list: self.vol,
+            section: self.section,
+            at: *first as usize,
+        };
+        if bpos::pos_same(pos, key.pos()) {
             self.keys = others;
         }
     }

@@ -1,7 +1,7 @@
 -- One field's part of a section: its key and its bytes.
 use Prim.Native.Nat.{ℕ, ◌+◌, ◌-◌, ◌≤◌, ◌<◌}
 use mathlib.Core.Path.{◌≡◌, refl, ap, sym, ◌∙◌}
-use mathlib.Core.Bool.{Bool, true, false, ◌&&◌}
+use mathlib.Core.Bool.{Bool, true, false, ◌&&◌, cond}
 use mathlib.Core.List.{List, [], ◌∷◌}
 use mathlib.Core.Logic.{⊎_elim}
 use native.Mathlib.Nat.{add-zero}
@@ -25,6 +25,7 @@ use Rattle.wire.proofs.RoundTrip.{body-again}
 use Rattle.calls.specs.CallList.{reserved_field}
 use Rattle.calls.proofs.lists.BoolLaws.{parts}
 use Rattle.sorting.specs.Entries.{is_bucket, is_entry, entry_of, entries, field_for}
+use Rattle.sorting.specs.Places.{body_least, body_pos}
 use Rattle.sorting.specs.EntryPlaces.{size_at, tag_at, entry_from, EntryAt, Stands, EntryHere}
 
 -- a field that a step found, by the place of its body
@@ -160,6 +161,21 @@ module _ {t : ℕ} {s : List ℕ} {o : ℕ} (k : EntryAt t s o) where
   pub key-pos : (t ≡ 64 → ⊥) → pos_of (drop (o + 17) s) ≡ (entry_from t s o).pos
   unfolding entry_from entry_of
   key-pos z = rw (ne_eqb t 64 z) (sym (pos-at s o (size_at s o) (key-size z).0))
+
+  -- the least length, and the position, of a body of the section
+  pub body-within : o + body_least t ≤ length s
+  body-within = go (eqb t 64) refl
+    where
+      go : (u : Bool) → eqb t 64 ≡ u → o + cond u 4 37 ≤ length s
+      go true e = bucket-size (eqb-true t 64 e)
+      go false e = (key-size (λ z. let w : ◌≡◌ {A = ℕ} 0 1 = let y = eq-eqb t 64 z in cc in omega arith)).1
+
+  pub body-pos : body_pos t s o ≡ (entry_from t s o).pos
+  body-pos = go (eqb t 64) refl
+    where
+      go : (u : Bool) → eqb t 64 ≡ u → cond u (alloc_at (bucket_read (drop o s))) (pos_of (drop (o + 17) s)) ≡ (entry_from t s o).pos
+      go true e = bucket-pos (eqb-true t 64 e)
+      go false e = key-pos (λ z. let w : ◌≡◌ {A = ℕ} 0 1 = let y = eq-eqb t 64 z in cc in omega arith)
 
   pub bucket-deleted : t ≡ 64 → get_or s (o - 3) 0 ≡ 75 → 0 ≡ (entry_from t s o).type
   unfolding entry_from entry_of tag_at

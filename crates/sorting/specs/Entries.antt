@@ -23,6 +23,10 @@ bucket_key type b = new_key type 0 (alloc_at b) []
 unfoldable pub is_bucket : ℕ → ℕ → Bool
 is_bucket tag n = eqb n 4 && (eqb tag 64 || (eqb tag 71 || eqb tag 75))
 
+-- a body of a key of section t may be so long
+abbrev pub is_sized : ℕ → ℕ → Bool
+is_sized t n = cond (eqb t 64) (eqb n 4) (leb 37 n && leb n 293)
+
 -- a field with a tag and a length is of section t
 unfoldable pub is_entry : ℕ → ℕ → ℕ → Bool
 is_entry t tag n = cond (eqb t 64) (is_bucket tag n) (eqb tag t && (leb 37 n && leb n 293))

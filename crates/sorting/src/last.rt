@@ -22,7 +22,7 @@ pub fn keep_last<'t>(s: &[u8], t: &'t mut [usize]) -> &'t [usize]
     requires { All (FieldInside s.now) t.old }
     ensures { result.now ≡ lasts (place_less s.now) t.old }
 {
-    // By index: a place is written to the front of the slice whose end is still read.
+    // By index, as no form is plainer: the slice that is read is the one that is written, so that no iterator may hold it.
     let mut n = 0;
     for i in 0..t.len() {
         if is_ahead(s, &t[i..]) {

@@ -22,9 +22,9 @@ returns-then-pos_same c =
     rw (← c.self.view_is)
     (same _ _
     (ap (entries_at i.section i.vol.now) e
-    ∙ sym (skip-it _ _ _ _ (omega arith) (cc (c.pos_at.ensures, c.pos_same.ensures, c.if-pos_same.true)))))
+    ∙ sym (skip-it _ _ _ _ (omega arith) (cc (c.pos.ensures, c.pos_same.ensures, c.if-pos_same.true)))))
 
 pub returns-else-pos_same : goal.returns-else-pos_same
 returns-else-pos_same c =
     rw (← c.self.view_is)
-    (same _ _ (sym (skip-other _ _ _ _ (omega arith) (cc (c.pos_at.ensures, c.pos_same.ensures, c.if-pos_same.false)))))
+    (same _ _ (sym (skip-other _ _ _ _ (omega arith) (cc (c.pos.ensures, c.pos_same.ensures, c.if-pos_same.false)))))
