@@ -43,11 +43,7 @@ pub fn run_of(key: ListedKey) -> Option<Run>
 {
     let end = key.bucket();
     let start = kinds::run_start(end, key.size());
-    if is_run(key) && start < end {
-        Some(Run { start, end })
-    } else {
-        None
-    }
+    (is_run(key) && start < end).then_some(Run { start, end })
 }
 
 // Whether two runs overlap: one starts below the end of the last before it that is not empty. Refusals 2, 22 and 3 show what is asked, here and below.
@@ -55,17 +51,10 @@ pub fn overlaps(runs: Keys) -> bool
     requires { RunsChecked (keys_listed runs) }
     ensures { result ≡ overlaps (runs_of (keys_listed runs.entry)) }
 {
-    // A loop and not `any`: std's lemmas on `any` are of a closure that leaves what it captures as it was, and each turn needs the end of the one before.
-    let mut last = Bucket(0);
-    for key in runs.iter() {
-        if let Some(run) = run_of(key) {
-            if run.start < last {
-                return true;
-            }
-            last = run.end;
-        }
-    }
-    false
+    !runs
+        .iter()
+        .filter_map(|key| run_of(key))
+        .is_sorted_by(|a, b| a.end <= b.start)
 }
 
 // How many reserved buckets are below one, of which the first `from` are known to be.

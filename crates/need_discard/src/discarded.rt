@@ -8,6 +8,7 @@ ghost use Rattle.need_discard.specs.Chosen.{need_trees, is_value_taken, discarde
 
 use crate::waiting::Waiting;
 use format::alloc;
+use format::data_types::DataType;
 use reader::key::ListedKey;
 use reader::listed_keys::Keys;
 use wire::key_types::KeyType;
@@ -26,7 +27,7 @@ pub fn gen_taken(s: &[u8], at: usize) -> bool
 fn value_taken(value: &[u8]) -> bool
     ensures { result ≡ is_value_taken value.now }
 {
-    56 <= value.len() && alloc::data_type(value, 0) == 9 && gen_taken(value, 0)
+    56 <= value.len() && alloc::data_type(value, 0) == DataType::NeedDiscard.number() && gen_taken(value, 0)
 }
 
 // Whether an alloc key is discarded.

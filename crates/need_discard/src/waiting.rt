@@ -46,18 +46,11 @@ fn names_bucket(key: &ListedKey, b: Bucket) -> bool
     key.bucket() == b && key.key_type() == KeyType::Set.number()
 }
 
-// The last key that names a bucket, by a search through the keys.
+// The last key that names a bucket, by a search through the keys from the last on.
 fn search_key<'a>(keys: &Keys<'a>, b: Bucket) -> Option<ListedKey<'a>>
     ensures { found result ≡ waiting_key (keys_listed keys.now) b }
 {
-    let mut last = None;
-    // A loop: what std ensures of `filter(..).last()` is of runs, and no law turns a run of `Keys` into the list of its keys.
-    for key in keys.iter() {
-        if names_bucket(&key, b) {
-            last = Some(key);
-        }
-    }
-    last
+    keys.iter().rev().find(|key| names_bucket(key, b))
 }
 
 // The same, from a filled table.
