@@ -1,4 +1,4 @@
-use Rattle.std.proofs.Common.{rules, tests, of_calls, arith, ap, sym, subst, not, ◌∙◌}
+use Rattle.std.proofs.Common.{rules, of_calls, ap, sym, subst, not, ◌∙◌}
 use Rattle.std.proofs.lemmas.Iterator.{YieldsList}
 use Rattle.std.proofs.lemmas.Iterator.Consumers.{YieldsList-from_shown, YieldsList-from_filter_map}
 use Rattle.std.specs.Iterator.Adapters.{filter_map_source}

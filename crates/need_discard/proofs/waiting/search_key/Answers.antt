@@ -1,4 +1,4 @@
-use Rattle.std.proofs.Common.{rules, ap, sym, subst, ◌∙◌}
+use Rattle.std.proofs.Common.{rules, ap, subst, ◌∙◌}
 use mathlib.Core.List.{reverse}
 use Rattle.std.specs.Iterator.Adapters.{rev_steps}
 use Rattle.std.proofs.lemmas.Iterator.{YieldsList}
