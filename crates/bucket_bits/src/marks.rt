@@ -20,7 +20,7 @@ pub struct BucketBits {
     pub bytes: [u8; 8192],
 }
 
-// Whether a bit of a byte is 1. A remainder by 8 shows the bound, here and below.
+// Whether a bit of a byte is 1. A remainder by 8 shows the bound.
 fn has_bit(x: u8, k: usize) -> bool
     requires { k < 8 }
     ensures { result ≡ has_bit k x }
@@ -28,7 +28,7 @@ fn has_bit(x: u8, k: usize) -> bool
     x >> k & 1 == 1
 }
 
-// A byte with a bit set.
+// A byte with a bit set. A remainder by 8 shows the bound.
 fn with_bit(x: u8, k: usize) -> u8
     requires { k < 8 }
     ensures { result ≡ with_bit k x }
@@ -60,7 +60,8 @@ impl BucketBits {
         BucketBits { bytes: [0; 8192] }
     }
 
-    // Whether a bucket is marked. The limits show the bound, here and below.
+    // Whether a bucket is marked. The limits show the bound.
+    // No type shows it: one in range would be a second kind beside `Bucket`, and a bucket of a list may have any number.
     #[tactic(auto, unfolding(crate::specs::Bits::marked))]
     pub fn is_marked(&self, b: Bucket) -> bool
         requires { bucket_in_range b ≡ true }
@@ -70,7 +71,7 @@ impl BucketBits {
         has_bit(self.bytes[i], (b.0 % 8) as usize)
     }
 
-    // Marks a bucket.
+    // Marks a bucket. The limits show the bound.
     #[tactic(auto, unfolding(crate::specs::Bits::with_mark))]
     fn mark(&mut self, b: Bucket)
         requires { bucket_in_range b ≡ true }
@@ -80,7 +81,7 @@ impl BucketBits {
         self.bytes[i] = with_bit(self.bytes[i], (b.0 % 8) as usize);
     }
 
-    // Marks the bucket of an alloc key, if it is in use.
+    // Marks the bucket of an alloc key, if it is in use. The limits show what is asked.
     fn mark_key(&mut self, key: ListedKey)
         requires { in_range (key_listed key) ≡ true }
         ensures { self.new ≡ used_mark (key_listed key.entry) self.old }
@@ -90,7 +91,7 @@ impl BucketBits {
         }
     }
 
-    // The reserved buckets are marked.
+    // The reserved buckets are marked. Refusals 2, 22 and 3 show what is asked.
     pub fn of_reserved(reserved: ReservedBuckets) -> BucketBits
         requires { ReservedChecked (buckets_listed reserved) }
         ensures { Marks result (is_in (buckets_listed reserved.entry)) }
@@ -102,7 +103,7 @@ impl BucketBits {
         bits
     }
 
-    // The buckets in use are marked.
+    // The buckets in use are marked. Refusals 2, 22 and 3 show what is asked.
     pub fn of_used(alloc: Keys) -> BucketBits
         requires { AllocChecked (keys_listed alloc) }
         ensures { Marks result (is_used (keys_listed alloc.entry)) }

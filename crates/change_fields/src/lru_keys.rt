@@ -19,6 +19,7 @@ use wire::positions;
 use wire::trees::Tree;
 
 // A key of a type where a bucket's LRU key stands.
+// The bucket, its dirty count and its sectors make no struct: a release asks at two counts, so each call would make one.
 fn put_lru_at(out: &mut Output, key_type: KeyType, b: Bucket, dirty: u32, sectors: NonZero<u64>)
     ensures { out.new ≡ with_bytes out.old (keys_bytes 10 (cond (ltb dirty (non_zero_u64_get sectors)) (new_key (key_type_number key_type) 0 (lru_at (fragmentation dirty (non_zero_u64_get sectors)) b) [] ∷ []) [])) }
 {

@@ -9,7 +9,7 @@ use wire::key_types::KeyType;
 use wire::keys::KeyHead;
 use wire::output::Output;
 
-// A new key of a tree, without a value.
+// A new key of a tree, without a value. No `KeyHead` is asked for: each caller would only say `KeyHead::new` of the same three.
 pub fn put_new_key(out: &mut Output, tree: u8, key_type: u8, size: u32, pos: Bpos)
     ensures { out.new ≡ with_bytes out.old (encode_field (key_field tree (new_key key_type size pos []))) }
 {

@@ -1,4 +1,5 @@
 pub mod FreeLaws
+pub mod NeighbourLaws
 pub mod RunLaws
 pub mod TakeLaws
 pub mod TakenLaws

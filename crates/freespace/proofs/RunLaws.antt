@@ -1,6 +1,6 @@
 -- Runs whose ends ascend: whether they overlap, and how many buckets of them are free.
 use mathlib.Core.Path.{◌≡◌, refl, ap, sym, ◌∙◌}
-use mathlib.Core.Bool.{Bool, true, false, ◌&&◌, ◌||◌, and-false, cond}
+use mathlib.Core.Bool.{Bool, true, false, not, ◌&&◌, ◌||◌, and-false, cond}
 use mathlib.Core.List.{List, [], ◌∷◌, map}
 use Prim.Native.Nat.{Ordering}
 use Prim.Native.Nat.{ℕ, suc, ◌≤◌, ◌<◌}
@@ -14,7 +14,8 @@ use Rattle.wire.specs.declared.bpos.Bpos.{Bpos}
 use Rattle.wire.specs.declared.kinds.Bucket.{Bucket}
 use Rattle.wire.proofs.OrderLaws.{cmp-less, offset-more, snapshot-less}
 use Rattle.std.specs.Prelude.{Option, None, Some}
-use Rattle.std.specs.Ordering.{is_lt, nat_cmp}
+use Rattle.std.specs.List.{filter_map, cons_option}
+use Rattle.std.specs.Ordering.{is_le, nat_cmp}
 use Rattle.std.proofs.lemmas.Bool.Decides.{nat_tests}
 use Rattle.calls.specs.Lists.{all_of, any_of, those, in_order}
 use Rattle.calls.specs.Limits.{is_run, is_set, at_inode0}
@@ -26,6 +27,7 @@ use Rattle.calls.proofs.lists.AllOfLaws.{any-of-fails}
 use Rattle.reader.specs.Checked.{end_in_range}
 use Rattle.freespace.specs.Runs.{run_in}
 use Rattle.freespace.specs.declared.runs.Run.{Run}
+use Rattle.freespace.proofs.NeighbourLaws.{neighbours_from, neighbours}
 use Rattle.freespace.proofs.WalkLaws.{up-to-none}
 use Rattle.reader.proofs.CheckedLaws.{end-at}
 
@@ -182,31 +184,46 @@ starts_none ks = any-of-fails (starts_below no_bucket) ks (λ k. rw (le-ltb (sta
 pub meets-all : (ks : List Key) → Sorted ks → NoSnapshots ks → meets no_bucket ks ≡ overlaps (runs_of ks)
 meets-all ks c n = meets-overlaps no_bucket ks (ends-rise ks c n) ∙ ap (λ (t : Bool). t || overlaps (runs_of ks)) (starts_none (runs_of ks))
 
--- what the order of two buckets says of their numbers
-pub less-number : (a b : ℕ) → is_lt (nat_cmp a b) ≡ true → a < b
-less-number a b h = grind (arith, nat_tests)
+-- a run starts at the end of the one before, or above it
+abbrev pub apart : Run → Run → Bool
+apart a b = not (bucket_below b.start a.end)
 
-pub least-number : (a b : ℕ) → is_lt (nat_cmp a b) ≡ false → b ≤ a
-least-number a b h = grind (arith, nat_tests)
+-- the test of the code
+pub starts-after : (m n : ℕ) → is_le (nat_cmp m n) ≡ not (ltb n m)
+starts-after m n = grind (arith, nat_tests)
 
--- one key of the pass
-module _ (last : Bucket) {k : Key} {ks rest : List Key} (f : ks ≡ k ∷ rest) where
-  pub meets-skip : run_in k ≡ None → meets last rest ≡ meets last ks
-  unfolding meets
-  meets-skip e = sym (ap (meets last) f ∙ rw e)
+-- runs start at a bucket or above it, and each at the end of the one before or above that
+abbrev clear_from : Bucket → List Run → Bool
+clear_from last [] = true
+clear_from last (r ∷ rs) = not (bucket_below r.start last) && clear_from r.end rs
 
-  module _ {x : Run} (e : run_in k ≡ Some x) where
-    pub meets-stop : x.start.0 < last.0 → meets last ks ≡ true
-    unfolding meets
-    meets-stop h = ap (meets last) f ∙ rw (e, lt-ltb x.start.0 last.0 h)
+clear-next : (r : Run) (rs : List Run) → neighbours_from apart r rs ≡ clear_from r.end rs
+clear-next r [] = refl
+clear-next r (x ∷ xs) = ap (λ (b : Bool). apart r x && b) (clear-next x xs)
 
-    pub meets_on : last.0 ≤ x.start.0 → meets x.end rest ≡ meets last ks
-    unfolding meets
-    meets_on h = sym (ap (meets last) f ∙ rw (e, le-ltb x.start.0 last.0 h))
+clear-all : (rs : List Run) → neighbours apart rs ≡ clear_from no_bucket rs
+clear-all [] = refl
+clear-all (r ∷ rs) = clear-next r rs ∙ rw (le-ltb r.start.0 0 (omega arith)) refl
 
-pub meets-none : (last : Bucket) {ks : List Key} → ks ≡ [] → meets last ks ≡ false
+meets-clear : (last : Bucket) (ks : List Key) → meets last ks ≡ not (clear_from last (filter_map run_in ks))
 unfolding meets
-meets-none last e = ap (meets last) e
+meets-clear last [] = refl
+meets-clear last (k ∷ ks) = go (run_in k) (λ b. meets-clear b ks)
+  where
+    both : (a b : Bool) → a || not b ≡ not (not a && b)
+    both true b = refl
+    both false b = refl
+
+    go : (x : Option Run) → ((b : Bucket) → meets b ks ≡ not (clear_from b (filter_map run_in ks)))
+        → by_run (meets last ks) (λ r. bucket_below r.start last || meets r.end ks) x ≡ not (clear_from last (cons_option x (filter_map run_in ks)))
+    go None f = f last
+    go (Some r) f =
+        ap (λ (b : Bool). bucket_below r.start last || b) (f r.end)
+        ∙ both (bucket_below r.start last) (clear_from r.end (filter_map run_in ks))
+
+-- runs in their order overlap where one starts below the end of the one before it
+pub apart-overlaps : (ks : List Key) → Sorted ks → NoSnapshots ks → not (neighbours apart (filter_map run_in ks)) ≡ overlaps (runs_of ks)
+apart-overlaps ks c n = ap not (clear-all (filter_map run_in ks)) ∙ sym (meets-clear no_bucket ks) ∙ meets-all ks c n
 
 -- the run that a key is
 pub record RunHere (k : Key) (x : Run) : Type 0 where

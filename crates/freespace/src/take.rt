@@ -17,7 +17,7 @@ use reader::refusal::Refusal;
 use wire::kinds;
 use wire::kinds::Bucket;
 
-// What the walk makes, so far or in the end, beside the buckets taken, which stand at the front of an array that is lent.
+// What the walk makes, so far or in the end, beside the buckets taken. No heap: they stand at the front of an array that is lent, and the walk under way has only their number.
 #[derive(Clone, Copy, Drop)]
 pub struct Walked {
     // How many buckets are taken.
@@ -36,6 +36,7 @@ pub struct Walker<'a> {
     pub used: &'a BucketBits,
     pub wanted: usize,
     pub ghost tables: { Tables read.now reserved.now used.now },
+    pub ghost checked: { RunsChecked (keys_listed read.now.freespace) },
 }
 
 impl Walked {
@@ -96,9 +97,9 @@ impl<'a> Walker<'a> {
         }
     }
 
-    // Takes the buckets that are wanted from the runs, in their order. Refusals 2, 22 and 3 and the lent table show what is asked, here and below.
+    // Takes the buckets that are wanted from the runs, in their order. The lent table shows what is asked.
     pub fn take_buckets(&self, taken: &mut [Bucket]) -> Result<Walked, Refusal>
-        requires { RunsChecked (keys_listed self.now.read.now.freespace) × (self.now.wanted ≤ length taken.old) }
+        requires { self.now.wanted ≤ length taken.old }
         ensures { WalkIs self.now.wanted (λ w. take w.passed (keys_listed self.now.read.now.freespace)) (walk (is_in (buckets_listed self.now.read.now.reserved)) (is_used (keys_listed self.now.read.now.alloc)) self.now.wanted (runs_of (keys_listed self.now.read.now.freespace))) unwalked taken.old taken.new result }
     {
         let mut w = Walked {
@@ -116,7 +117,8 @@ impl<'a> Walker<'a> {
     }
 }
 
-// The walk, with its tables filled.
+// The walk, with its tables filled. Refusals 2, 22 and 3 and the lent table show what is asked.
+// Three facts and no type: one type of all three would ask them of `overlaps`, which needs one.
 pub fn walk_runs(read: &ReadList, n: usize, taken: &mut [Bucket]) -> Result<Walked, Refusal>
     requires { AllocChecked (keys_listed read.now.alloc) × RunsChecked (keys_listed read.now.freespace) × ReservedChecked (buckets_listed read.now.reserved) × (n ≤ length taken.old) }
     ensures { WalkIs n (λ w. take w.passed (keys_listed read.now.freespace)) (walk (is_in (buckets_listed read.now.reserved)) (is_used (keys_listed read.now.alloc)) n (runs_of (keys_listed read.now.freespace))) unwalked taken.old taken.new result }

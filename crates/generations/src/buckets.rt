@@ -19,8 +19,5 @@ pub fn within(buckets: &[u32]) -> bool
     requires { in_order bucket_below (buckets_in buckets.now) ≡ true }
     ensures { result ≡ buckets_within (buckets_in buckets.now) }
 {
-    if MOST_BUCKETS < buckets.len() {
-        return false;
-    }
-    buckets.last().is_none_or(|last| *last < 65536)
+    buckets.len() <= MOST_BUCKETS && buckets.last().is_none_or(|last| *last < 65536)
 }

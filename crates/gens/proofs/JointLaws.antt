@@ -8,6 +8,8 @@ use native.Mathlib.Omega.{arith}
 use lib.Dec.{compare_is_eq, eqb}
 use lib.ListN.{length, get_or, take, drop}
 use lib.Seq.{length-take-le, get_or-take}
+use Rattle.std.specs.Prelude.{Option as Maybe, Some, None}
+use Rattle.std.specs.Bool.{then_some}
 use Rattle.std.specs.List.{prefix_len}
 use Rattle.wire.specs.Keys.{Key}
 use Rattle.wire.specs.Order.{cmp, pos_less, pos_same}
@@ -22,13 +24,14 @@ use Rattle.calls.specs.JointLookup.{up_to_past}
 use Rattle.calls.proofs.lists.BoolLaws.{clash}
 use Rattle.calls.proofs.trees.SortedLaws.{Sorted, chain-weak, chain-sorted, lookup-chain, order-sorted}
 use Rattle.calls.proofs.trees.JointLookupLaws.{before-past}
-use Rattle.reader.specs.ListedKeys.{key_listed, keys_listed, KeyOf}
+use Rattle.reader.specs.ListedKeys.{key_listed, keys_listed, KeyOf, KeyLast}
 use Rattle.reader.specs.declared.key.ListedKey.{ListedKey}
 use Rattle.reader.specs.declared.listed_keys.Keys.{Keys}
 use Rattle.reader.specs.Located.{no_key}
 use Rattle.reader.proofs.ListedKeyLaws.{key-of}
 use Rattle.reader.proofs.SkipLaws.{walk-on}
 use Rattle.gens.specs.Joint.{keys_up_to}
+use Rattle.gens.specs.Records.{record_listed}
 
 -- ---- how many keys are not past a position
 module _ (p : Bpos) (d : Key) where
@@ -144,7 +147,7 @@ module _ (p : Bpos) (d : Key) where
 -- ---- a bucket's record, by the last of the keys up to it
 module _ (ks : List Key) (a : keys_ascend ks ≡ true) (b : Bucket) {k : ℕ} (e : k ≡ keys_up_to (gens_at b) ks) where
   -- no key stands up to it
-  pub no_record_lem : k ≡ 0 → none ≡ gen_record ks b
+  no_record_lem : k ≡ 0 → none ≡ gen_record ks b
   unfolding gen_record
   no_record_lem n =
       let z : keys_up_to (gens_at b) ks ≡ 0 = omega arith in
@@ -171,14 +174,14 @@ module _ (ks : List Key) (a : keys_ascend ks ≡ true) (b : Bucket) {k : ℕ} (e
         go Ordering.eq = refl
         go Ordering.gt = refl
 
-    pub record-there : true ≡ its → some x ≡ gen_record ks b
+    record-there : true ≡ its → some x ≡ gen_record ks b
     record-there h = sym (last-record ∙ ap (λ (t : Bool). cond t (some x) none) (sym h))
 
-    pub record_missing : false ≡ its → none ≡ gen_record ks b
+    record_missing : false ≡ its → none ≡ gen_record ks b
     record_missing h = sym (last-record ∙ ap (λ (t : Bool). cond t (some x) none) (sym h))
 
 -- the last of the first k keys
-pub last-key :
+last-key :
     (gens : Keys) {part : Keys} {k : ℕ} {x : ListedKey} → k ≤ length gens.places.now → (part.list.now ≡ gens.list.now) × (part.places.now ≡ take k gens.places.now)
     → (0 < length part.places.now) × KeyOf part (length part.places.now - 1) x
     → (0 < k) × (key_listed x ≡ get_or (keys_listed gens) (k - 1) no_key)
@@ -189,3 +192,23 @@ last-key gens {part} {k} {x} h p q =
     let at : x.at ≡ get_or ps (k - 1) 0 =
     q.1.at ∙ ap (λ (m : ℕ). get_or part.places.now (m - 1) 0) n ∙ ap (λ (os : List ℕ). get_or os (k - 1) 0) p.1 ∙ get_or-take k ps (k - 1) 0 (omega arith) in
     (l, key-of {ks = gens} {i = k - 1} {k = x} (omega arith) (record { list = q.1.list ∙ p.0; at = at }))
+
+-- the last of the first k keys, kept where it is the bucket's record
+pub record-kept :
+    (gens : Keys) (a : keys_ascend (keys_listed gens) ≡ true) (b : Bucket) {k : ℕ} (part : Keys) → k ≡ keys_up_to (gens_at b) (keys_listed gens)
+    → k ≤ length gens.places.now
+    → (part.list.now ≡ gens.list.now) × (part.places.now ≡ take k gens.places.now)
+    → (l r : Maybe ListedKey) → KeyLast part l → (l ≡ None → r ≡ None)
+    → ((x : ListedKey) → l ≡ Some x → r ≡ then_some (pos_same (gens_at b) (key_listed x).pos && eqb (key_listed x).type 30) x)
+    → record_listed r ≡ gen_record (keys_listed gens) b
+record-kept gens a b {k} part e w p None r q f g =
+    ap record_listed (f refl) ∙ no_record_lem (keys_listed gens) a b e (sym (length-take-le k gens.places.now w) ∙ ap length (sym p.1) ∙ ap length q)
+record-kept gens a b {k} part e w p (Some x) r q f g =
+    let at = last-key gens w p q in
+    ap record_listed (g x refl) ∙ go (pos_same (gens_at b) (key_listed x).pos && eqb (key_listed x).type 30) refl at
+  where
+    go : (t : Bool) → (pos_same (gens_at b) (key_listed x).pos && eqb (key_listed x).type 30) ≡ t
+        → (0 < k) × (key_listed x ≡ get_or (keys_listed gens) (k - 1) no_key)
+        → record_listed (then_some t x) ≡ gen_record (keys_listed gens) b
+    go true h at = record-there (keys_listed gens) a b e at.0 (key_listed x) at.1 (sym h)
+    go false h at = record_missing (keys_listed gens) a b e at.0 (key_listed x) at.1 (sym h)

@@ -70,27 +70,23 @@ fn is_record_of(key: ListedKey, b: Bucket) -> bool
     bpos::pos_same(positions::gens_at(b), key.pos()) && records::is_record(key)
 }
 
-// A bucket's record, which is the last of the keys up to it, if there is one. Refusal 22 shows that keys ascend, here and below.
+// A bucket's record, which is the last of the keys up to it, if there is one. Refusal 22 shows that keys ascend, `keys_up_to` how many there are.
 fn record_up_to(gens: Keys, k: usize, b: Bucket) -> Option<ListedKey>
     requires { (keys_ascend (keys_listed gens) ≡ true) × (k ≡ keys_up_to (gens_at b) (keys_listed gens)) }
     ensures { record_listed result ≡ gen_record (keys_listed gens.entry) b }
 {
-    let key = gens.up_to(k).last()?;
-    if is_record_of(key, b) {
-        Some(key)
-    } else {
-        None
-    }
+    gens.up_to(k).last().filter(|key| is_record_of(*key, b))
 }
 
-// Fills in the generation of each bucket, and tells how many keys are visited: up to and with the first past the last bucket's record.
+// Fills in the generation of each bucket, and tells how many keys are visited: up to and with the first past the last bucket's record. Refusal 22 shows that keys ascend, and who
+// asks that the buckets do and that there is room.
 pub fn bucket_gens<N: BucketNumber>(out: &mut [u8], gens: Keys, buckets: &[N]) -> usize
     requires keys_value { keys_ascend (keys_listed gens) ≡ true }
     requires buckets_value { (in_order bucket_below (N.buckets_in buckets.now) ≡ true) × (length buckets.now ≤ length out.old) }
     ensures { Looked (keys_listed gens.entry) (N.buckets_in buckets.now) out.old out.new result }
 {
     let mut k: usize = 0;
-    // By index: nothing is known of what a slice holds after `iter_mut().zip(..)`.
+    // By index: after an adapter of `iter_mut` nothing is known of a slice (Rattle's LIBRARY.md).
     for (i, n) in buckets.iter().enumerate() {
         let b = n.bucket();
         k = keys_up_to(gens, k, b);

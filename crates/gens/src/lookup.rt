@@ -21,7 +21,7 @@ pub enum NoGeneration {
 
 // Looks a bucket up in its record, if there is one.
 #[tactic(auto, unfolding(format::specs::Gens::gen_in))]
-fn gen_in(found: Option<ListedKey>, b: Bucket) -> Result<u8, NoGeneration>
+fn found_in(found: Option<ListedKey>, b: Bucket) -> Result<u8, NoGeneration>
     ensures { lookup_is result ≡ found_in b (record_listed found.entry) }
 {
     let key = found.ok_or(NoGeneration::NoRecord)?;
@@ -33,22 +33,22 @@ fn gen_in(found: Option<ListedKey>, b: Bucket) -> Result<u8, NoGeneration>
 pub fn record_gen(found: Option<ListedKey>, b: Bucket) -> u8
     ensures { result ≡ or_zero (found_in b (record_listed found.entry)) }
 {
-    gen_in(found, b).unwrap_or(0)
+    found_in(found, b).unwrap_or(0)
 }
 
 impl<'a> Records<'a> {
     ghost use Rattle.reader.specs.ListedKeys.{keys_listed};
 
-    // Looks a bucket up. The limits show the bound, here and below.
+    // Looks a bucket up. The limits show the bound.
     #[tactic(auto, unfolding(calls::specs::Generations::gen_lookup))]
     pub fn find_gen(&self, b: Bucket) -> Result<u8, NoGeneration>
         requires { bucket_in_range b ≡ true }
         ensures { lookup_is result ≡ gen_lookup (keys_listed self.now.gens) b }
     {
-        gen_in(self.record_of(b), b)
+        found_in(self.record_of(b), b)
     }
 
-    // Its generation, and 0 where none is found.
+    // Its generation, and 0 where none is found. The limits show the bound.
     #[tactic(auto, unfolding(calls::specs::Generations::gen_of))]
     pub fn bucket_gen(&self, b: Bucket) -> u8
         requires { bucket_in_range b ≡ true }
@@ -57,7 +57,7 @@ impl<'a> Records<'a> {
         self.find_gen(b).unwrap_or(0)
     }
 
-    // Whether its record is too short.
+    // Whether its record is too short. The limits show the bound.
     #[tactic(auto, unfolding(calls::specs::Generations::gen_short))]
     pub fn gen_short(&self, b: Bucket) -> bool
         requires { bucket_in_range b ≡ true }

@@ -10,8 +10,8 @@ use reader::listed_keys::Keys;
 use wire::key_types::KeyType;
 use wire::kinds::Bucket;
 
-// The keys of tree 14, and a table of the records among them: entry o is the place of that at inode 0, offset o, or 0: a place in four bytes, where an Option would
-// take eight.
+// The keys of tree 14, and a table of the records among them: entry o is the place of that at inode 0, offset o, or 0.
+// No heap: the table stands in a frame, with four bytes for a place, where an `Option`, of a `NonZero` too, takes eight.
 #[derive(Drop)]
 pub struct Records<'a> {
     pub gens: Keys<'a>,
@@ -26,7 +26,7 @@ pub fn is_record(key: ListedKey) -> bool
     key.key_type() == KeyType::BucketGens.number()
 }
 
-// Notes the place of a key, if it is a record; another key at a record's place takes out what was noted.
+// Notes a key whose position is one of a record: its place, or 0 where it is of another type.
 #[tactic(auto, unfolding(crate::specs::Records::record_noted))]
 fn note_record(key: ListedKey, table: &mut [u32; 256])
     ensures { table.new ≡ record_noted key.entry.at (key_listed key.entry) table.old }
@@ -38,7 +38,7 @@ fn note_record(key: ListedKey, table: &mut [u32; 256])
     table[p.offset as usize] = if is_record(key) { key.at } else { 0 };
 }
 
-// Fills a table of zeros.
+// Notes all keys in a table of zeros, the last of them first, so that the first at a position stands.
 fn fill_table(gens: Keys, table: &mut [u32; 256])
     requires { table.old ≡ replicate 256 0 }
     ensures { RecordsFound gens.entry.list.now (keys_here gens.entry.list.now gens.entry.places.now) table.new }
@@ -63,6 +63,7 @@ impl<'a> Records<'a> {
     }
 
     // A bucket's record, if there is one. The limits show the bound.
+    // No type shows it: one in range would be a second kind beside `Bucket`, and a bucket of a list may have any number.
     pub fn record_of(&self, b: Bucket) -> Option<ListedKey<'a>>
         requires { bucket_in_range b ≡ true }
         ensures { record_listed result ≡ gen_record (keys_listed self.now.gens) b }

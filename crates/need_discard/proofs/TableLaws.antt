@@ -2,7 +2,7 @@
 use Prim.Native.Nat.{ℕ, ◌+◌, ◌-◌, ◌≤◌, ◌<◌}
 use mathlib.Core.Path.{◌≡◌, refl, sym, ap, ◌∙◌}
 use mathlib.Core.Bool.{Bool, true, false, cond}
-use mathlib.Core.List.{List, [], ◌∷◌, ◌++◌}
+use mathlib.Core.List.{List, [], ◌∷◌, ◌++◌, reverse}
 use mathlib.Core.Option.{Option, none, some}
 use Rattle.std.proofs.Common.{Option as Maybe, Some, None}
 use native.Mathlib.Omega.{arith}
@@ -18,8 +18,20 @@ use Rattle.wire.specs.declared.kinds.Bucket.{Bucket}
 use Rattle.calls.specs.Limits.{is_set}
 use Rattle.calls.specs.Lists.{is_none}
 use Rattle.calls.specs.Discard.{waiting_key}
+use Rattle.std.specs.List.{find}
+use Rattle.std.specs.Option.{option_map}
+use Rattle.std.specs.Iterator.Adapters.{rev_source, rev_steps}
+use Rattle.std.specs.declared.iter.Rev.{Rev}
+use Rattle.std.proofs.lemmas.Grind.{reverse_onto}
+use Rattle.std.proofs.lemmas.List.{map-append, reverse-append, reverse-reverse}
+use Rattle.std.proofs.lemmas.Iterator.{YieldsList}
+use Rattle.std.proofs.lemmas.Iterator.Consumers.{YieldsList-from_shown}
+use Rattle.reader.specs.KeyHere.{key_here, keys_here}
+use Rattle.reader.specs.ListedKeys.{KeySteppedBack, key_listed, keys_left}
 use Rattle.reader.specs.Located.{no_key}
-use Rattle.need_discard.specs.Table.{is_of_bucket, Entry, need_place, TableEntries, wait_noted}
+use Rattle.reader.specs.declared.key.ListedKey.{ListedKey}
+use Rattle.reader.specs.declared.listed_keys.KeysLeft.{KeysLeft}
+use Rattle.need_discard.specs.Table.{is_of_bucket, found, Entry, need_place, TableEntries, wait_noted}
 
 -- one key more: the last that names a bucket stands
 pub waiting-more : (ks : List Key) (k : Key) (b : Bucket) → waiting_key (ks ++ k ∷ []) b ≡ cond (is_of_bucket k b) (some k) (waiting_key ks b)
@@ -100,34 +112,50 @@ all-entries all table i e n t =
     let l : length all ≤ i = omega (arith, length-drop i all, ap length e, ap length n) in
     rw (take_all i all l) at t
 
--- a search: what was found so far stands unless a key that is left names the bucket
-abbrev pub later : Option Key → Option Key → Option Key
-later l r = cond (is_none r) l r
+-- ---- a search from the last key on
+-- the keys that are left, the last first
+abbrev pub keys_back : Rev KeysLeft → List Key
+keys_back s = reverse (keys_left (rev_source s))
 
-module _ {ks rest : List Key} {k : Key} (b : Bucket) (e : ks ≡ k ∷ rest) {t : Bool} (p : t ≡ is_of_bucket k b) (l : Option Key) where
-  pub search-found : t ≡ true → later (some k) (waiting_key rest b) ≡ later l (waiting_key ks b)
-  unfolding waiting_key
-  search-found q = rw (e, ← p, q) (go (waiting_key rest b))
-    where
-      go : (w : Option Key) → later (some k) w ≡ later l (cond (is_none w) (some k) w)
-      go none = refl
-      go (some x) = refl
+-- steps from the back give them
+pub back-shown : (s : Rev KeysLeft) → YieldsList (rev_steps KeySteppedBack) key_listed s (keys_back s)
+back-shown s = YieldsList-from_shown (rev_steps KeySteppedBack) key_listed keys_back none_left one_more s
+  where
+    none_left : (s t : Rev KeysLeft) → rev_steps KeySteppedBack s None t → length (keys_back s) ≡ 0
+    none_left s t h = ap (λ (p : List ℕ). length (reverse (keys_here (rev_source s).keys.list.now p))) h
 
-  pub search-past : t ≡ false → later l (waiting_key rest b) ≡ later l (waiting_key ks b)
-  unfolding waiting_key
-  search-past q = rw (e, ← p, q) (go (waiting_key rest b))
-    where
-      go : (w : Option Key) → later l w ≡ later l (cond (is_none w) none w)
-      go none = refl
-      go (some x) = refl
+    one_more : (s : Rev KeysLeft) (x : ListedKey) (t : Rev KeysLeft) → rev_steps KeySteppedBack s (Some x) t → keys_back s ≡ key_listed x ∷ keys_back t
+    one_more s x t h =
+        let l = (rev_source s).keys.list.now in
+        let p = (rev_source t).keys.places.now in
+        ap (λ (q : List ℕ). reverse (keys_here l q)) h.places
+        ∙ ap (λ (q : List Key). reverse q) (map-append (key_here l) p (x.at ∷ []))
+        ∙ reverse-append (keys_here l p) (key_here l x.at ∷ [])
+        ∙ ap (λ (m : List ℕ). key_here m x.at ∷ reverse (keys_here l p)) (sym h.list)
+        ∙ ap (λ (m : List ℕ). key_listed x ∷ reverse (keys_here m p)) (sym h.same)
 
-pub search-start : (w : Option Key) → later none w ≡ w
-search-start none = refl
-search-start (some x) = refl
+-- a key that was found, of the library's option
+abbrev held : Maybe Key → Option Key
+held None = none
+held (Some k) = some k
 
-pub search-end : {ks : List Key} (b : Bucket) (l : Option Key) → ks ≡ [] → later l (waiting_key ks b) ≡ l
+-- the first key of some that names a bucket is the last of them the other way round
+first-found : (ks : List Key) (b : Bucket) → held (find (λ k. is_of_bucket k b) ks) ≡ waiting_key (reverse ks) b
 unfolding waiting_key
-search-end b l e = rw e refl
+first-found [] b = refl
+first-found (k ∷ ks) b =
+    rw (reverse_onto ks k [], waiting-more (reverse ks) k b, ← first-found ks b) (go (is_of_bucket k b) (find (λ x. is_of_bucket x b) ks))
+  where
+    go : (t : Bool) (o : Maybe Key) → held (cond t (Some k) o) ≡ cond t (some k) (held o)
+    go true o = refl
+    go false o = refl
+
+pub last-found : (r : Maybe ListedKey) (ks : List Key) (b : Bucket) → option_map key_listed r ≡ find (λ k. is_of_bucket k b) (reverse ks) → found r ≡ waiting_key ks b
+last-found r ks b e = same r ∙ ap held e ∙ first-found (reverse ks) b ∙ ap (λ (l : List Key). waiting_key l b) (reverse-reverse ks)
+  where
+    same : (r : Maybe ListedKey) → found r ≡ held (option_map key_listed r)
+    same None = refl
+    same (Some k) = refl
 
 -- a step along the keys: the one at place i
 module _ (all : List Key) (i : ℕ) {k : Key} {ks rest : List Key} (e : ks ≡ drop i all) (s : ks ≡ k ∷ rest) where

@@ -8,6 +8,7 @@ ghost use Rattle.need_discard.specs.Chosen.{need_trees, is_value_taken, discarde
 
 use crate::waiting::Waiting;
 use format::alloc;
+use format::data_types::DataType;
 use reader::key::ListedKey;
 use reader::listed_keys::Keys;
 use wire::key_types::KeyType;
@@ -26,10 +27,12 @@ pub fn gen_taken(s: &[u8], at: usize) -> bool
 fn value_taken(value: &[u8]) -> bool
     ensures { result ≡ is_value_taken value.now }
 {
-    56 <= value.len() && alloc::data_type(value, 0) == 9 && gen_taken(value, 0)
+    56 <= value.len()
+        && alloc::data_type(value, 0) == DataType::NeedDiscard.number()
+        && gen_taken(value, 0)
 }
 
-// Whether an alloc key is discarded.
+// Whether an alloc key is discarded. The limits show what is asked of it.
 #[tactic(auto, unfolding(calls::specs::Discard::is_discarded))]
 fn is_discarded(key: &ListedKey, waiting: &Waiting) -> bool
     requires { AllocKept (key_listed key.now) }
@@ -47,8 +50,8 @@ pub fn discarded_keys<'a>(room: &'a mut [u32], alloc: Keys<'a>, waiting: &Waitin
     requires { All AllocKept (keys_listed alloc) × (length alloc.places.now ≤ length room.old) }
     ensures { keys_listed result ≡ discarded_from waiting.now (keys_listed alloc.entry) }
 {
+    // No heap: what `filter` gives cannot be collected, so n counts the places.
     let mut n: usize = 0;
-    // A loop: there is no heap to collect what `filter` gives.
     for key in alloc.iter() {
         if is_discarded(&key, waiting) {
             room[n] = key.at;

@@ -1,6 +1,5 @@
 // The need-discard keys of a list, and the one that stands for a bucket: by a table by bucket, or by a search through the keys where there are at most
-// 16 of them for at most 64 alloc keys, since to clear the table, 128 KiB, costs as much as a thousand comparisons. The table is filled in one pass,
-// and has the place of a key in two bytes, which is half the memory of its offset, and 0 for none.
+// 16 of them for at most 64 alloc keys, since to clear the table, 128 KiB, costs as much as a thousand comparisons. The table is filled in one pass.
 ghost use Rattle.std.specs.Prelude.{◌≡◌, true, ◌≤◌, ◌<◌, length, replicate};
 ghost use Rattle.wire.specs.Bytes.{All};
 ghost use Rattle.wire.specs.Kinds.{bucket_in_range};
@@ -16,9 +15,9 @@ use wire::bpos::Bpos;
 use wire::key_types::KeyType;
 use wire::kinds::Bucket;
 
-// The key at place i takes the entry of its bucket, so that the last stands. The limits show the bounds, here and below.
+// The key at place i takes the entry of its bucket, so that the last stands. The limits show the bounds.
 #[tactic(auto, unfolding(crate::specs::Table::wait_noted))]
-fn note(table: &mut [u16; 65536], key: &ListedKey, i: usize)
+fn note_key(table: &mut [u16; 65536], key: &ListedKey, i: usize)
     requires { NeedKept (key_listed key.now) × (i < 4096) }
     ensures { table.new ≡ wait_noted table.old (key_listed key.now) i }
 {
@@ -29,13 +28,13 @@ fn note(table: &mut [u16; 65536], key: &ListedKey, i: usize)
     table[b.0 as usize] = (i + 1) as u16;
 }
 
-// Fills an empty table.
+// Fills an empty table. The limits show what is asked of the keys.
 fn note_waiting(table: &mut [u16; 65536], keys: &Keys)
     requires { All NeedKept (keys_listed keys.now) × (length keys.now.places.now ≤ 4096) × (table.old ≡ replicate 65536 0) }
     ensures { TableEntries (keys_listed keys.now) (keys_listed keys.now) table.new }
 {
     for (i, key) in keys.iter().enumerate() {
-        note(table, &key, i);
+        note_key(table, &key, i);
     }
 }
 
@@ -46,21 +45,14 @@ fn names_bucket(key: &ListedKey, b: Bucket) -> bool
     key.bucket() == b && key.key_type() == KeyType::Set.number()
 }
 
-// The last key that names a bucket, by a search through the keys.
+// The last key that names a bucket, by a search through the keys from the last on.
 fn search_key<'a>(keys: &Keys<'a>, b: Bucket) -> Option<ListedKey<'a>>
     ensures { found result ≡ waiting_key (keys_listed keys.now) b }
 {
-    let mut last = None;
-    // A loop: what std ensures of `filter(..).last()` is of runs, and no law turns a run of `Keys` into the list of its keys.
-    for key in keys.iter() {
-        if names_bucket(&key, b) {
-            last = Some(key);
-        }
-    }
-    last
+    keys.iter().rev().find(|key| names_bucket(key, b))
 }
 
-// The same, from a filled table.
+// The same, from a filled table. `Waiting` shows that it is filled, the limits the bucket's bound.
 fn table_key<'a>(keys: &Keys<'a>, table: &[u16; 65536], b: Bucket) -> Option<ListedKey<'a>>
     requires { TableEntries (keys_listed keys.now) (keys_listed keys.now) table.now × (bucket_in_range b ≡ true) }
     ensures { found result ≡ waiting_key (keys_listed keys.now) b }
@@ -70,6 +62,7 @@ fn table_key<'a>(keys: &Keys<'a>, table: &[u16; 65536], b: Bucket) -> Option<Lis
 }
 
 // The need-discard keys of a list, and their table, where one is filled.
+// An entry is a key's place, counted from 1, in two bytes, and 0 for none: an `Option`, of a `NonZero` too, takes four.
 #[derive(Drop)]
 pub struct Waiting<'a> {
     keys: Keys<'a>,
@@ -97,7 +90,7 @@ impl<'a> Waiting<'a> {
     ghost use Rattle.calls.specs.Lists.{is_none};
     ghost use Rattle.need_discard.specs.Table.{waits_of};
 
-    // Few keys, with no table.
+    // Few keys, with no table. The limits show what is asked of them.
     pub fn searched(keys: Keys<'a>) -> Waiting<'a>
         requires { All NeedKept (keys_listed keys) }
         ensures { result ≡ keys_listed keys.entry }
@@ -105,7 +98,7 @@ impl<'a> Waiting<'a> {
         Waiting { keys, table: None }
     }
 
-    // Keys with an empty table, which is filled.
+    // Keys with an empty table, which is filled. The limits show what is asked of the keys.
     pub fn tabled(keys: Keys<'a>, table: &'a mut [u16; 65536]) -> Waiting<'a>
         requires { All NeedKept (keys_listed keys) × (length keys.places.now ≤ 4096) × (table.old ≡ replicate 65536 0) }
         ensures { result ≡ keys_listed keys.entry }
@@ -117,7 +110,8 @@ impl<'a> Waiting<'a> {
         }
     }
 
-    // Where the need-discard key of a bucket stands, if it has one.
+    // Where the need-discard key of a bucket stands, if it has one. The limits show the bound.
+    // No type shows it: one in range would be a second kind beside `Bucket`, and a bucket of a list may have any number.
     pub fn waiting_at(&self, b: Bucket) -> Option<Bpos>
         requires { bucket_in_range b ≡ true }
         ensures { result ≡ waits_of (waiting_key self.now b) }
@@ -129,7 +123,7 @@ impl<'a> Waiting<'a> {
         Some(key.pos())
     }
 
-    // Whether a need-discard key names a bucket.
+    // Whether a need-discard key names a bucket. The limits show the bound.
     pub fn is_waiting(&self, b: Bucket) -> bool
         requires { bucket_in_range b ≡ true }
         ensures { result ≡ not (is_none (waiting_key self.now b)) }

@@ -9,13 +9,13 @@ use crate::slot::{OpenBucket, Slot};
 use reader::piece::Piece;
 use reader::pieces::Pieces;
 
-// The slots of the pieces that are lent, each by next fit, at the front of a table.
+// The slots of the pieces that are lent, each by next fit, at the front of a table. Two-byte fields and 1,024 pieces show the bounds.
 pub fn layout<'a>(pieces: &[Piece], bucket: u64, slots: &'a mut [Slot]) -> &'a [Slot]
     requires { (length pieces.now ≤ 1024) × (length pieces.now ≤ length slots.old) × (bucket < 65536) }
     ensures { slots_in result.now ≡ next_fit bucket 0 0 (map (λ p. p.stored) pieces.now) }
 {
     let mut open = OpenBucket { index: 0, used: 0 };
-    // By index: nothing is known of what a slice holds after `iter_mut().zip(..)`.
+    // By index: after an adapter of `iter_mut` nothing is known of a slice (Rattle's LIBRARY.md).
     for (i, p) in pieces.iter().enumerate() {
         let stored = p.stored as u64;
         let fit = open.next_fit(stored, bucket);
@@ -31,7 +31,8 @@ pub fn layout<'a>(pieces: &[Piece], bucket: u64, slots: &'a mut [Slot]) -> &'a [
     &slots[..pieces.len()]
 }
 
-// The pieces of a call list as records, at the front of an array. Refusal 3 shows that they are few, here and for `lay_out`.
+// The pieces of a call list as records, at the front of an array: they are copied since `layout` takes a slice of them, the form that the user's document names. Refusal 3 shows
+// that they are few.
 fn read_pieces(pieces: &Pieces) -> [Piece; 1024]
     requires { length (pieces_of pieces.now) ≤ 1024 }
     ensures { map piece_in (take (length (pieces_of pieces.now)) result) ≡ pieces_of pieces.now }
@@ -43,14 +44,14 @@ fn read_pieces(pieces: &Pieces) -> [Piece; 1024]
         checksum: 0,
     };
     let mut records = [none; 1024];
-    // By index: nothing is known of what an array holds after `iter_mut().zip(..)`.
+    // By index: after an adapter of `iter_mut` nothing is known of an array (Rattle's LIBRARY.md).
     for (i, p) in pieces.iter().enumerate() {
         records[i] = p;
     }
     records
 }
 
-// The slots of the pieces of a call list, which are handed on as a slice of records.
+// The slots of the pieces of a call list, which are handed on as a slice of records. Refusal 3 shows that they are few, and the table that is lent is as long.
 pub fn lay_out<'a>(pieces: &Pieces, bucket: u16, slots: &'a mut [Slot]) -> &'a [Slot]
     requires { (length (pieces_of pieces.now) ≤ 1024) × (length (pieces_of pieces.now) ≤ length slots.old) }
     ensures { slots_in result.now ≡ next_fit bucket 0 0 (map (λ p. p.stored) (pieces_of pieces.now)) }
@@ -64,8 +65,5 @@ pub fn lay_out<'a>(pieces: &Pieces, bucket: u16, slots: &'a mut [Slot]) -> &'a [
 pub fn buckets_needed(slots: &[Slot]) -> usize
     ensures { result ≡ buckets_needed (slots_in slots.now) }
 {
-    match slots.last() {
-        Some(slot) => slot.index as usize + 1,
-        None => 0,
-    }
+    slots.last().map_or(0, |slot| slot.index as usize + 1)
 }

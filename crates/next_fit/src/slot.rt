@@ -10,7 +10,7 @@ pub struct Slot {
     pub offset: u16,
 }
 
-// The same as next fit finds it, with no bound on the index.
+// The same as next fit finds it. No `Slot`, whose index has two bytes: next fit may be asked at any index below 2^63.
 #[derive(Clone, Copy, Drop)]
 pub struct Fit {
     pub index: usize,

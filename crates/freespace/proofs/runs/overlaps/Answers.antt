@@ -1,25 +1,25 @@
-use Rattle.std.proofs.Common.{sym, ◌∙◌}
+use Rattle.std.proofs.Common.{rules, of_calls, ap, sym, subst, not, ◌∙◌}
+use Rattle.std.proofs.lemmas.Iterator.{YieldsList}
+use Rattle.std.proofs.lemmas.Iterator.Consumers.{YieldsList-from_shown, YieldsList-from_filter_map}
+use Rattle.std.specs.Iterator.Adapters.{filter_map_source}
+use Rattle.std.specs.List.{filter_map}
+use lib.ListN.{length}
 use Rattle.calls.proofs.trees.SortedLaws.{keys-order}
-use Rattle.freespace.proofs.RunLaws.{less-number, least-number, meets-all, meets-skip, meets-stop, meets_on, meets-none}
+use Rattle.reader.specs.ListedKeys.{KeyStepped, key_listed, keys_listed, keys_left}
+use Rattle.freespace.specs.Runs.{run_in}
+use Rattle.freespace.proofs.NeighbourLaws.{neighbours-checked}
+use Rattle.freespace.proofs.RunLaws.{apart, apart-overlaps, starts-after}
 use Rattle.freespace.proofs.runs.overlaps.Goals as goal
 
-pub loop-key-init : goal.loop-key-init
-loop-key-init c =
-    let o = keys-order _ c.requires.order in
-    rw (c.into_iter-key-iterator.ensures.into_iter_gives, c.iter-key-items.ensures) (meets-all _ o.0 o.1)
-
-pub returns-then-lt : goal.returns-then-lt
-returns-then-lt c =
-    let h = less-number c.in-Some-run_of.run'.start.0 c.loop-key.last.0 (sym c.lt.ensures ∙ c.if-lt.true) in
-    sym (meets-stop c.loop-key.last c.in-Some.ensures.steps.keys (sym c.run_of.ensures ∙ c.in-Some-run_of.is) h) ∙ c.loop-key.invariant
-
-pub loop-key-preserved-in-Some-run_of : goal.loop-key-preserved-in-Some-run_of
-loop-key-preserved-in-Some-run_of c =
-    let h = least-number c.in-Some-run_of.run'.start.0 c.loop-key.last.0 (sym c.lt.ensures ∙ c.if-lt.false) in
-    meets_on c.loop-key.last c.in-Some.ensures.steps.keys (sym c.run_of.ensures ∙ c.in-Some-run_of.is) h ∙ c.loop-key.invariant
-
-pub loop-key-preserved : goal.loop-key-preserved
-loop-key-preserved c = meets-skip c.loop-key.last c.in-Some.ensures.steps.keys (sym c.run_of.ensures ∙ c.in_default.is) ∙ c.loop-key.invariant
-
 pub returns : goal.returns
-returns c = sym (meets-none c.loop-key.last c.in-None.ensures.steps) ∙ c.loop-key.invariant
+returns c =
+    let ks = keys_listed c.args.runs in
+    let o = keys-order ks c.requires.order in
+    let first : YieldsList KeyStepped key_listed c.iter.result ks =
+    subst (YieldsList KeyStepped key_listed c.iter.result) (ap keys_listed c.iter.ensures)
+    (YieldsList-from_shown KeyStepped key_listed keys_left (λ t u h. ap length h) (λ t x u h. h.keys) c.iter.result) in
+    let keys : YieldsList KeyStepped key_listed (filter_map_source c.filter_map.result) ks =
+    subst (λ s. YieldsList KeyStepped key_listed s ks) (sym c.filter_map.ensures.source) first in
+    ap not (neighbours-checked _ _ apart _ (λ x y b q k. search (rules, starts-after)) (filter_map run_in ks) c.is_sorted_by.ensures.ran
+    (YieldsList-from_filter_map _ run_in keys c.filter_map.ensures.closure (λ x r q k. search (rules, of_calls))))
+    ∙ apart-overlaps ks o.0 o.1

@@ -1,4 +1,4 @@
-use Rattle.std.proofs.Common.{◌≡◌, arith, length, length-take-le, ap, sym, ◌∙◌, ◌≤◌}
+use Rattle.std.proofs.Common.{rules, ◌≡◌, arith, length, ◌≤◌}
 use Rattle.std.proofs.lemmas.List.{length-map}
 use Rattle.wire.specs.Positions.{gens_at}
 use Rattle.wire.specs.declared.kinds.Bucket.{Bucket}
@@ -8,7 +8,7 @@ use Rattle.reader.specs.ListedKeys.{keys_listed}
 use Rattle.reader.specs.Located.{no_key}
 use Rattle.reader.specs.declared.listed_keys.Keys.{Keys}
 use Rattle.gens.specs.Joint.{keys_up_to}
-use Rattle.gens.proofs.JointLaws.{up-to-within, no_record_lem, last-key, record-there, record_missing}
+use Rattle.gens.proofs.JointLaws.{up-to-within, record-kept}
 use Rattle.gens.proofs.joint.record_up_to.Goals as goal
 
 -- no more stand up to a position than there are keys
@@ -19,18 +19,8 @@ inside gens b e =
 pub up_to-requires : goal.up_to-requires
 up_to-requires c = inside c.args.gens c.args.b c.requires.1
 
-pub returns-in_err-key : goal.returns-in_err-key
-returns-in_err-key c =
-    let n = length-take-le c.args.k c.args.gens.places.now (inside c.args.gens c.args.b c.requires.1) in
-    rw c.from_residual.ensures
-    (no_record_lem _ c.requires.0 c.args.b c.requires.1 (sym n ∙ ap length (sym c.up_to.ensures.1) ∙ ap length c.in_err-key.ensures))
-
-pub returns-then-is_record_of : goal.returns-then-is_record_of
-returns-then-is_record_of c =
-    let x = last-key c.args.gens (inside c.args.gens c.args.b c.requires.1) c.up_to.ensures c.in_ok-key.ensures in
-    record-there _ c.requires.0 c.args.b c.requires.1 x.0 _ x.1 c.if-is_record_of.ensures
-
-pub returns-else-is_record_of : goal.returns-else-is_record_of
-returns-else-is_record_of c =
-    let x = last-key c.args.gens (inside c.args.gens c.args.b c.requires.1) c.up_to.ensures c.in_ok-key.ensures in
-    record_missing _ c.requires.0 c.args.b c.requires.1 x.0 _ x.1 c.if-is_record_of.ensures
+pub returns : goal.returns
+returns c =
+    record-kept c.args.gens c.requires.0 c.args.b c.up_to.result c.requires.1 (inside c.args.gens c.args.b c.requires.1) c.up_to.ensures c.last.result c.filter.result c.last.ensures
+    (λ e. rw e at c.filter.ensures)
+    (λ x e. let p = rw e at c.filter.ensures in search rules)

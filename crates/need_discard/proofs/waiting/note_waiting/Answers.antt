@@ -8,8 +8,8 @@ use Rattle.need_discard.specs.Kept.{NeedKept}
 use Rattle.need_discard.proofs.TableLaws.{empty-entries, noted-entries, all-entries, step-within, step-key, step-rest}
 use Rattle.need_discard.proofs.waiting.note_waiting.Goals as goal
 
-pub note-requires : goal.note-requires
-note-requires c =
+pub note_key-requires : goal.note_key-requires
+note_key-requires c =
     let i = c.loop-i.invariant in
     let all = keys_listed c.args.keys.now in
     let l = step-within all c.loop-i.i i.2 c.in-Some.ensures.steps.keys in (
@@ -29,8 +29,8 @@ loop-i-preserved c =
       tt,
       tt,
       step-rest all n i.2 s,
-      c.note.array_long,
-      rw (c.note.ensures, step-key all n i.2 s) (noted-entries all c.loop-i.table n (step-within all n i.2 s) i.3 i.4),
+      c.note_key.array_long,
+      rw (c.note_key.ensures, step-key all n i.2 s) (noted-entries all c.loop-i.table n (step-within all n i.2 s) i.3 i.4),
     )
 
 pub returns : goal.returns

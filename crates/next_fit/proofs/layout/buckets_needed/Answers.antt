@@ -1,8 +1,8 @@
-use Rattle.next_fit.proofs.LastSlotLaws.{needed-last, needed_none}
+use Rattle.std.proofs.Common.{rules, tests}
+use Rattle.next_fit.proofs.LastSlotLaws.{needed}
 use Rattle.next_fit.proofs.layout.buckets_needed.Goals as goal
 
-pub returns-in-Some : goal.returns-in-Some
-returns-in-Some c = needed-last _ c.in-Some.slot.now c.in-Some.ensures.value
-
-pub returns-in-None : goal.returns-in-None
-returns-in-None c = needed_none _ c.in-None.ensures.value
+pub returns : goal.returns
+returns c =
+    needed c.args.slots.now c.last.result c.map_or.result c.last.ensures.value (λ e. rw e at c.map_or.ensures)
+    (λ x e. let p = rw e at c.map_or.ensures in search (rules, tests))

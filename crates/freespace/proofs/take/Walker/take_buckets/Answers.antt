@@ -26,7 +26,7 @@ walk_key-requires c =
     let ks = c.args.self.now.read.now.freespace in
     let f = drop-rest c.loop-key.w.passed _ v.rest c.in-Some.ensures.steps.keys in
     record {
-      end = all-of-first end_in_range (all-of-drop end_in_range _ c.loop-key.w.passed c.requires.0.range) f;
+      end = all-of-first end_in_range (all-of-drop end_in_range _ c.loop-key.w.passed c.args.self.now.checked.range) f;
       most = v.walking.most;
       room = omega (arith, v.walking.size);
       few = omega (arith, ap length f, length-drop c.loop-key.w.passed (keys_listed ks), length-map ks.places.now (key_here ks.list.now), ap (λ (r : Keys). length r.places.now) c.iter-key-items.ensures, c.iter-key-items.type_inv);
