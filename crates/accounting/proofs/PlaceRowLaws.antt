@@ -1,7 +1,7 @@
 -- Laws of the rows of a placement.
 use mathlib.Core.Path.{◌≡◌, sym, ap, ◌∙◌}
 use mathlib.Core.List.{List, [], ◌∷◌, ◌++◌, map}
-use Prim.Native.Nat.{ℕ, ◌≤◌, ◌<◌, ◌+◌, ◌*◌, ◌^◌}
+use Prim.Native.Nat.{ℕ, ◌≤◌, ◌<◌, ◌+◌, ◌*◌}
 use native.Mathlib.Omega.{arith}
 use lib.IntN.{pos, neg_ℤ, ◌+ℤ◌}
 use lib.ListN.{length, length-map, get_or, drop, drop_of_length-le}
@@ -71,12 +71,11 @@ all-tally ps =
 -- a turn of the loop over the tallies of the kinds: of the rows that are left, the first is put
 pub kind-turn :
     (o r : Output) (ts : List Tally) (i : ℕ) (d : Tally) → i < length ts
-    → r ≡ with_bytes o (rows_bytes (counts_row (0x0402000000000000 + i * 2 ^ 48) 0 (get_or ts i d) ∷ []))
+    → r ≡ with_bytes o (rows_bytes (kind_counts (i + 2) (get_or ts i d) ∷ []))
     → with_bytes r (rows_bytes (kind_rows (i + 1 + 2) (drop (i + 1) ts))) ≡ with_bytes o (rows_bytes (kind_rows (i + 2) (drop i ts)))
 kind-turn o r ts i d h e =
-    let n : 0x0402000000000000 + i * 2 ^ 48 ≡ 0x0400000000000000 + (i + 2) * 2 ^ 48 = omega arith in
     let k : i + 1 + 2 ≡ i + 2 + 1 = omega arith in
-    rw (e, rows-then o (counts_row (0x0402000000000000 + i * 2 ^ 48) 0 (get_or ts i d) ∷ []) (kind_rows (i + 1 + 2) (drop (i + 1) ts)), n, k, drop-next d ts i h)
+    rw (e, rows-then o (kind_counts (i + 2) (get_or ts i d) ∷ []) (kind_rows (i + 1 + 2) (drop (i + 1) ts)), k, drop-next d ts i h)
 
 -- the end
 pub kind-end : (o : Output) (ts : List Tally) (i : ℕ) → length ts ≤ i → with_bytes o (rows_bytes (kind_rows (i + 2) (drop i ts))) ≡ o

@@ -16,6 +16,7 @@ ghost use Rattle.accounting.specs.RowBytes.{rows_bytes};
 ghost use Rattle.accounting.specs.Tally.{counts_row, kind_rows, owner_counts, tallies_of, Small, Known};
 
 use crate::counters;
+use crate::counters::RowPos;
 use crate::tally::{Tallies, Tally};
 use format::checksums::ChecksumOption;
 use format::data_types::DataType;
@@ -24,16 +25,16 @@ use wire::output::Output;
 use wire::rows;
 
 // The row of three counts. The limit on requests shows the bounds.
-pub fn put_counts(out: &mut Output, inode: u64, offset: u64, t: Tally)
+pub fn put_counts(out: &mut Output, at: RowPos, t: Tally)
     requires { (t.count < 2 ^ 63) × (t.file < 2 ^ 63) × (t.stored < 2 ^ 63) }
-    ensures { out.new ≡ with_bytes out.old (rows_bytes (counts_row inode offset t ∷ [])) }
+    ensures { out.new ≡ with_bytes out.old (rows_bytes (counts_row at.inode at.offset t ∷ [])) }
 {
     let numbers = [
         rows::plus(t.count),
         rows::plus(t.file),
         rows::plus(t.stored),
     ];
-    counters::put_counted(out, inode, offset, &numbers);
+    counters::put_counted(out, at, &numbers);
 }
 
 // The sectors stored, the buckets taken, which are free no longer, and what they have unused.
@@ -60,18 +61,15 @@ pub fn put_extents_row(out: &mut Output, option: ChecksumOption, t: Tally)
     ensures { (h : lists.Head) (ps : List calls.Placed) → option_byte option ≡ h.option → length ps ≡ t.count → out.new ≡ with_bytes out.old (rows_bytes (extents_row (map (extent_key h) ps) t.stored ∷ [])) }
 {
     let file = t.count * (40 + 8 * option.extent_size() as u64);
-    put_counts(out, 0x05ff_ffff_ff00_0000, 0, Tally { file, ..t });
+    put_counts(out, RowPos::EXTENTS, Tally { file, ..t });
 }
 
-// The owner: byte 8 and the inode's bytes, read from the highest across inode and offset.
+// The owner.
 pub fn put_owner(out: &mut Output, inode: u64, t: Tally)
     requires { Small 1024 t }
     ensures { out.new ≡ with_bytes out.old (rows_bytes (owner_counts inode t ∷ [])) }
 {
-    let y = inode.swap_bytes();
-    let inode = 0x0800_0000_0000_0000 + y / 256;
-    let offset = (y % 256) * 0x0100_0000_0000_0000;
-    put_counts(out, inode, offset, t);
+    put_counts(out, RowPos::of_owner(inode), t);
 }
 
 // The rows of the compression kinds, from kind 2 on.
@@ -79,14 +77,13 @@ pub fn put_kinds(out: &mut Output, kinds: &[Tally])
     requires { All (Small 1024) kinds.now × (length kinds.now ≤ 4) }
     ensures { out.new ≡ with_bytes out.old (rows_bytes (kind_rows 2 kinds.now)) }
 {
-    // By index: the inode of a row is made of its kind, which is two more than the index.
     for (i, t) in kinds.iter().enumerate() {
-        let inode = 0x0402_0000_0000_0000 + i as u64 * 0x0001_0000_0000_0000;
-        put_counts(out, inode, 0, *t);
+        put_counts(out, RowPos::of_kind(i as u8 + 2), *t);
     }
 }
 
 // All rows of a placement, by how many buckets are taken, ascending. A plan holds the head's option, and `tally_pieces` shows what is required of the tallies.
+// The head and its option apart, as a plan has them: of what reads a plan's head, this and `put_extent` alone ask for the option too.
 pub fn put_rows(out: &mut Output, taken: u64, t: &Tallies, h: Head, option: ChecksumOption)
     requires bounds { (taken ≤ 1024) × (option_byte option ≡ h.option) }
     requires known { Known taken t.now }

@@ -9,24 +9,33 @@ use format::data_types::DataType;
 use wire::output::Output;
 use wire::rows;
 
+// What a release tells: the buckets emptied, the sectors freed, those of them in buckets that stay, and the unused sectors of the buckets emptied.
+#[derive(Clone, Copy, Drop)]
+pub struct Released {
+    pub emptied: u64,
+    pub total: u64,
+    pub kept: u64,
+    pub lost: u64,
+}
+
 // User sectors, user buckets and buckets that wait for discard. What counts the amounts shows their bounds.
-pub fn put_rows(out: &mut Output, emptied: u64, total: u64, kept: u64, lost: u64)
-    requires { (emptied < 2 ^ 62) × (total < 2 ^ 62) × (kept < 2 ^ 62) × (lost < 2 ^ 62) }
-    ensures { out.new ≡ with_bytes out.old (rows_bytes (sectors_row (neg_ℤ (pos total)) ∷ buckets_row 4 (neg_ℤ (pos emptied)) (neg_ℤ (pos total)) (pos kept +ℤ neg_ℤ (pos lost)) ∷ buckets_row 9 (pos emptied) (pos 0) (pos 0) ∷ [])) }
+pub fn put_rows(out: &mut Output, r: Released)
+    requires { (r.emptied < 2 ^ 62) × (r.total < 2 ^ 62) × (r.kept < 2 ^ 62) × (r.lost < 2 ^ 62) }
+    ensures { out.new ≡ with_bytes out.old (rows_bytes (sectors_row (neg_ℤ (pos r.total)) ∷ buckets_row 4 (neg_ℤ (pos r.emptied)) (neg_ℤ (pos r.total)) (pos r.kept +ℤ neg_ℤ (pos r.lost)) ∷ buckets_row 9 (pos r.emptied) (pos 0) (pos 0) ∷ [])) }
 {
-    let freed = rows::minus(total);
+    let freed = rows::minus(r.total);
     counters::put_sectors_row(out, freed);
     counters::put_buckets_row(
         out,
         DataType::User.number(),
-        rows::minus(emptied),
+        rows::minus(r.emptied),
         freed,
-        counters::difference(kept, lost),
+        counters::difference(r.kept, r.lost),
     );
     counters::put_buckets_row(
         out,
         DataType::NeedDiscard.number(),
-        rows::plus(emptied),
+        rows::plus(r.emptied),
         0,
         0,
     );

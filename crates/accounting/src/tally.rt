@@ -10,6 +10,7 @@ use reader::piece::Piece;
 use reader::pieces::Pieces;
 
 // How many pieces, how many file sectors and how many stored sectors.
+// Their bounds are no ghost field: the definitions tally any pieces, `add` asks for room for one more, and the rows ask for 1,024 pieces at most.
 #[derive(Clone, Copy, Default, Drop)]
 pub struct Tally {
     pub count: u64,
@@ -36,7 +37,7 @@ impl Tally {
     }
 }
 
-// Which of the tallies of the kinds a piece with a kind counts in; one that is stored as it is counts in none.
+// Which of the tallies of the kinds a piece with a kind counts in; one of kind 0, or of a kind that is none, counts in none.
 fn kind_index(kind: u8) -> Option<usize>
     ensures { CountedAs kind result }
 {

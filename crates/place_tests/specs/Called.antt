@@ -1,11 +1,10 @@
--- A list that refusals 2 and 3 let through: its head, the places of the parts that choosing reads, and its pieces.
+-- A list that refusals 2, 22 and 3 let through: its head, the parts that choosing reads, and its pieces.
 use Rattle.std.specs.Prelude.{◌≤◌, ◌≡◌, true, length}
 use Rattle.wire.specs.Kinds.{base_in_range}
 use Rattle.calls.specs.Answers.{read_call, read_volume}
 use Rattle.reader.specs.Heads.{head_in}
 use Rattle.reader.specs.ListedKeys.{keys_listed}
 use Rattle.reader.specs.ListedBuckets.{buckets_listed}
-use Rattle.reader.specs.Located.{KeysAt, BucketsAt}
 use Rattle.reader.specs.PieceLists.{pieces_of}
 use Rattle.reader.specs.declared.read_list.ReadList.{ReadList}
 use Rattle.reader.specs.declared.pieces.Pieces.{Pieces}
@@ -14,9 +13,6 @@ use Rattle.reader.specs.Checked.{Checked}
 pub record Called (r : ReadList) (ps : Pieces) : Type 0 where
   pub checked : Checked r.list.now
   pub head : head_in r.head ≡ (read_volume r.list.now).head
-  pub alloc : KeysAt r.list.now r.alloc.places.now (read_volume r.list.now).trees.alloc
-  pub runs : KeysAt r.list.now r.freespace.places.now (read_volume r.list.now).trees.freespace
-  pub reserved : BucketsAt r.list.now r.reserved.places.now (read_volume r.list.now).reserved
   pub alloc_are : keys_listed r.alloc ≡ (read_volume r.list.now).trees.alloc
   pub runs_are : keys_listed r.freespace ≡ (read_volume r.list.now).trees.freespace
   pub reserved_are : buckets_listed r.reserved ≡ (read_volume r.list.now).reserved

@@ -1,5 +1,6 @@
--- What choosing answers: the first refusal, or the checksum option, the pieces' slots and the buckets that the walk takes.
+-- What choosing answers: the first refusal, or the sectors of a bucket, the checksum option, the pieces' slots and the buckets that the walk takes.
 use Rattle.std.specs.Prelude.{ℕ, ◌≡◌, List, [], take, Result, IfOk}
+use Rattle.std.specs.Int.NonZero.{non_zero_u64_get}
 use Rattle.calls.specs.Answers.{read_call, read_volume}
 use Rattle.calls.specs.Pieces.{buckets_needed}
 use Rattle.calls.specs.Place.{slots_of, walk_of, place_tests}
@@ -13,6 +14,7 @@ use Rattle.place_tests.specs.declared.refusals.Chosen.{Chosen}
 
 -- what is chosen for a list
 pub record ChosenFor (s : List ℕ) (c : Chosen) : Type 0 where
+  pub sectors : non_zero_u64_get c.sectors ≡ (read_volume s).head.bucket_sectors
   pub option : option_byte c.option ≡ (read_volume s).head.option
   pub slots : slots_in c.slots.now ≡ slots_of (read_call s)
   pub taken : c.taken.now ≡ (walk_of (read_call s)).taken

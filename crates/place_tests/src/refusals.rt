@@ -1,5 +1,6 @@
 // Refusals 4 to 13 of a placement, in their order, and what is chosen for it where none is met.
 ghost use Rattle.std.specs.Prelude.{◌≡◌, false, ◌≤◌, leb, length, take, IfOk};
+ghost use Rattle.std.specs.Int.NonZero.{non_zero_u64_get};
 ghost use Rattle.calls.specs.Answers.{read_call, read_volume};
 ghost use Rattle.calls.specs.Freespace.{is_in, runs_of, overlaps, free_count, wanted};
 ghost use Rattle.calls.specs.Place.{place_tests};
@@ -15,11 +16,13 @@ use freespace::{runs, take};
 use next_fit::layout;
 use next_fit::slot::Slot;
 use reader::refusal::Refusal;
+use std::num::NonZero;
 use wire::kinds::Bucket;
 
-// What is chosen for a placement: the checksum option, the slots of the pieces, the buckets taken, and how far the walk over the runs is.
+// What is chosen for a placement: the sectors of a bucket, the checksum option, the slots of the pieces, the buckets taken, and how far the walk over the runs is.
 #[derive(Clone, Copy, Drop)]
 pub struct Chosen<'a> {
+    pub sectors: NonZero<u64>,
     pub option: ChecksumOption,
     pub slots: &'a [Slot],
     pub taken: &'a [Bucket],
@@ -29,19 +32,15 @@ pub struct Chosen<'a> {
 impl<'a> Placement<'a> {
     ghost use Rattle.place_tests.specs.Choice.{ChosenIs};
 
-    // Refusals 4 to 9, of what is asked: the first of them, or the checksum option.
+    // Refusals 4 to 9, of what is asked: the first of them, or the sectors of a bucket and the checksum option.
     #[tactic(auto, unfolding(calls::specs::Pieces::block_of))]
-    fn refuse_requests(&self) -> Result<ChecksumOption, Refusal>
+    fn refuse_requests(&self) -> Result<(NonZero<u64>, ChecksumOption), Refusal>
         ensures refusal { number_in result ≡ verdict (take 6 (place_tests (read_call self.now.read.now.list.now))) }
-        ensures option { IfOk result (λ o. option_byte o ≡ self.now.read.now.head.option) }
+        ensures head { IfOk result (λ r. (non_zero_u64_get r.0 ≡ self.now.read.now.head.bucket_sectors) × (option_byte r.1 ≡ self.now.read.now.head.option)) }
     {
         let h = self.read.head;
-        if h.bucket_sectors == 0 {
-            return Err(Refusal::NoSectors);
-        }
-        let Ok(option) = ChecksumOption::try_from(h.option) else {
-            return Err(Refusal::ChecksumOption);
-        };
+        let sectors = NonZero::<u64>::new(h.bucket_sectors as u64).ok_or(Refusal::NoSectors)?;
+        let option = ChecksumOption::try_from(h.option).map_err(|_| Refusal::ChecksumOption)?;
         if !requests::kinds_listed(&self.pieces) {
             return Err(Refusal::CompressionKind);
         }
@@ -55,7 +54,7 @@ impl<'a> Placement<'a> {
         if !requests::pieces_sized(&self.pieces, h.bucket_sectors, block) {
             return Err(Refusal::PieceSectors);
         }
-        Ok(option)
+        Ok((sectors, option))
     }
 
     // Refusal 11: whether enough buckets are free for the n that are needed. Refusal 10 and 1,024 pieces show what is asked.
@@ -80,7 +79,7 @@ impl<'a> Placement<'a> {
     {
         let read = self.read;
         // 4 to 9: what is asked
-        let option = self.refuse_requests()?;
+        let (sectors, option) = self.refuse_requests()?;
         // 10: two runs overlap
         if runs::overlaps(read.freespace) {
             return Err(Refusal::RunsOverlap);
@@ -94,6 +93,7 @@ impl<'a> Placement<'a> {
         // 12 and 13: the walk meets a run begun before bucket 0, or a used bucket
         let walked = take::walk_runs(read, n, taken)?;
         Ok(Chosen {
+            sectors,
             option,
             slots,
             taken: &taken[..walked.count],

@@ -1,5 +1,6 @@
 // What is asked of a placement: the tests of refusals 6 to 9.
-ghost use Rattle.std.specs.Prelude.{◌≡◌, not, ◌&&◌, ◌||◌, ◌<◌, eqb};
+ghost use Rattle.std.specs.Prelude.{◌≡◌, not, ◌&&◌, ◌||◌, eqb};
+ghost use Rattle.std.specs.Int.NonZero.{non_zero_u16_get};
 ghost use Rattle.calls.specs.Lists.{all_of};
 ghost use Rattle.calls.specs.Pieces.{kind_listed, block_of, divides, piece_sized};
 ghost use Rattle.reader.specs.Pieces.{piece_in};
@@ -10,6 +11,7 @@ use format::checksums::ChecksumOption;
 use format::compression::Compression;
 use reader::piece::Piece;
 use reader::pieces::Pieces;
+use std::num::NonZero;
 
 // Whether a piece's kind is one of those that there are.
 #[tactic(auto, unfolding(calls::specs::Pieces::kind_listed))]
@@ -21,25 +23,23 @@ fn kind_listed(p: Piece) -> bool
 
 // Block sectors, of which 0 counts as 1.
 #[tactic(auto, unfolding(calls::specs::Pieces::block_of))]
-pub fn block_of(block: u16) -> u16
-    ensures { result ≡ block_of block }
+pub fn block_of(block: u16) -> NonZero<u16>
+    ensures { non_zero_u16_get result ≡ block_of block }
 {
-    block.max(1)
+    NonZero::<u16>::new(block).unwrap_or(NonZero::<u16>::MIN)
 }
 
-// Whether a block divides a number of sectors. `block_of` shows that it is not 0.
+// Whether a block divides a number of sectors.
 #[tactic(auto, unfolding(calls::specs::Pieces::divides))]
-fn divides(block: u16, n: u16) -> bool
-    requires { 0 < block }
-    ensures { result ≡ divides block n }
+fn divides(block: NonZero<u16>, n: u16) -> bool
+    ensures { result ≡ divides (non_zero_u16_get block) n }
 {
     n % block == 0
 }
 
-// Refusal 8: whether a block divides both the bucket and 128. `block_of` shows that a block has sectors.
-pub fn block_fits(block: u16, bucket: u16) -> bool
-    requires { 0 < block }
-    ensures { result ≡ (divides block bucket && divides block 128) }
+// Refusal 8: whether a block divides both the bucket and 128.
+pub fn block_fits(block: NonZero<u16>, bucket: u16) -> bool
+    ensures { result ≡ (divides (non_zero_u16_get block) bucket && divides (non_zero_u16_get block) 128) }
 {
     divides(block, bucket) && divides(block, 128)
 }
@@ -53,11 +53,10 @@ fn kind_fits(p: Piece) -> bool
     as_it_is == (p.stored == p.file)
 }
 
-// Whether a piece's sectors are within their bounds, are whole blocks and agree with its kind. `block_of` shows that a block has sectors.
+// Whether a piece's sectors are within their bounds, are whole blocks and agree with its kind.
 #[tactic(auto, unfolding(calls::specs::Pieces::piece_sized, crate::specs::Requests::kind_fits))]
-fn piece_sized(p: Piece, bucket: u16, block: u16) -> bool
-    requires { 0 < block }
-    ensures { result ≡ piece_sized bucket block (piece_in p) }
+fn piece_sized(p: Piece, bucket: u16, block: NonZero<u16>) -> bool
+    ensures { result ≡ piece_sized bucket (non_zero_u16_get block) (piece_in p) }
 {
     (1..=bucket.min(128)).contains(&p.file)
         && (1..=p.file).contains(&p.stored)
@@ -74,16 +73,16 @@ pub fn kinds_listed(pieces: &Pieces) -> bool
 }
 
 // Refusal 7: whether a checksum option, by its byte, takes the pieces' kinds: where there is no checksum, no piece may be compressed.
+// By its byte, and not by `ChecksumOption`: the narrower type would ask more of callers.
 pub fn option_fits(pieces: &Pieces, option: u8) -> bool
     ensures { result ≡ (not (eqb option 0) || all_of (λ p. eqb p.kind 0) (pieces_of pieces.now)) }
 {
     option != ChecksumOption::Off as u8 || pieces.all(|p| p.kind == Compression::Off as u8)
 }
 
-// Refusal 9: whether each piece's sectors are as a bucket and a block allow. `block_of` shows that a block has sectors.
-pub fn pieces_sized(pieces: &Pieces, bucket: u16, block: u16) -> bool
-    requires { 0 < block }
-    ensures { result ≡ all_of (piece_sized bucket block) (pieces_of pieces.now) }
+// Refusal 9: whether each piece's sectors are as a bucket and a block allow.
+pub fn pieces_sized(pieces: &Pieces, bucket: u16, block: NonZero<u16>) -> bool
+    ensures { result ≡ all_of (piece_sized bucket (non_zero_u16_get block)) (pieces_of pieces.now) }
 {
     pieces.all(|p| piece_sized(p, bucket, block))
 }

@@ -5,6 +5,7 @@ ghost use Rattle.release.specs.Given.{change_of};
 ghost use Rattle.release.specs.Outcomes.{BatchTables};
 
 use accounting::released;
+use accounting::released::Released;
 use change_fields::batch_end;
 use gens::records::Records;
 use reader::answer::Emit;
@@ -68,7 +69,15 @@ impl<'a> Emit for ReleaseBatch<'a> {
         backpointers::put_deletions(out, table);
         gen_records::put_gens(out, self.records, self.emptied);
         roots::put_roots(out, count != 0, read.head.roots);
-        released::put_rows(out, count as u64, total, unused.kept, unused.lost);
+        released::put_rows(
+            out,
+            Released {
+                emptied: count as u64,
+                total,
+                kept: unused.kept,
+                lost: unused.lost,
+            },
+        );
         batch_end::put_end(out);
     }
 }

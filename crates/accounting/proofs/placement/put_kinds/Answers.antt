@@ -16,7 +16,7 @@ put_counts-requires c =
 
 pub loop-i-preserved : goal.loop-i-preserved
 loop-i-preserved c =
-    kind-turn c.loop-i.out c.put_counts.new.out c.args.kinds.now c.loop-i.i _ (omega arith) c.put_counts.ensures ∙ c.loop-i.invariant
+    kind-turn c.loop-i.out c.put_counts.new.out c.args.kinds.now c.loop-i.i _ (omega arith) (rw c.of_kind.ensures at c.put_counts.ensures) ∙ c.loop-i.invariant
 
 pub returns : goal.returns
 returns c = sym (kind-end c.loop-i.out c.args.kinds.now c.loop-i.i (omega arith)) ∙ c.loop-i.invariant

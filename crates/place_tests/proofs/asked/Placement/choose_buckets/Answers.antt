@@ -25,22 +25,22 @@ found q e = rw q.runs_are at e
 pub overlaps-requires : goal.overlaps-requires
 overlaps-requires c = let q = c.args.self.now.called in rw q.runs_are (runs-checked q.checked)
 
-pub returns-in_err-option : goal.returns-in_err-option
-returns-in_err-option c =
+pub returns-in_err-sectors : goal.returns-in_err-sectors
+returns-in_err-sectors c =
     let p = err_from_is_err_and c.from_residual.result c.from_residual.ensures.1 in
-    let e = c.in_err-option.field-0.0 in
-    rw (p.1, p.2) (chosen-stopped e (asked-stops (read_call c.args.self.now.read.now.list.now) e c.in_err-option.ensures.refusal))
+    let e = c.in_err-sectors.field-0.0 in
+    rw (p.1, p.2) (chosen-stopped e (asked-stops (read_call c.args.self.now.read.now.list.now) e c.in_err-sectors.ensures.refusal))
 
 pub returns-then-overlaps : goal.returns-then-overlaps
 returns-then-overlaps c =
-    chosen-stopped RunsOverlap (overlap-stops (read_call c.args.self.now.read.now.list.now) (sym c.in_ok-option.ensures.refusal) (sym (found c.args.self.now.called c.if-overlaps.ensures)))
+    chosen-stopped RunsOverlap (overlap-stops (read_call c.args.self.now.read.now.list.now) (sym c.in_ok-sectors.ensures.refusal) (sym (found c.args.self.now.called c.if-overlaps.ensures)))
 
 pub enough_free-requires : goal.enough_free-requires
 enough_free-requires c =
     let r = c.args.self.now.read.now in
     let q = c.args.self.now.called in
     let needed : c.buckets_needed-n.result ≡ buckets_needed (slots_of (read_call r.list.now)) = c.buckets_needed-n.ensures ∙ ap buckets_needed (c.lay_out-slots.ensures ∙ slots-are q) in
-    let few = needed-short q (asked (read_call r.list.now) r.head q.head (sym c.in_ok-option.ensures.refusal)) in
+    let few = needed-short q (asked (read_call r.list.now) r.head q.head (sym c.in_ok-sectors.ensures.refusal)) in
     (sym (found c.args.self.now.called c.if-overlaps.ensures), omega arith)
 
 pub returns-then-not-enough_free : goal.returns-then-not-enough_free
@@ -49,7 +49,7 @@ returns-then-not-enough_free c =
     let q = c.args.self.now.called in
     let needed = c.buckets_needed-n.ensures ∙ ap buckets_needed (c.lay_out-slots.ensures ∙ slots-are q) in
     chosen-stopped TooFewFree
-    (shortage-stops (read_call r.list.now) (sym c.in_ok-option.ensures.refusal) (sym (found c.args.self.now.called c.if-overlaps.ensures))
+    (shortage-stops (read_call r.list.now) (sym c.in_ok-sectors.ensures.refusal) (sym (found c.args.self.now.called c.if-overlaps.ensures))
     (enough-is r.list.now needed r.head q.head c.if-not-enough_free.ensures))
 
 pub walk_runs-requires : goal.walk_runs-requires
@@ -57,7 +57,7 @@ walk_runs-requires c =
     let r = c.args.self.now.read.now in
     let q = c.args.self.now.called in
     let needed : c.buckets_needed-n.result ≡ buckets_needed (slots_of (read_call r.list.now)) = c.buckets_needed-n.ensures ∙ ap buckets_needed (c.lay_out-slots.ensures ∙ slots-are q) in
-    let few = needed-short q (asked (read_call r.list.now) r.head q.head (sym c.in_ok-option.ensures.refusal)) in
+    let few = needed-short q (asked (read_call r.list.now) r.head q.head (sym c.in_ok-sectors.ensures.refusal)) in
     (rw q.alloc_are (alloc-checked q.checked), rw q.runs_are (runs-checked q.checked), rw q.reserved_are (reserved-checked q.checked), omega arith)
 
 pub returns-in_err-walked : goal.returns-in_err-walked
@@ -70,7 +70,7 @@ returns-in_err-walked c =
     rw (p.1, p.2)
     (chosen-stopped e
     ((chosen-walk r.list.now needed (rw (q.alloc_are, q.runs_are, q.reserved_are) at c.in_err-walked.ensures)).refusal
-    ∙ walk-decides (read_call r.list.now) (sym c.in_ok-option.ensures.refusal) (sym (found c.args.self.now.called c.if-overlaps.ensures))
+    ∙ walk-decides (read_call r.list.now) (sym c.in_ok-sectors.ensures.refusal) (sym (found c.args.self.now.called c.if-overlaps.ensures))
     (enough-is r.list.now needed r.head q.head c.if-not-enough_free.ensures)))
 
 pub returns : goal.returns
@@ -82,11 +82,12 @@ returns c =
     record {
       refusal =
           w.refusal
-          ∙ walk-decides (read_call r.list.now) (sym c.in_ok-option.ensures.refusal) (sym (found c.args.self.now.called c.if-overlaps.ensures))
+          ∙ walk-decides (read_call r.list.now) (sym c.in_ok-sectors.ensures.refusal) (sym (found c.args.self.now.called c.if-overlaps.ensures))
           (enough-is r.list.now needed r.head q.head c.if-not-enough_free.ensures);
       chosen =
           record {
-            option = c.in_ok-option.ensures.option ∙ ap (λ (h : Head). h.option) q.head;
+            sectors = c.in_ok-sectors.ensures.head.0 ∙ ap (λ (h : Head). h.bucket_sectors) q.head;
+            option = c.in_ok-sectors.ensures.head.1 ∙ ap (λ (h : Head). h.option) q.head;
             slots = c.lay_out-slots.ensures ∙ slots-are q;
             taken = w.took.taken;
             walk = took-front w.took;
