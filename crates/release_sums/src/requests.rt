@@ -3,12 +3,14 @@ ghost use Rattle.std.specs.Prelude.{◌≡◌, ◌+◌, ◌<◌, ◌≤◌, leng
 ghost use Rattle.std.specs.Int.NonZero.{non_zero_u64_get};
 ghost use Rattle.calls.specs.CallList.{freed_of};
 ghost use Rattle.calls.specs.Release.{freed_ok};
-ghost use Rattle.release_sums.specs.Freeds.{freed_held, Requested};
+ghost use Rattle.release_sums.specs.Freeds.{freed_held, freeds_in, Requested};
 
+use reader::read_list::ReadList;
 use std::num::NonZero;
 use wire::kinds::DeviceSector;
 use wire::{kinds, le};
 
+// A released piece: its first sector, and how many sectors it has.
 #[derive(Clone, Copy, Drop)]
 pub struct Freed {
     pub first: DeviceSector,
@@ -55,6 +57,17 @@ fn freed_ok(r: Freed, sectors: NonZero<u64>) -> bool
 impl<'a> Freeds<'a> {
     ghost use Rattle.calls.specs.Lists.{all_of};
     ghost use Rattle.release_sums.specs.FreedsOf.{freeds_of, freeds_left};
+
+    // Those that a list requests. The reader shows that they are.
+    pub fn of(read: &ReadList<'a>) -> Freeds<'a>
+        requires { Requested read.now.list.now read.now.requests.now }
+        ensures { freeds_of result ≡ freeds_in read.now.list.now read.now.requests.now }
+    {
+        Freeds {
+            list: read.list,
+            places: read.requests,
+        }
+    }
 
     // The pieces, from the first on.
     pub fn iter(self) -> FreedsLeft<'a>
