@@ -93,22 +93,30 @@ fn discard_within<const N: usize>(
     answer::written(&Changes::new(read.head.batch, d), out)
 }
 
-// The answer to a discard whose list passed refusals 2, 22, 3 and 20, which the reader and its caller show. Where the alloc keys are few, little room is
-// cleared, and no table where the need-discard keys are few as well.
-pub fn discard_lists(read: &ReadList, out: &mut [u8]) -> Result<usize, Refusal>
+// The answer with a table of the need-discard keys. `discard_lists` shows what is required.
+#[inline(never)]
+fn discard_tabled(read: &ReadList, out: &mut [u8]) -> Result<usize, Refusal>
     requires { DiscardGiven read.now }
     ensures { made_by result out.new ≡ outcome (answer [] (change_bytes (discard_batches (read_volume read.now.list.now))) (length out.old)) out.old }
 {
-    let few = read.alloc.len() <= 64;
-    if few && read.need_discard.len() <= 16 {
-        let waiting = Waiting::searched(read.need_discard);
-        return discard_within::<64>(read, &waiting, out);
-    }
     let mut table = [0u16; 65536];
     let waiting = Waiting::tabled(read.need_discard, &mut table);
-    if few {
+    if read.alloc.len() <= 64 {
         discard_within::<64>(read, &waiting, out)
     } else {
         discard_within::<4096>(read, &waiting, out)
     }
+}
+
+// The answer to a discard whose list passed refusals 2, 22, 3 and 20, which the reader and its caller show. Few alloc keys have a small room, and with few
+// need-discard keys no table.
+pub fn discard_lists(read: &ReadList, out: &mut [u8]) -> Result<usize, Refusal>
+    requires { DiscardGiven read.now }
+    ensures { made_by result out.new ≡ outcome (answer [] (change_bytes (discard_batches (read_volume read.now.list.now))) (length out.old)) out.old }
+{
+    if read.alloc.len() <= 64 && read.need_discard.len() <= 16 {
+        let waiting = Waiting::searched(read.need_discard);
+        return discard_within::<64>(read, &waiting, out);
+    }
+    discard_tabled(read, out)
 }
