@@ -22,9 +22,9 @@ fn after_field(roots: u8, field: Field) -> u8
     if field.tag != Tag::Root.number() {
         return roots;
     }
-    match Root::of_id(le::le8(field.body, 0)) {
-        Some(root) => roots::with_root(roots, root),
-        None => roots,
+    match Root::try_from(le::le8(field.body, 0)) {
+        Ok(root) => roots::with_root(roots, root),
+        Err(_) => roots,
     }
 }
 

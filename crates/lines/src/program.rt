@@ -19,7 +19,7 @@ const LONGEST_LIST: usize = 32768;
 fn answer_to(list: &[u8], change: &mut [u8; 65536]) -> Result<usize, Refusal>
     ensures { AnsweredIn (answer_by_byte list.now) result change.new }
 {
-    let Some(call) = Call::named(head::call_byte(list)) else {
+    let Ok(call) = Call::try_from(head::call_byte(list)) else {
         return discard_call::discard(list, change);
     };
     match call {

@@ -20,7 +20,8 @@ impl<'a> TryFrom<Field<'a>> for NamedField<'a> {
 
     ghost try_from_gives = { FieldNamed };
 
-    // The field with the name of its tag, if that has one.
+    // The field with the name of its tag, if that has one. Inlined, as the pass over a list asks it of each field.
+    #[inline(always)]
     fn try_from(field: Field<'a>) -> Result<NamedField<'a>, UnknownTag> {
         let tag = Tag::try_from(field.tag)?;
         Ok(NamedField { field, tag })

@@ -115,7 +115,7 @@ fn survey_ordered(s: &[u8], asked: Option<u8>, index: &mut [u32]) -> Option<Laid
     })
 }
 
-// The pass over a list in order; where it is none, over it again in any order; none where the list breaks the layout.
+// The pass over a list in order; where it is none, over it again in any order; none where the list breaks the layout. By `match`: tried `or_else`, and what the table holds that its closure borrows stays open.
 pub fn survey(s: &[u8], asked: Option<u8>, index: &mut [u32]) -> Option<Laid>
     requires { Fits s.now index.old }
     ensures { Surveyed (unwrap_or asked 0) (is_none asked) s.now index.new result }

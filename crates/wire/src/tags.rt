@@ -51,7 +51,8 @@ impl TryFrom<u8> for Tag {
 
     ghost try_from_gives = { TagNamed };
 
-    // The tag with a number, if one has it.
+    // The tag with a number, if one has it. Inlined, as a pass over a list asks it of each field.
+    #[inline(always)]
     fn try_from(number: u8) -> Result<Tag, UnknownTag> {
         match number {
             1 => Ok(Tag::Head),

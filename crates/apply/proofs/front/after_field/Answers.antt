@@ -6,5 +6,5 @@ use Rattle.apply.proofs.front.after_field.Goals as goal
 pub returns-then-field-number : goal.returns-then-field-number
 returns-then-field-number c = other-field _ _ (rw c.number.ensures at c.if-field-number.true)
 
-pub returns-in-Some : goal.returns-in-Some
-returns-in-Some c = root-field _ _ (rw c.number.ensures at c.if-field-number.false) (sym c.le8.ensures ∙ c.in-Some.ensures) c.with_root.ensures
+pub returns-in-Ok : goal.returns-in-Ok
+returns-in-Ok c = root-field _ _ (rw c.number.ensures at c.if-field-number.false) (sym c.le8.ensures ∙ c.in-Ok.ensures) c.with_root.ensures
