@@ -5,8 +5,9 @@ ghost use Rattle.calls.specs.Answers.{apply, outcome};
 ghost use Rattle.sorting.specs.Entries.{sections};
 ghost use Rattle.merge.specs.Merging.{Done};
 ghost use Rattle.merge.specs.QueueParts.{InParts};
+ghost use Rattle.merge.specs.QueueTable.{QueuePart};
 ghost use Rattle.apply.specs.Roots.{roots_after};
-ghost use Rattle.apply.specs.NextVolume.{Lists, bytes_after, Ready, next_of, SectionReady, SectionsReady, QueueReady, VolumeDone};
+ghost use Rattle.apply.specs.NextVolume.{Lists, bytes_after, Ready, next_of, SectionListed, SectionsReady, VolumeDone};
 
 use crate::front;
 use merge::below::Rest;
@@ -32,6 +33,23 @@ pub struct NextVolume<'a, 'q> {
     queue: Option<Queue<'q>>,
 }
 
+// A section by the tag of its keys: their places in the volume, and those of its queued keys in the change list, where the table that is lent held them.
+#[derive(Clone, Copy, Drop)]
+struct Section<'s> {
+    tag: u8,
+    keys: &'s [u32],
+    queue: Option<&'s [usize]>,
+}
+
+impl<'s> Section<'s> {
+    // A section with these places.
+    fn new(tag: u8, keys: &'s [u32], queue: Option<&'s [usize]>) -> Section<'s>
+        ensures { result ≡ record { tag = tag; keys = keys; queue = queue } }
+    {
+        Section { tag, keys, queue }
+    }
+}
+
 // It is seen as both lists. Their layouts were tested, and the places are theirs.
 impl<'a, 'q> Model for NextVolume<'a, 'q> {
     ghost Value = { Lists };
@@ -42,37 +60,37 @@ impl<'a, 'q> Model for NextVolume<'a, 'q> {
 }
 
 impl<'a, 'q> NextVolume<'a, 'q> {
-    // The sections of the volume, each with the places of its keys.
-    fn sections(&self) -> [(u8, &[u32]); 7]
-        ensures { SectionsReady self.now.volume result }
-    {
-        let r = &self.read;
-        [
-            (Tree::Alloc.tag(), r.alloc.places),
-            (Tree::Lru.tag(), r.lru.places),
-            (Tree::Freespace.tag(), r.freespace.places),
-            (Tree::NeedDiscard.tag(), r.need_discard.places),
-            (Tree::Backpointers.tag(), r.backpointers.places),
-            (Tree::BucketGens.tag(), r.gens.places),
-            (BUCKETS, r.reserved.places),
-        ]
-    }
-
-    // The places of the queued keys of a section, where the table holds them. The loop over the sections shows the bound, here and below.
+    // The places of the queued keys of a section by its place among the sections, where the table holds them. `sections` names the seven.
     fn queued(&self, i: usize) -> Option<&[usize]>
         requires { i < 7 }
-        ensures { IfSome result (λ q. QueueReady (get_or sections i 0) self.now.change q.now) }
+        ensures { IfSome result (λ q. QueuePart (get_or sections i 0) self.now.change q.now) }
     {
         Some(self.queue?.parts[i])
     }
 
-    // Section number i, whose keys stand at some places; how many keys were written.
-    fn put_section(&self, out: &mut Output, i: usize, section: u8, keys: &[u32]) -> KeyCount
-        requires { (i < 7) × (section ≡ get_or sections i 0) × SectionReady section self.now.volume keys.now }
-        ensures { Done section out.old (next_of self.now.volume self.now.change section) out.new result }
+    // The sections of the volume, in order.
+    fn sections(&self) -> [Section; 7]
+        ensures { SectionsReady self.now result }
     {
-        let rest = Rest::new(section, self.read.list, keys);
-        match self.queued(i) {
+        let r = &self.read;
+        [
+            Section::new(Tree::Alloc.tag(), r.alloc.places, self.queued(0)),
+            Section::new(Tree::Lru.tag(), r.lru.places, self.queued(1)),
+            Section::new(Tree::Freespace.tag(), r.freespace.places, self.queued(2)),
+            Section::new(Tree::NeedDiscard.tag(), r.need_discard.places, self.queued(3)),
+            Section::new(Tree::Backpointers.tag(), r.backpointers.places, self.queued(4)),
+            Section::new(Tree::BucketGens.tag(), r.gens.places, self.queued(5)),
+            Section::new(BUCKETS, r.reserved.places, self.queued(6)),
+        ]
+    }
+
+    // A section of the next volume; how many keys were written. `sections` shows that its places are of its keys.
+    fn put_section(&self, out: &mut Output, s: &Section) -> KeyCount
+        requires { SectionListed self.now s.now }
+        ensures { Done s.now.tag out.old (next_of self.now.volume self.now.change s.now.tag) out.new result }
+    {
+        let rest = Rest::new(s.tag, self.read.list, s.keys);
+        match s.queue {
             Some(queue) => merging::put_section(out, rest, self.list, queue),
             None => merging::put_section_in_chunks(out, rest, self.list),
         }
@@ -84,8 +102,8 @@ impl<'a, 'q> NextVolume<'a, 'q> {
     {
         front::put_front(out, self.read.head, self.roots);
         let mut within = true;
-        for (i, (section, keys)) in self.sections().iter().enumerate() {
-            within &= self.put_section(out, i, *section, keys).is_within();
+        for section in self.sections().iter() {
+            within &= self.put_section(out, section).is_within();
         }
         within
     }
