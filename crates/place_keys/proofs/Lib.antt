@@ -6,3 +6,4 @@ pub mod RootLaws
 pub mod SlotTables
 pub mod StepLaws
 pub mod WalkLaws
+pub mod ZipLaws

@@ -2,19 +2,23 @@
 use mathlib.Core.Path.{◌≡◌, refl, sym, ap, ◌∙◌}
 use mathlib.Core.Bool.{Bool, true, false, cond}
 use mathlib.Core.List.{List, [], ◌∷◌, ◌++◌, map, map-append, append-nil}
-use Prim.Native.Nat.{ℕ, suc, ◌+◌, ◌-◌, ◌≤◌, ◌<◌}
+use Prim.Native.Nat.{ℕ, suc, ◌≤◌}
 use native.Mathlib.Omega.{arith}
-use lib.ListN.{length, take, get_or, length-take, get_or-append}
-use lib.Seq.{get_or-take, get_or-append_seam}
-use Rattle.std.specs.List.{IsLastAndRest}
+use lib.ListN.{length, take, drop, length-take, length-append, length-map}
+use lib.Seq.{append_snoc}
+use Rattle.std.proofs.lemmas.List.{take-append-drop}
 use borrow.Author.Tests.{ne_eqb, eq-eqb}
 use Rattle.wire.specs.Keys.{Key}
 use Rattle.wire.specs.Encode.{encode, key_field}
+use Rattle.wire.specs.Output.{with_bytes}
+use Rattle.wire.specs.declared.output.Output.{Output}
 use Rattle.wire.proofs.EncodeLaws.{encode-append}
+use Rattle.reader.specs.KeyHere.{key_here, keys_here}
 use Rattle.calls.specs.Trees.{deletion}
 use Rattle.calls.specs.Limits.{is_run}
 use Rattle.calls.specs.Freespace.{shortened}
 use Rattle.freespace.specs.Walks.{left_of, key_queue, queue_of}
+use Rattle.place_keys.proofs.WalkLaws.{run-put}
 
 -- a run with some buckets left: its size is another, and the rest is as it was
 pub kept : (k : Key) {left : ℕ} → (left ≡ 0 → ⊥) → record k { size = left } ≡ shortened k left
@@ -43,36 +47,32 @@ queue-one n left k ks = go (is_run k)
     go true = refl
     go false = refl
 
-module _ {ks : List Key} {k : Key} {rest : List Key} (n i left : ℕ) (e : ks ≡ k ∷ rest) where
-  -- before the last of n keys
-  pub queue-next : i < n - 1 → queue_bytes (queue_of (n - i) left ks) ≡ queue_bytes (key_queue k 0) ++ queue_bytes (queue_of (n - (i + 1)) left rest)
-  queue-next h =
-      let m : n - i ≡ suc (suc (n - (i + 2))) = omega arith in
-      let o : n - (i + 1) ≡ suc (n - (i + 2)) = omega arith in
-      let q : queue_of (n - i) left ks ≡ key_queue k 0 ++ queue_of (n - (i + 1)) left rest = rw (e, m, o) (queue-one (suc (n - (i + 2))) left k rest) in
-      ap queue_bytes q ∙ bytes-append (key_queue k 0) (queue_of (n - (i + 1)) left rest)
+-- what keys that are walked to their ends queue, and after them a last one with some buckets left
+abbrev pub queue_with : List Key → Key → ℕ → List Key
+queue_with [] last left = key_queue last left
+queue_with (k ∷ ks) last left = key_queue k 0 ++ queue_with ks last left
 
-  -- at the last of n keys
-  pub queue-end : i + 1 ≡ n → queue_bytes (queue_of (n - i) left ks) ≡ queue_bytes (key_queue k left)
-  unfolding queue_of
-  queue-end h =
-      let m : n - i ≡ 1 = omega arith in
-      let q : queue_of (n - i) left ks ≡ key_queue k left = rw (e, m) (queue-one 0 left k rest ∙ append-nil (key_queue k left)) in
-      ap queue_bytes q
+-- the first of the keys before the last one is put
+pub queue-turn : (o : Output) {r : Output} {ks rest : List Key} {k : Key} (last : Key) (left : ℕ) → ks ≡ k ∷ rest → r ≡ with_bytes o (queue_bytes (key_queue k 0))
+    → with_bytes r (queue_bytes (queue_with rest last left)) ≡ with_bytes o (queue_bytes (queue_with ks last left))
+queue-turn o {rest = rest} {k = k} last left e w =
+    run-put o _ _ (ap (λ l. queue_bytes (queue_with l last left)) e ∙ bytes-append (key_queue k 0) (queue_with rest last left)) w
 
--- the places of the keys passed, apart from the last one
-module _ (runs walked : List ℕ) (last n : ℕ) (q : IsLastAndRest (take n runs) last walked) (few : n ≤ length runs) where
-  pub walked-many : length walked + 1 ≡ n
-  walked-many = omega (arith, q.1, length-take n runs)
+-- the keys passed are some, a last one, and those after them that the walk did not come to
+queue-parts : (ks : List Key) (last : Key) (rest : List Key) (left : ℕ) → queue_of (suc (length ks)) left (ks ++ (last ∷ rest)) ≡ queue_with ks last left
+unfolding queue_of
+queue-parts [] last rest left = queue-one 0 left last rest ∙ append-nil (key_queue last left)
+queue-parts (k ∷ ks) last rest left = queue-one (suc (length ks)) left k (ks ++ (last ∷ rest)) ∙ ap (λ l. key_queue k 0 ++ l) (queue-parts ks last rest left)
 
-  pub walked-at : (i : ℕ) → i < length walked → get_or walked i 0 ≡ get_or runs i 0
-  walked-at i h =
-      sym (get_or-append walked (last ∷ []) 0 i h) ∙ ap (λ (l : List ℕ). get_or l i 0) (sym q.0) ∙ get_or-take n runs i 0 (omega (arith, walked-many))
-
-  pub last-at : last ≡ get_or runs (length walked) 0
-  last-at =
-      sym (get_or-append_seam walked last [] 0) ∙ ap (λ (l : List ℕ). get_or l (length walked) 0) (sym q.0)
-      ∙ get_or-take n runs (length walked) 0 (omega (arith, walked-many))
+-- at their places in a list
+pub queue-is : (s places before : List ℕ) (last n left : ℕ) → n ≤ length places → take n places ≡ before ++ (last ∷ [])
+    → queue_of n left (keys_here s places) ≡ queue_with (keys_here s before) (key_here s last) left
+queue-is s places before last n left few e =
+    let m : n ≡ suc (length (keys_here s before)) = omega (arith, ap length e, length-take n places, length-append before (last ∷ []), length-map before (key_here s)) in
+    let parts : places ≡ before ++ (last ∷ drop n places) = sym (take-append-drop n places) ∙ ap (λ (l : List ℕ). l ++ drop n places) e ∙ append_snoc before last (drop n places) in
+    let keys : keys_here s places ≡ keys_here s before ++ (key_here s last ∷ keys_here s (drop n places)) = ap (keys_here s) parts ∙ map-append (key_here s) before (last ∷ drop n places) in
+    ap (λ l. queue_of n left l) keys ∙ ap (λ k. queue_of k left (keys_here s before ++ (key_here s last ∷ keys_here s (drop n places)))) m
+    ∙ queue-parts (keys_here s before) (key_here s last) (keys_here s (drop n places)) left
 
 -- what a key queues
 pub passed-run : (k : Key) (left : ℕ) → is_run k ≡ true → key_queue k left ≡ shortened k left ∷ []

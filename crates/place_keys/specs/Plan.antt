@@ -30,8 +30,7 @@ pub record Planned (s : List ℕ) (ps : List Piece) (ts : List Slot) (buckets : 
   -- refusal 3: at most 1,024 pieces, the base below 2^40
   pub few : length ps ≤ 1024
   pub base : base_in_range h.base ≡ true
-  -- refusals 4 and 5
-  pub sectors : 0 < h.bucket_sectors
+  -- refusal 5
   pub option : option_byte o ≡ h.option
   -- refusals 6 and 9
   pub kinds : all_of kind_listed (read_call s).pieces ≡ true

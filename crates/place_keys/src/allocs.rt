@@ -19,7 +19,7 @@ use wire::output::Output;
 use wire::positions;
 use wire::trees::Tree;
 
-// The alloc key of a bucket.
+// The alloc key of a bucket. Its four numbers come from four places, and `new_alloc` alone takes them all too.
 pub fn put_alloc(out: &mut Output, b: Bucket, journal: u64, generation: u8, dirty: u32, clock: u64)
     ensures { out.new ≡ with_bytes out.old (encode_field (key_field 4 (new_key 27 0 (alloc_at b) (new_alloc journal generation dirty clock)))) }
 {
@@ -37,15 +37,8 @@ pub fn put_allocs(out: &mut Output, counted: &DirtyPlan, clock: u64)
     ensures { out.new ≡ with_bytes out.old (keys_bytes 4 (map (new_alloc_key (read_volume counted.now.plan.now.list.now) (placed_of (read_call counted.now.plan.now.list.now))) counted.now.plan.now.taken.now)) }
 {
     let plan = counted.plan;
-    // By index: std's lemmas on `zip` are of two slices, and here are three.
-    for (i, b) in plan.taken.iter().enumerate() {
-        put_alloc(
-            out,
-            *b,
-            plan.head.journal,
-            plan.gens[i],
-            counted.dirty[i],
-            clock,
-        );
+    let buckets = plan.taken.iter().zip(plan.gens).zip(counted.dirty);
+    for ((b, generation), dirty) in buckets {
+        put_alloc(out, *b, plan.head.journal, *generation, *dirty, clock);
     }
 }

@@ -19,10 +19,9 @@ pub fn dirty_counts(plan: &Plan) -> [u32; 1024]
     ensures { Dirty (placed_of (read_call plan.now.list.now)) plan.now.taken.now result }
 {
     let mut dirty = [0u32; 1024];
-    // By index: what is known of a piece and of its slot is known by their index.
-    for (i, slot) in plan.slots.iter().enumerate() {
+    for (slot, piece) in plan.slots.iter().zip(plan.pieces.iter()) {
         let index = slot.index as usize;
-        dirty[index] += plan.pieces.get(i).stored as u32;
+        dirty[index] += piece.stored as u32;
     }
     dirty
 }

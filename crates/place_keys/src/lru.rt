@@ -15,6 +15,7 @@ use wire::kinds::Bucket;
 use wire::output::Output;
 
 // The LRU key of a bucket that is part filled, and whether it is, which wants the root.
+// That is tested here and in `put_lru_key`: an answer of that one would be thrown away by its other caller, a release, which wants no root by it.
 fn put_lru(out: &mut Output, b: Bucket, dirty: u32, sectors: NonZero<u64>) -> bool
     ensures { (out.new ≡ with_bytes out.old (keys_bytes 10 (lru_keys (non_zero_u64_get sectors) b dirty))) × (result ≡ part_filled (non_zero_u64_get sectors) dirty) }
 {
@@ -27,7 +28,7 @@ pub fn put_lrus(out: &mut Output, counted: &DirtyPlan) -> bool
     ensures keys { out.new ≡ with_bytes out.old (keys_bytes 10 (flat_map (λ b. lru_keys counted.now.plan.now.head.bucket_sectors b (dirty_in (placed_of (read_call counted.now.plan.now.list.now)) b)) counted.now.plan.now.taken.now)) }
     ensures root { result ≡ lru_wanted counted.now.plan.now.head.bucket_sectors (map (dirty_in (placed_of (read_call counted.now.plan.now.list.now))) counted.now.plan.now.taken.now) }
 {
-    let sectors = NonZero::<u64>::new(counted.plan.head.bucket_sectors as u64).unwrap();
+    let sectors = counted.plan.sectors;
     let mut root_wanted = false;
     for (b, stored) in counted.plan.taken.iter().zip(counted.dirty) {
         root_wanted |= put_lru(out, *b, *stored, sectors);

@@ -1,5 +1,6 @@
 // A plan, and its pieces at their places, one after the other.
-ghost use Rattle.std.specs.Prelude.{◌<◌, length};
+ghost use Rattle.std.specs.Prelude.{◌≡◌, ◌<◌, length};
+ghost use Rattle.std.specs.Int.NonZero.{non_zero_u64_get};
 ghost use Rattle.reader.specs.PieceLists.{pieces_of};
 ghost use Rattle.place_keys.specs.Plan.{Planned, Reached, PieceStepped};
 
@@ -8,12 +9,13 @@ use format::checksums::ChecksumOption;
 use next_fit::slot::Slot;
 use reader::head::Head;
 use reader::pieces::Pieces;
+use std::num::NonZero;
 use wire::kinds;
 use wire::kinds::{Bucket, FileSector};
 
-// What planning hands over: a list, its pieces and their slots, the buckets taken, their generations, the head and its checksum option.
-// The buckets, their generations and, beside a plan, their dirty counts are tables of their own: the walk fills one of buckets, and rows of all three would be a
-// second table, which the buckets would have to be copied to.
+// What planning hands over: a list, its pieces and their slots, the buckets taken, their generations, the head, its bucket's sectors and its checksum option.
+// No heap: the buckets, their generations and, in a `DirtyPlan`, their dirty counts are tables of the caller, each filled by a pass of its own; for rows of all
+// three the buckets would be copied to a second table.
 #[derive(Clone, Copy, Drop)]
 pub struct Plan<'a> {
     pub list: &'a [u8],
@@ -22,8 +24,10 @@ pub struct Plan<'a> {
     pub taken: &'a [Bucket],
     pub gens: &'a [u8],
     pub head: Head,
+    pub sectors: NonZero<u64>,
     pub option: ChecksumOption,
     pub ghost planned: { Planned list.now (pieces_of pieces) slots.now taken.now gens.now head option },
+    pub ghost sized: { non_zero_u64_get sectors ≡ head.bucket_sectors },
 }
 
 // The pieces of a plan that are left, to be placed: the index of the next one, and where the extent before it ends in the file.
@@ -36,7 +40,6 @@ pub struct PlacedPieces<'a> {
 }
 
 impl<'a> Plan<'a> {
-    ghost use Rattle.std.specs.Prelude.{◌≡◌};
     ghost use Rattle.calls.specs.Place.{placed_of};
     ghost use Rattle.calls.specs.Answers.{read_call};
     ghost use Rattle.place_keys.specs.Left.{placed_left};
@@ -83,7 +86,7 @@ impl<'a> Iterator for PlacedPieces<'a> {
 
     // The next piece, if one is left.
     fn next(&mut self) -> Option<Placed> {
-        // By index: what a plan says of its pieces and of their slots it says of whole lists, and of two lists cut from the front it would have to be said anew.
+        // By index: `Planned` speaks of all pieces and all slots; of iterators over them a ghost field would have to say which of those they have left.
         if self.next >= self.plan.pieces.len() {
             return None;
         }

@@ -42,11 +42,12 @@ pub fn put_queue(out: &mut Output, runs: &Keys, walked: Walked)
     requires { walked.passed ≤ length runs.now.places.now }
     ensures { out.new ≡ with_bytes out.old (keys_bytes 11 (queue_of walked.passed walked.left (keys_listed runs.now))) }
 {
-    let list = runs.list;
-    if let Some((last, before)) = runs.places[..walked.passed].split_last() {
-        for at in before {
-            put_passed(out, &ListedKey { list, at: *at }, 0);
-        }
-        put_passed(out, &ListedKey { list, at: *last }, walked.left);
+    let mut before = runs.up_to(walked.passed).iter();
+    let Some(last) = before.next_back() else {
+        return;
+    };
+    for key in before {
+        put_passed(out, &key, 0);
     }
+    put_passed(out, &last, walked.left);
 }

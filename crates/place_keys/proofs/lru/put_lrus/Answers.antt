@@ -1,7 +1,6 @@
 use Rattle.std.proofs.Common.{arith, sym, ap, ◌∙◌, map, drop, get_or, Bool, ℕ, ◌≡◌, ◌||◌, ◌+◌, length, [], ◌∷◌, ◌++◌, length-append}
 use lib.ListN.{drop_of_length-le}
 use Rattle.std.proofs.lemmas.Slice.Zip.{zip_turn, zip_end}
-use Rattle.std.proofs.Common.{rules}
 use Rattle.std.specs.Int.NonZero.{non_zero_u64_get}
 use Rattle.wire.specs.Encode.{key_field}
 use Rattle.wire.specs.Kinds.{no_bucket}
@@ -22,7 +21,7 @@ pub loop-b-preserved : goal.loop-b-preserved
 loop-b-preserved c =
     let i = length c.loop-b.yielded in
     let bs = c.args.counted.now.plan.now.taken.now in
-    let n = non_zero_u64_get c.unwrap-sectors.result in
+    let n = non_zero_u64_get c.args.counted.now.plan.now.sectors in
     let b = get_or bs i no_bucket in
     let first = ap (λ z. z.a.rest.now) c.into_iter-b-iterator.ensures.into_iter_gives ∙ ap (λ z. z.rest.now) c.zip-b-items.ensures.first ∙ c.iter.ensures.rest in
     let second = ap (λ z. z.b.rest.now) c.into_iter-b-iterator.ensures.into_iter_gives ∙ c.zip-b-items.ensures.second.0 in
@@ -49,8 +48,8 @@ returns-clause-keys c =
     let second = ap (λ z. z.b.rest.now) c.into_iter-b-iterator.ensures.into_iter_gives ∙ c.zip-b-items.ensures.second.0 in
     let end = zip_end plan.taken.now c.args.counted.now.dirty.now c.loop-b.yielded _ c.loop-b.b-iterator c.next.new.self c.next.result first second c.loop-b.yielded_by c.in-None.is c.next.ensures.steps in
     let none = drop_of_length-le plan.taken.now {i = length c.loop-b.yielded} (omega (arith, end, c.args.counted.now.counted.long)) in
-    let e : non_zero_u64_get c.unwrap-sectors.result ≡ plan.head.bucket_sectors = search rules in
-    rw e at (sym (all-put c.loop-b.out (flat-none (key_field 10) (λ b. lru_keys (non_zero_u64_get c.unwrap-sectors.result) b (dirty_in (placed_of (read_call plan.list.now)) b)) none)) ∙ c.loop-b.invariant.0)
+    let e : non_zero_u64_get c.args.counted.now.plan.now.sectors ≡ plan.head.bucket_sectors = plan.sized in
+    rw e at (sym (all-put c.loop-b.out (flat-none (key_field 10) (λ b. lru_keys (non_zero_u64_get c.args.counted.now.plan.now.sectors) b (dirty_in (placed_of (read_call plan.list.now)) b)) none)) ∙ c.loop-b.invariant.0)
 
 pub returns-clause-root : goal.returns-clause-root
 returns-clause-root c =
@@ -59,5 +58,5 @@ returns-clause-root c =
     let second = ap (λ z. z.b.rest.now) c.into_iter-b-iterator.ensures.into_iter_gives ∙ c.zip-b-items.ensures.second.0 in
     let end = zip_end plan.taken.now c.args.counted.now.dirty.now c.loop-b.yielded _ c.loop-b.b-iterator c.next.new.self c.next.result first second c.loop-b.yielded_by c.in-None.is c.next.ensures.steps in
     let none = drop_of_length-le plan.taken.now {i = length c.loop-b.yielded} (omega (arith, end, c.args.counted.now.counted.long)) in
-    let e : non_zero_u64_get c.unwrap-sectors.result ≡ plan.head.bucket_sectors = search rules in
-    rw e at (wanted-none (non_zero_u64_get c.unwrap-sectors.result) (dirty_in (placed_of (read_call plan.list.now))) c.loop-b.root_wanted none c.loop-b.invariant.1)
+    let e : non_zero_u64_get c.args.counted.now.plan.now.sectors ≡ plan.head.bucket_sectors = plan.sized in
+    rw e at (wanted-none (non_zero_u64_get c.args.counted.now.plan.now.sectors) (dirty_in (placed_of (read_call plan.list.now))) c.loop-b.root_wanted none c.loop-b.invariant.1)

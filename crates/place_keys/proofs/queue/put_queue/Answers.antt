@@ -1,49 +1,38 @@
-use Rattle.std.proofs.Common.{arith, refl, sym, ap, ◌∙◌, ◌≡◌, ◌-◌, length, ℕ, get_or, length-take}
-use Rattle.wire.specs.Output.{with_bytes}
-use Rattle.change_fields.specs.FieldBytes.{keys_bytes}
-use Rattle.change_fields.proofs.FieldLists.{fields-none}
-use Rattle.freespace.specs.Walks.{key_queue}
+use Rattle.std.proofs.Common.{arith, sym, ap, ◌∙◌, ◌≡◌, take, length, length-take}
 use Rattle.wire.specs.Encode.{key_field}
-use Rattle.reader.specs.KeyHere.{key_here}
-use Rattle.reader.specs.ListedKeys.{keys_listed}
-use Rattle.reader.proofs.KeyHereLaws.{keys-next}
-use Rattle.reader.proofs.ListedKeyLaws.{keys-at}
-use Rattle.place_keys.proofs.QueueLaws.{queue-next, queue-end, walked-many, walked-at, last-at, passed_none}
-use Rattle.place_keys.proofs.WalkLaws.{run-put, all-put}
+use Rattle.wire.specs.Output.{with_bytes}
+use Rattle.change_fields.proofs.FieldLists.{fields-none}
+use Rattle.reader.specs.ListedKeys.{key_listed, keys_listed}
+use Rattle.reader.specs.declared.listed_keys.Keys.{Keys}
+use Rattle.place_keys.proofs.QueueLaws.{queue_bytes, queue_with, queue-turn, queue-is, passed_none}
+use Rattle.place_keys.proofs.WalkLaws.{all-put}
 use Rattle.place_keys.proofs.queue.put_queue.Goals as goal
 
-pub loop-at-init : goal.loop-at-init
-loop-at-init c = let e : c.args.walked.passed - 0 ≡ c.args.walked.passed = omega arith in rw e refl
-
-pub loop-at-preserved : goal.loop-at-preserved
-loop-at-preserved c =
+pub loop-key-init : goal.loop-key-init
+loop-key-init c =
     let n = c.args.walked.passed in
-    let i = c.loop-at.at-index in
-    let q = c.in-Some.ensures.cases in
     let ks = c.args.runs.now in
-    let ns = ks.places.now in
-    let many = walked-many ns c.in-Some.before.now c.in-Some.last.now n q c.requires in
-    let here = walked-at ns c.in-Some.before.now c.in-Some.last.now n q c.requires i (omega arith) in
-    let put = c.put_passed.ensures ∙ ap (λ (k : ℕ). with_bytes c.loop-at.out (keys_bytes 11 (key_queue (key_here ks.list.now k) 0))) here in
-    run-put c.loop-at.out _ _ (queue-next n i c.args.walked.left (keys-next (keys-at ks.whole) i (omega (arith, many))) (omega (arith, many))) put
-    ∙ c.loop-at.invariant
+    let k = c.in-Some.ensures.steps in
+    let places : c.iter-before.result.keys.places.now ≡ take n ks.places.now = ap (λ (x : Keys). x.places.now) c.iter-before.ensures ∙ c.up_to.ensures.1 in
+    let list : c.iter-before.result.keys.list.now ≡ ks.list.now = ap (λ (x : Keys). x.list.now) c.iter-before.ensures ∙ c.up_to.ensures.0 in
+    rw (c.into_iter-key-iterator.ensures.into_iter_gives, k.same, k.list, list)
+    (ap (λ l. with_bytes c.args.out.now (queue_bytes l)) (sym (queue-is ks.list.now ks.places.now _ _ n c.args.walked.left c.requires (sym places ∙ k.places))))
 
-pub returns-after-loop-at : goal.returns-after-loop-at
-returns-after-loop-at c =
-    let n = c.args.walked.passed in
+pub loop-key-preserved : goal.loop-key-preserved
+loop-key-preserved c =
+    queue-turn c.loop-key.out (key_listed c.in-Some.last) c.args.walked.left c.in-Some-key.ensures.steps.keys c.put_passed.ensures ∙ c.loop-key.invariant
+
+pub returns : goal.returns
+returns c =
     let left = c.args.walked.left in
-    let i = c.loop-at.at-index in
-    let q = c.in-Some.ensures.cases in
-    let ks = c.args.runs.now in
-    let ns = ks.places.now in
-    let many = walked-many ns c.in-Some.before.now c.in-Some.last.now n q c.requires in
-    let z : length c.in-Some.before.now ≡ i = omega arith in
-    let here = last-at ns c.in-Some.before.now c.in-Some.last.now n q c.requires ∙ ap (λ (k : ℕ). get_or ns k 0) z in
-    let put = c.put_passed-in-Some.ensures ∙ ap (λ (k : ℕ). with_bytes c.loop-at.out (keys_bytes 11 (key_queue (key_here ks.list.now k) left))) here in
-    put ∙ ap (with_bytes c.loop-at.out) (sym (queue-end n i left (keys-next (keys-at ks.whole) i (omega (arith, many))) (omega (arith, many)))) ∙ c.loop-at.invariant
+    c.put_passed-2.ensures
+    ∙ sym (ap (λ ks. with_bytes c.loop-key.out (queue_bytes (queue_with ks (key_listed c.in-Some.last) left))) c.in-None.ensures.steps)
+    ∙ c.loop-key.invariant
 
 pub returns-in_default : goal.returns-in_default
 returns-in_default c =
-    let e = c.in_default.ensures.cases in
-    let z : c.args.walked.passed ≡ 0 = omega (arith, e, c.requires, length-take c.args.walked.passed c.args.runs.now.places.now) in
-    sym (all-put c.args.out.now (fields-none (key_field 11) (passed_none (keys_listed c.args.runs.now) c.args.walked.left z)))
+    let n = c.args.walked.passed in
+    let ks = c.args.runs.now in
+    let places : c.iter-before.result.keys.places.now ≡ take n ks.places.now = ap (λ (x : Keys). x.places.now) c.iter-before.ensures ∙ c.up_to.ensures.1 in
+    let none = sym places ∙ c.in_default.ensures.steps in
+    sym (all-put c.args.out.now (fields-none (key_field 11) (passed_none (keys_listed ks) c.args.walked.left (omega (arith, ap length none, c.requires, length-take n ks.places.now)))))
