@@ -108,7 +108,7 @@ impl<'a> Output<'a> {
         self.put_bucket_bytes(b);
     }
 
-    // A device sector in eight bytes. Each of the two kinds has a function of its own: a trait over them would be longer than both.
+    // A device sector in eight bytes. It and a file sector have a function each, of one line: one for both asks for a trait with a law, two impls and a function over them.
     pub fn put_sector(&mut self, d: DeviceSector)
         ensures { self.new ≡ with_bytes self.old (sector_bytes d) }
     {
