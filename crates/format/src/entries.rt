@@ -53,6 +53,7 @@ pub struct Storage {
 }
 
 // The crc32 entry. A checksum type's number shows the bound. No `ChecksumType`: for C an entry of each of the sixteen numbers is made.
+#[tactic(auto, using(crate::proofs::EntryLaws::entries_packed))]
 pub fn crc32(storage: Storage, ctype: u64, checksum: u64) -> u64
     requires { ctype < 16 }
     ensures { result ≡ crc32 storage.stored storage.file ctype storage.kind checksum }
@@ -65,6 +66,7 @@ pub fn crc32(storage: Storage, ctype: u64, checksum: u64) -> u64
 }
 
 // The first word of the crc64 entry; the checksum is the second. A checksum type's number shows the bound. No `ChecksumType`: for C an entry of each of the sixteen numbers is made.
+#[tactic(auto, using(crate::proofs::EntryLaws::entries_packed))]
 pub fn crc64(storage: Storage, ctype: u64) -> u64
     requires { ctype < 16 }
     ensures { result ≡ crc64 storage.stored storage.file ctype storage.kind }
