@@ -33,6 +33,9 @@ crc64-is stored file ctype kind s f t k =
     let e : kind % 16 ≡ kind = omega arith in
     rw (a, b, d, e) (omega arith)
 
+-- the word of an entry, of either width
+pub ruleset entries_packed = (crc32-is, crc64-is)
+
 -- options 1 to 3 give their number and 4
 pub csum-none : csum_type_of 0 ≡ 0
 unfolding csum_type_of

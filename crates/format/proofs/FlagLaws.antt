@@ -27,3 +27,6 @@ discard-sum x h = simp mod-mod (omega arith)
 
 pub discard-is : (x : ℕ) → x < 2 ^ 32 → bit_and x 0xffff_fffe ≡ discarded_flags x
 discard-is x h = omega (arith, and_high x 31 1, discard-sum x h)
+
+-- the flags that a mask leaves
+pub ruleset flags_masked = (empty-is, discard-is)

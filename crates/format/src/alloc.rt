@@ -81,6 +81,7 @@ pub fn next_gen(generation: u8) -> u8
 }
 
 // The flags of an emptied bucket: the low byte without bit 1.
+#[tactic(auto, using(crate::proofs::FlagLaws::flags_masked))]
 fn emptied_flags(x: u32) -> u32
     ensures { result ≡ emptied_flags x }
 {
@@ -104,6 +105,7 @@ pub fn emptied(v: &mut Value, journal: u64)
 }
 
 // The flags of a discarded bucket: without bit 0.
+#[tactic(auto, using(crate::proofs::FlagLaws::flags_masked))]
 fn discarded_flags(x: u32) -> u32
     ensures { result ≡ discarded_flags x }
 {

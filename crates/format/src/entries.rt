@@ -43,7 +43,7 @@ pub fn pointer(d: DeviceSector, generation: u8) -> u64
     1 + (d.0 << 4) + ((generation as u64) << 56)
 }
 
-// How a piece is stored: its sectors as they are stored and in the file, and the number of its kind of compression. Refusals 6 and 9 show the bounds.
+// How a piece is stored: its sectors as they are stored and in the file, and the number of its kind of compression. Refusals 6 and 9 show the bounds. No `Compression`: for C an entry of each of the sixteen numbers is made.
 #[derive(Clone, Copy, Drop)]
 pub struct Storage {
     pub stored: u64,
@@ -52,7 +52,8 @@ pub struct Storage {
     pub ghost within: { ((1 ≤ stored) × (stored ≤ 128)) × ((1 ≤ file) × (file ≤ 128)) × (kind < 16) },
 }
 
-// The crc32 entry. A checksum type's number shows the bound. It stays a number: for C an entry of each of the sixteen is made.
+// The crc32 entry. A checksum type's number shows the bound. No `ChecksumType`: for C an entry of each of the sixteen numbers is made.
+#[tactic(auto, using(crate::proofs::EntryLaws::entries_packed))]
 pub fn crc32(storage: Storage, ctype: u64, checksum: u64) -> u64
     requires { ctype < 16 }
     ensures { result ≡ crc32 storage.stored storage.file ctype storage.kind checksum }
@@ -64,7 +65,8 @@ pub fn crc32(storage: Storage, ctype: u64, checksum: u64) -> u64
         + ((checksum % 4294967296) << 32)
 }
 
-// The first word of the crc64 entry; the checksum is the second. The type is a number for the same reason.
+// The first word of the crc64 entry; the checksum is the second. A checksum type's number shows the bound. No `ChecksumType`: for C an entry of each of the sixteen numbers is made.
+#[tactic(auto, using(crate::proofs::EntryLaws::entries_packed))]
 pub fn crc64(storage: Storage, ctype: u64) -> u64
     requires { ctype < 16 }
     ensures { result ≡ crc64 storage.stored storage.file ctype storage.kind }
@@ -75,7 +77,7 @@ pub fn crc64(storage: Storage, ctype: u64) -> u64
         + (storage.kind << 44)
 }
 
-// The checksum type of an option.
+// The checksum type of an option. A function and not `From`: its name is that of the member that it makes.
 #[tactic(auto, unfolding(crate::specs::Entries::csum_type_of))]
 pub fn csum_type(option: ChecksumOption) -> ChecksumType
     ensures { csum_number result ≡ csum_type_of (option_byte option) }

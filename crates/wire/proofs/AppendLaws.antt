@@ -4,7 +4,7 @@ use Prim.Native.Nat.{ℕ, ◌+◌, ◌-◌, ◌*◌, ◌/◌, ◌%◌, ◌≤◌
 use mathlib.Core.Logic.{inl, inr, ⊎_elim}
 use native.Mathlib.Omega.{arith}
 use borrow.Rule.Slice.PartMut.{put_mid}
-use mathlib.Core.List.{List, [], ◌∷◌, ◌++◌}
+use mathlib.Core.List.{List, [], ◌∷◌, ◌++◌, append_assoc}
 use Rattle.std.proofs.lemmas.Slice.{take-put_mid, drop-put_mid}
 use lib.ListN.{length, length-append, get_or, take, drop, drop_of_length-le}
 use lib.Seq.{take-append-add}
@@ -181,3 +181,6 @@ row-size inode offset ns =
       le-length 8 offset,
       each-length 8 signed_bytes (λ z. le-length 8 (of_z w64 z)) ns,
     )
+
+-- what an emitter of one part after another puts, and the bytes of a number
+pub ruleset emitted = (with-with, append_assoc, low_8, low_16, low_32, bytes_32, bytes_64)

@@ -118,7 +118,7 @@ pub fn key_sized(len: usize) -> bool
 }
 
 // The type of the key whose body starts at a place. The length of a key's field shows the bound.
-// `type_at`, `size_at` and `pos_at` each ask for the 37 bytes: a type with the fact would be made where the part is read, and its making would ask for them. Where a key is read more than once, reader's `ListedKey` holds the fact.
+// `type_at`, `size_at` and `pos_at` each ask for the 37 bytes: a type with the fact would be made where a part is read, and its making would ask for them. For a key at a place of a table, reader's `ListedKey` is that type.
 pub fn type_at(s: &[u8], start: usize) -> u8
     requires { start + 37 ≤ length s.now }
     ensures { result ≡ le 1 (drop start s.now) }

@@ -1,5 +1,7 @@
 // The bytes that are written one after the other into a slice. What has no room is left out, and counted all the same, so that a run into no room tells the length.
 // One function for each width, as the type of a number tells how many bytes it has: std has no trait that joins them, and a clause over that of num_traits would name its members in place of `le_bytes`.
+#![tactic(auto, using(crate::proofs::AppendLaws::emitted), unfolding(crate::specs::Encode::head_bytes, crate::specs::Encode::encode_field, crate::specs::Encode::pos_bytes, crate::specs::Encode::key_start))]
+
 ghost use Rattle.std.specs.Prelude.{◌≡◌, ◌+◌, ◌-◌, ◌≤◌, min, max, [], ◌∷◌, length, take};
 ghost use Rattle.wire.specs.Numbers.{le_bytes, words_bytes};
 ghost use Rattle.wire.specs.Held.{key_in, key_with};
@@ -50,6 +52,7 @@ impl<'a> Output<'a> {
     }
 
     // Some bytes.
+    #[tactic(auto, unfolding(crate::specs::Output::with_bytes))]
     pub fn put_slice(&mut self, b: &[u8])
         ensures { self.new ≡ with_bytes self.old b.now }
     {
@@ -65,6 +68,7 @@ impl<'a> Output<'a> {
     }
 
     // A number in two bytes, the lowest first.
+    #[tactic(auto, unfolding(crate::specs::Numbers::le_bytes))]
     pub fn put_u16(&mut self, x: u16)
         ensures { self.new ≡ with_bytes self.old (le_bytes 2 x) }
     {
@@ -101,6 +105,7 @@ impl<'a> Output<'a> {
     }
 
     // A field with one bucket: tags 64, 71 and 75.
+    #[tactic(auto, using(crate::proofs::AppendLaws::emitted), unfolding(crate::specs::Numbers::le_bytes, crate::specs::Encode::encode_field))]
     pub fn put_bucket(&mut self, tag: u8, b: Bucket)
         ensures { self.new ≡ with_bytes self.old (encode_field (record { tag = tag; body = bucket_bytes b })) }
     {
@@ -108,7 +113,7 @@ impl<'a> Output<'a> {
         self.put_bucket_bytes(b);
     }
 
-    // A device sector in eight bytes. Each of the two kinds has a function of its own: a trait over them would be longer than both.
+    // A device sector in eight bytes. It and a file sector have a function each, of one line: one for both asks for a trait with a law, two impls and a function over them.
     pub fn put_sector(&mut self, d: DeviceSector)
         ensures { self.new ≡ with_bytes self.old (sector_bytes d) }
     {

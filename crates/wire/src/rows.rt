@@ -16,7 +16,7 @@ pub fn plus(n: u64) -> i64
     n as i64
 }
 
-// The amount below zero, with the same bound.
+// The amount below zero. Counts of sectors and buckets within the limits show the bound.
 pub fn minus(n: u64) -> i64
     requires { n < 2 ^ 63 }
     ensures { result ≡ neg_ℤ (pos n) }
@@ -32,7 +32,7 @@ impl<'a> Output<'a> {
         self.put_slice(&x.to_le_bytes());
     }
 
-    // Signed numbers. The loop is that of `put_words`: one for both asks for a trait with a law, two impls and a function for each, which is longer than two loops of a line.
+    // Signed numbers. The loop is that of `put_words`: one for both asks for a trait with a law, two impls and the loop, some twenty lines for the fourteen of the two.
     fn put_numbers(&mut self, numbers: &[i64])
         ensures { self.new ≡ with_bytes self.old (each signed_bytes numbers.now) }
     {
