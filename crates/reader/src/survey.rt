@@ -39,14 +39,12 @@ fn head_first(s: &[u8], asked: Option<u8>) -> Option<Field>
     ensures { HeadFirst (unwrap_or asked 0) (is_none asked) s.now result }
 {
     let field = Fields::of(s).next()?;
-    if field.tag == Tag::Head.number() && head_field_ok(asked, field.body) {
-        Some(field)
-    } else {
-        None
-    }
+    let is_head = field.tag == Tag::Head.number() && head_field_ok(asked, field.body);
+    is_head.then_some(field)
 }
 
-// A field's place is noted, unless a limit is passed, by it or before it. The length that its tag asks shows the bound.
+// A field's place is noted, unless a limit is passed, by it or before it. The length that its tag asks shows the bound. Inlined, as a pass asks it of each field.
+#[inline(always)]
 fn note_field(table: &mut PlaceTable, field: NamedField)
     requires { (least_of field.field.tag ≤ length field.field.body.now) × Free table.old (rank_of field.field.tag) }
     ensures { FieldNoted (field_in field.entry.field) field.entry.field.start table.old table.new }
@@ -66,6 +64,7 @@ fn survey_any(s: &[u8], asked: Option<u8>, index: &mut [u32]) -> Option<Laid>
     let mut table = PlaceTable::new(index);
     let mut head = None;
     let mut fields = Fields::of(s);
+    // By `while let`: tried `for` over `by_ref`, and that what it gives back for `at_end` is what the loop left stays open.
     while let Some(field) = fields.next() {
         let named = NamedField::try_from(field).ok()?;
         if named.may_stand(asked) {
@@ -99,6 +98,7 @@ fn survey_ordered(s: &[u8], asked: Option<u8>, index: &mut [u32]) -> Option<Laid
     let mut table = PlaceTable::new(index);
     let mut last = head;
     let mut fields = Fields::from_place(s, head.start + head.body.len());
+    // By `while let`: tried `for` over `by_ref`, and that what it gives back for `at_end` is what the loop left stays open.
     while let Some(field) = fields.next() {
         let named = NamedField::try_from(field).ok()?;
         if !named.may_stand(asked) || !named.follows(last) {
