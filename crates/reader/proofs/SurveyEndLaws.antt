@@ -22,7 +22,6 @@ use Rattle.reader.specs.Surveyed.{Counted, LaidFound, Surveyed, OrderSurveyed}
 use Rattle.reader.specs.declared.table.PlaceTable.{PlaceTable}
 use Rattle.reader.specs.declared.survey.Laid.{Laid}
 use Rattle.std.proofs.Common.{Option, Some, None}
-use Rattle.reader.proofs.BoolLaws.{apart}
 use Rattle.reader.proofs.ShapeLaws.{KeyTag}
 use Rattle.reader.proofs.ListedLaws.{key-tag-bounds}
 use Rattle.reader.proofs.LayoutLaws.{list-laid}
@@ -33,7 +32,7 @@ use Rattle.reader.proofs.LimitLaws.{FieldsWithin, parts_within, within-alloc, wi
 use Rattle.reader.proofs.NotingLaws.{no_field, Standing, Noting, end-most, ends-fit, place-fits, rank-counted, all_here, all-within}
 use Rattle.reader.proofs.RankLaws.{InRanks, ranked, fewer, rank-at, rank-inside, counted-fewer}
 use Rattle.reader.proofs.SortedBodyLaws.{already-sorted, ascends-never, none_found}
-use Rattle.reader.proofs.SurveyLaws.{Limits, head_bodies, head_size, last_field, Going, miscounted, head-most}
+use Rattle.reader.proofs.SurveyLaws.{head_bodies, head_size, last_field, Going, miscounted, head-most}
 
 -- the field of a tag with a body of some
 field_of : (t : ℕ) (bs : List (List ℕ)) (i : ℕ) → i < length bs → get_or (map (field t) bs) i no_field ≡ field t (get_or bs i [])

@@ -5,7 +5,7 @@ use mathlib.Core.Logic.{◌⊎◌, inl, inr, ⊎_elim}
 use Rattle.std.specs.Prelude.{is_some}
 use Rattle.std.proofs.Common.{Option, Some, None}
 use mathlib.Core.List.{List, [], ◌∷◌, ◌++◌}
-use mathlib.Core.Bool.{Bool, true, false, not, ◌&&◌, ◌||◌, cond, and-false}
+use mathlib.Core.Bool.{Bool, true, false, ◌&&◌, cond, and-false}
 use lib.ListN.{length, take, drop, get_or, set, length-set, length-map}
 use lib.Dec.{eqb}
 use borrow.Author.Tests.{ne_eqb, eqb-true, lt-ltb, le-ltb}
@@ -309,8 +309,8 @@ module _
       go true true hp hq = (
         length-set c (rank_of t) (get_or c (rank_of t) 0 + 1) ∙ w.0,
         noting-more s (others (fields s)) at h table.n c table.index.now w.0 w.1 t b n f beside
-        (entry_free (Some c) z w c z (room-true c (rank_of t) b hq)) (here-at s at t b n e f)
-        (listed-most l) (sym hp) (room-true c (rank_of t) b hq),
+            (entry_free (Some c) z w c z (room-true c (rank_of t) b hq)) (here-at s at t b n e f)
+            (listed-most l) (sym hp) (room-true c (rank_of t) b hq),
       )
 
   -- none stands in order after 255
