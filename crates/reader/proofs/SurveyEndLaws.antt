@@ -16,13 +16,12 @@ use Rattle.calls.specs.Limits.{list_within}
 use Rattle.calls.specs.Answers.{read_call, read_volume}
 use Rattle.calls.proofs.encoding.Blocks.{field}
 use Rattle.reader.specs.CallFields.{any_field_ok, others, follows, ascends, head_within, field_within}
-use Rattle.reader.specs.Table.{most_of, rank_end, Fits, sorted_bodies, Indexed, Ended, ends_in, request_bodies, request_tag, Tabled, counted_of}
+use Rattle.reader.specs.Table.{most_of, rank_end, Fits, sorted_bodies, Indexed, Ended, ends_in, request_bodies, request_tag, Tabled}
 use Rattle.reader.specs.Readings.{laid_as}
 use Rattle.reader.specs.Surveyed.{Counted, LaidFound, Surveyed, OrderSurveyed}
 use Rattle.reader.specs.declared.table.PlaceTable.{PlaceTable}
 use Rattle.reader.specs.declared.survey.Laid.{Laid}
 use Rattle.std.proofs.Common.{Option, Some, None}
-use Rattle.reader.proofs.BoolLaws.{apart}
 use Rattle.reader.proofs.ShapeLaws.{KeyTag}
 use Rattle.reader.proofs.ListedLaws.{key-tag-bounds}
 use Rattle.reader.proofs.LayoutLaws.{list-laid}
@@ -33,7 +32,7 @@ use Rattle.reader.proofs.LimitLaws.{FieldsWithin, parts_within, within-alloc, wi
 use Rattle.reader.proofs.NotingLaws.{no_field, Standing, Noting, end-most, ends-fit, place-fits, rank-counted, all_here, all-within}
 use Rattle.reader.proofs.RankLaws.{InRanks, ranked, fewer, rank-at, rank-inside, counted-fewer}
 use Rattle.reader.proofs.SortedBodyLaws.{already-sorted, ascends-never, none_found}
-use Rattle.reader.proofs.SurveyLaws.{Limits, head_bodies, head_size, last_field, Going, miscounted, head-most}
+use Rattle.reader.proofs.SurveyLaws.{head_bodies, head_size, last_field, Going, miscounted, head-most}
 
 -- the field of a tag with a body of some
 field_of : (t : ℕ) (bs : List (List ℕ)) (i : ℕ) → i < length bs → get_or (map (field t) bs) i no_field ≡ field t (get_or bs i [])
@@ -42,8 +41,8 @@ field_of t (b ∷ bs) zero h = refl
 field_of t (b ∷ bs) (suc i) h = field_of t bs i (omega arith)
 
 module _
-    (s : List ℕ) (call : ℕ) (any : Bool) (at : ℕ) (head : Option ℕ) (last : Field) (over : Bool) (table : PlaceTable)
-    (g : Going s call any at head last over table) (e : length s ≤ at) where
+    (s : List ℕ) (call : ℕ) (any : Bool) (at : ℕ) (head : Option ℕ) (last : Field) (table : PlaceTable)
+    (g : Going s call any at head last table) (e : length s ≤ at) where
   abbrev fs : List Field
   fs = others (fields s)
 
@@ -78,12 +77,8 @@ module _
     unfolding call_list_of
     ends-head = sym (ap (λ (bs : List (List ℕ)). head_of (first_body bs)) one-head)
 
-    ends-past : over ≡ true → list_within (read_call s) ≡ false
-    ends-past h = limit over h g.limits
-      where
-        limit : (o : Bool) → o ≡ true → Limits s call at (head_size head) table.n table.counts table.index.now o → list_within (read_call s) ≡ false
-        limit true z w = w listed
-        limit false z w = apart (sym z)
+    ends-past : table.counts ≡ None → list_within (read_call s) ≡ false
+    ends-past z = (rw z at g.limits) listed
 
     -- fields in order
 
@@ -111,13 +106,15 @@ module _
 
     -- fields within their limits
 
-    module _ (h : over ≡ false) where
-      noted : Noting s fs at (head_size head) table.n table.counts table.index.now
-      noted = none_passed over h g.limits
-        where
-          none_passed : (o : Bool) → o ≡ false → Limits s call at (head_size head) table.n table.counts table.index.now o → Noting s fs at (head_size head) table.n table.counts table.index.now
-          none_passed true z w = apart z
-          none_passed false z w = w
+    module _ (c : List ℕ) (z : table.counts ≡ Some c) where
+      known : (length c ≡ 8) × Noting s fs at (head_size head) table.n c table.index.now
+      known = rw z at g.limits
+
+      width : length c ≡ 8
+      width = known.0
+
+      noted : Noting s fs at (head_size head) table.n c table.index.now
+      noted = known.1
 
       -- a rank's bodies, in the whole list
       rank-bodies : (k t : ℕ) → 1 < t → in_rank k fs ≡ map (field t) (bodies t fs) → in_rank k fs ≡ map (field t) (bodies t (fields s))
@@ -135,16 +132,16 @@ module _
       abbrev RankIs : ℕ → ℕ → List (List ℕ) → Type 0
       RankIs k t bs = in_rank k fs ≡ map (field t) bs
 
-      count-is : (k t : ℕ) (bs : List (List ℕ)) → k < 8 → RankIs k t bs → get_or table.counts k 0 ≡ length bs
-      count-is k t bs l z = rank-counted s fs at (head_size head) table.n table.counts table.index.now noted e k l ∙ ap length z ∙ length-map bs (field t)
+      count-is : (k t : ℕ) (bs : List (List ℕ)) → k < 8 → RankIs k t bs → get_or c k 0 ≡ length bs
+      count-is k t bs l z = rank-counted s fs at (head_size head) table.n c table.index.now noted e k l ∙ ap length z ∙ length-map bs (field t)
 
       few-is : (k t : ℕ) (bs : List (List ℕ)) → k < 8 → RankIs k t bs → length bs ≤ most_of k
       few-is k t bs l z = omega (arith, count-is k t bs l z, noted.few k l)
 
       -- where a rank ends
-      end_is : (k t : ℕ) (bs : List (List ℕ)) → k < 8 → RankIs k t bs → rank_end table.counts (suc k) ≡ rank_end table.counts k + length bs
+      end_is : (k t : ℕ) (bs : List (List ℕ)) → k < 8 → RankIs k t bs → rank_end c (suc k) ≡ rank_end c k + length bs
       unfolding rank_end
-      end_is k t bs l z = ap (λ (x : ℕ). rank_end table.counts k + x) (count-is k t bs l z)
+      end_is k t bs l z = ap (λ (x : ℕ). rank_end c k + x) (count-is k t bs l z)
 
       alloc : RankIs 0 4 (bodies 4 (fields s))
       alloc = rank-bodies 0 4 (omega arith) (rank-alloc call fs listed)
@@ -167,11 +164,11 @@ module _
       reserved : RankIs 6 64 (bodies 64 (fields s))
       reserved = rank-bodies 6 64 (omega arith) (rank-reserved call fs listed)
 
-      first-end : rank_end table.counts 1 ≡ length (bodies 4 (fields s))
+      first-end : rank_end c 1 ≡ length (bodies 4 (fields s))
       unfolding rank_end
       first-end = omega (arith, count-is 0 4 (bodies 4 (fields s)) (omega arith) alloc)
 
-      ends-ended : Ended call s table.index.now (ends_in table.counts)
+      ends-ended : Ended call s table.index.now (ends_in c)
       ends-ended =
           record {
             alloc = first-end;
@@ -182,7 +179,7 @@ module _
             gens = end_is 5 14 (bodies 14 (fields s)) (omega arith) gens;
             reserved = end_is 6 64 (bodies 64 (fields s)) (omega arith) reserved;
             requests = end_is 7 (request_tag call) (request_bodies call (fields s)) (omega arith) rank-requests;
-            within = omega (arith, end-most table.counts g.width, noted.all, noted.inside);
+            within = omega (arith, end-most c width, noted.all, noted.inside);
           }
 
       -- the requests of the call are within their limit, and the other call's are none
@@ -204,7 +201,7 @@ module _
               omega (arith, ap length (sym (beside-bodies 66 (omega arith) (fields s)) ∙ no-releases call fs listed (eqb-false call 2 x)))
 
       fields-ok : all_of field_within (fields s) ≡ true
-      fields-ok = sym (others-within (fields s)) ∙ all-within s fs at (head_size head) table.n table.counts table.index.now noted e
+      fields-ok = sym (others-within (fields s)) ∙ all-within s fs at (head_size head) table.n c table.index.now noted e
 
       within_all : head_within (read_volume s).head ≡ true → FieldsWithin (fields s)
       unfolding call_list_of
@@ -226,13 +223,13 @@ module _
             releases = releases-few;
           }
 
-      ends-counted : Counted call s table.counts table.index.now
+      ends-counted : Counted call s c table.index.now
       ends-counted =
           record {
             within = λ z. parts_within (fields s) (within_all z);
             ends = ends-ended;
-            fits = ends-fit s fs at (head_size head) table.n table.counts table.index.now g.width noted;
-            short = omega (arith, e, place-fits s fs at (head_size head) table.n table.counts table.index.now g.width noted (head-most head));
+            fits = ends-fit s fs at (head_size head) table.n c table.index.now width noted;
+            short = omega (arith, e, place-fits s fs at (head_size head) table.n c table.index.now width noted (head-most head));
           }
 
       -- the places of a rank stand after those of the ranks below
@@ -241,20 +238,20 @@ module _
         in-ranks = ranked call fs (all-ordered o) listed
 
         in-rank : (k : ℕ) → k < 8 → (i : ℕ) → i < length (in_rank k fs)
-            → Standing s (get_or table.index.now (rank_end table.counts k + i) 0) (get_or (in_rank k fs) i no_field)
+            → Standing s (get_or table.index.now (rank_end c k + i) 0) (get_or (in_rank k fs) i no_field)
         in-rank k l i z =
-            let base : rank_end table.counts k ≡ fewer k fs = counted-fewer table.counts fs (rank-counted s fs at (head_size head) table.n table.counts table.index.now noted e) k (omega arith) in
-            rw (base, ← rank-at in-ranks k i z) (all_here s fs at (head_size head) table.n table.counts table.index.now noted e (fewer k fs + i) (rank-inside fs k i z))
+            let base : rank_end c k ≡ fewer k fs = counted-fewer c fs (rank-counted s fs at (head_size head) table.n c table.index.now noted e) k (omega arith) in
+            rw (base, ← rank-at in-ranks k i z) (all_here s fs at (head_size head) table.n c table.index.now noted e (fewer k fs + i) (rank-inside fs k i z))
 
-        table_is : (k t : ℕ) (bs : List (List ℕ)) → k < 8 → RankIs k t bs → Tabled s table.index.now (rank_end table.counts k) t bs
+        table_is : (k t : ℕ) (bs : List (List ℕ)) → k < 8 → RankIs k t bs → Tabled s table.index.now (rank_end c k) t bs
         table_is k t bs l z i y =
             rw (z, field_of t bs i y) at (in-rank k l i (omega (arith, ap length z, length-map bs (field t))))
 
         -- a section that is in order
-        section-is : (k t : ℕ) → k < 8 → KeyTag t ⊎ (t ≡ 64) → RankIs k t (bodies t (fields s)) → Tabled s table.index.now (rank_end table.counts k) t (sorted_bodies t (fields s))
+        section-is : (k t : ℕ) → k < 8 → KeyTag t ⊎ (t ≡ 64) → RankIs k t (bodies t (fields s)) → Tabled s table.index.now (rank_end c k) t (sorted_bodies t (fields s))
         section-is k t l y z = rw (in_order_lem o t y) (table_is k t (bodies t (fields s)) l z)
 
-        ends-indexed : Indexed call s table.index.now (ends_in table.counts)
+        ends-indexed : Indexed call s table.index.now (ends_in c)
         unfolding rank_end
         ends-indexed =
             record {
@@ -268,28 +265,17 @@ module _
               requests = table_is 7 (request_tag call) (request_bodies call (fields s)) (omega arith) rank-requests;
             }
 
-    -- what is counted, where there are counts
-    uncounted : (o : Bool) → over ≡ o → cond o None (Some table.counts) ≡ None → list_within (read_call s) ≡ false
-    uncounted true z h = ends-past z
-    uncounted false z h = absurd (let y : ◌≡◌ {A = ℕ} 0 1 = cc in omega arith)
-
-    kept_counts : (P : List ℕ → Type 0) → (over ≡ false → P table.counts) → (o : Bool) → over ≡ o → (c : List ℕ) → cond o None (Some table.counts) ≡ Some c → P c
-    kept_counts P f true z c h = absurd (let y : ◌≡◌ {A = ℕ} 0 1 = cc in omega arith)
-    kept_counts P f false z c h =
-        let y : table.counts ≡ c = cc in
-        subst P y (f z)
-
-    pub ends_found : (ordered : Bool) → (ordered ≡ true → last.tag ≡ 255 → ⊥) → (r : Option (List ℕ)) → r ≡ counted_of over table
-        → LaidFound call any s table.index.now (record { head = b; ordered = ordered; counts = r })
-    ends_found ordered told r e =
+    pub ends_found : (ordered : Bool) → (ordered ≡ true → last.tag ≡ 255 → ⊥)
+        → LaidFound call any s table.index.now (record { head = b; ordered = ordered; counts = table.counts })
+    ends_found ordered told =
         record {
           laid = ends-laid;
           inside = g.inside b some;
           first = ends-head;
-          past = λ h. uncounted over refl (sym e ∙ h);
-          counted = λ c h. kept_counts (λ x. Counted call s x table.index.now) ends-counted over refl c (sym e ∙ h);
+          past = ends-past;
+          counted = ends-counted;
           once = λ o. ends-once (told o);
-          table = λ o c h. kept_counts (λ x. Indexed call s table.index.now (ends_in x)) (λ z. ends-indexed z (told o)) over refl c (sym e ∙ h);
+          table = λ o c h. ends-indexed c h (told o);
         }
 
 -- the one outcome of the pass, or the other

@@ -5,7 +5,7 @@ use mathlib.Core.Logic.{◌⊎◌, inl, inr, ⊎_elim}
 use Rattle.std.specs.Prelude.{is_some}
 use Rattle.std.proofs.Common.{Option, Some, None}
 use mathlib.Core.List.{List, [], ◌∷◌, ◌++◌}
-use mathlib.Core.Bool.{Bool, true, false, not, ◌&&◌, ◌||◌, cond, and-false}
+use mathlib.Core.Bool.{Bool, true, false, ◌&&◌, cond, and-false}
 use lib.ListN.{length, take, drop, get_or, set, length-set, length-map}
 use lib.Dec.{eqb}
 use borrow.Author.Tests.{ne_eqb, eqb-true, lt-ltb, le-ltb}
@@ -19,7 +19,7 @@ use Rattle.calls.specs.Limits.{list_within}
 use Rattle.calls.specs.Answers.{read_call}
 use Rattle.calls.proofs.encoding.Blocks.{field}
 use Rattle.reader.specs.CallFields.{rest_shapes, call_field_ok, head_field_ok, any_field_ok, others, least_of, follows, field_within}
-use Rattle.reader.specs.Table.{rank_of, most_of, Fits, Free, Unfilled, room, FieldNoted}
+use Rattle.reader.specs.Table.{rank_of, most_of, Fits, Free, Unfilled, room, counted_more, Noted, FieldNoted}
 use Rattle.reader.specs.Readings.{laid_as}
 use Rattle.reader.specs.declared.table.PlaceTable.{PlaceTable}
 use Rattle.reader.proofs.BoolLaws.{apart, and_left, fails}
@@ -37,9 +37,9 @@ use Rattle.reader.proofs.NotingLaws.{Noting, noting-none, noting-head, noting-mo
 -- the loop's invariant
 
 -- what is known of the limits beside the head's: one is passed, if the layout is right to the end; or none was yet
-abbrev pub Limits : List ℕ → ℕ → ℕ → ℕ → ℕ → List ℕ → List ℕ → Bool → Type 0
-Limits s call at h m counts index true = AllListed call (others (fields s)) → list_within (read_call s) ≡ false
-Limits s call at h m counts index false = Noting s (others (fields s)) at h m counts index
+abbrev pub Limits : List ℕ → ℕ → ℕ → ℕ → ℕ → Option (List ℕ) → List ℕ → Type 0
+Limits s call at h m None index = AllListed call (others (fields s)) → list_within (read_call s) ≡ false
+Limits s call at h m (Some c) index = (length c ≡ 8) × Noting s (others (fields s)) at h m c index
 
 -- field 1, if it was passed: its body, and its bytes
 abbrev pub head_bodies : List ℕ → Option ℕ → List (List ℕ)
@@ -63,21 +63,20 @@ abbrev pub last_field : Field → List Field
 last_field last = cond (eqb last.tag 1) [] (last ∷ [])
 
 -- the pass at a place of the list: the last field that was passed has the tag 1 where none beside field 1 was, and 255 where they are not in order
-pub record Going (s : List ℕ) (call : ℕ) (any : Bool) (at : ℕ) (head : Option ℕ) (last : Field) (over : Bool) (table : PlaceTable) : Type 0 where
+pub record Going (s : List ℕ) (call : ℕ) (any : Bool) (at : ℕ) (head : Option ℕ) (last : Field) (table : PlaceTable) : Type 0 where
   pub walked : FieldsWalked s at
   pub heads : head_bodies s head ++ bodies 1 (fields (drop at s)) ≡ bodies 1 (fields s)
   pub inside : (b : ℕ) → head ≡ Some b → b + 39 ≤ length s
   pub fine : all_of (any_field_ok call any) (fields (drop at s)) ≡ all_of (any_field_ok call any) (fields s)
   pub kept : (last.tag ≡ 1) ⊎ (least_of last.tag ≤ length last.body)
   pub order : (last.tag ≡ 255 → ⊥) → in_order follows (last_field last ++ others (fields (drop at s))) ≡ in_order follows (others (fields s))
-  pub width : length table.counts ≡ 8
   pub fits : Fits s table.index.now
   pub many : 3 * table.n ≤ at
-  pub limits : Limits s call at (head_size head) table.n table.counts table.index.now over
+  pub limits : Limits s call at (head_size head) table.n table.counts table.index.now
 
 pub going_start :
     (s : List ℕ) (call : ℕ) (any : Bool) (last : Field) (table : PlaceTable) → last.tag ≡ 1 → Fits s table.index.now → Unfilled table
-    → Going s call any 0 None last false table
+    → Going s call any 0 None last table
 going_start s call any last table t z e =
     record {
       walked = walked_none s;
@@ -86,10 +85,9 @@ going_start s call any last table t z e =
       fine = refl;
       kept = inl t;
       order = λ h. rw t refl;
-      width = ap length e.0;
       fits = z;
       many = omega (arith, e.1);
-      limits = rw (e.0, e.1) (noting-none s table.index.now);
+      limits = rw (e.0, e.1) (refl, noting-none s table.index.now);
     }
 
 ok-listed : (s : List ℕ) (call t b n : ℕ) → b + n ≤ length s → call_field_ok call (field_at s t b n) ≡ true → FieldListed call t n
@@ -111,8 +109,8 @@ module _ (s : List ℕ) (call : ℕ) (any : Bool) where
   miscounted n = list-laid s call any ∙ simp (ne_eqb (length (bodies 1 (fields s))) 1 n, and-false)
 
 module _
-    (s : List ℕ) (call : ℕ) (any : Bool) (at : ℕ) (head : Option ℕ) (last : Field) (over : Bool) (table : PlaceTable)
-    (g : Going s call any at head last over table) where
+    (s : List ℕ) (call : ℕ) (any : Bool) (at : ℕ) (head : Option ℕ) (last : Field) (table : PlaceTable)
+    (g : Going s call any at head last table) where
   pub breaks : step_of at (drop at s) ≡ None → eqb at (length s) ≡ false → laid_as call any s ≡ false
   breaks e h = cut s call any (whole-stop s at g.walked e ∙ h)
 
@@ -156,16 +154,16 @@ module _
             ap (λ (k : ℕ). take k (drop b s) ∷ bodies 1 (fields (drop (b + n) s))) (sym head-long) ∙ sym comes
             ∙ ap (λ (x : Option ℕ). head_bodies s x ++ bodies 1 (fields (drop at s))) (sym (none-passed head h)) ∙ g.heads
 
-        passed-limits : (o : Bool) → Limits s call at (head_size head) table.n table.counts table.index.now o → Limits s call (b + n) 42 table.n table.counts table.index.now o
-        passed-limits true w = w
-        passed-limits false w =
+        passed-limits : (o : Option (List ℕ)) → Limits s call at (head_size head) table.n o table.index.now → Limits s call (b + n) 42 table.n o table.index.now
+        passed-limits None w = w
+        passed-limits (Some c) w =
             let z : head_size head ≡ 0 = ap head_size (none-passed head h) in
-            rw head-long (noting-head s (others (fields s)) at (head_size head) table.n table.counts table.index.now g.width w z b first-at)
+            rw head-long (w.0, noting-head s (others (fields s)) at (head_size head) table.n c table.index.now w.0 w.1 z b first-at)
 
         others_same : others (fields (drop at s)) ≡ others (fields (drop (b + n) s))
         others_same = ap others f.here ∙ others-head (field_at s t b n) (fields (drop (b + n) s)) e
 
-        pub goes-head : Going s call any (b + n) (Some b) last over table
+        pub goes-head : Going s call any (b + n) (Some b) last table
         goes-head =
             record {
               walked = walked_more s at g.walked t b n f;
@@ -176,10 +174,9 @@ module _
               fine = passed-fine (any_head call any (field_at s t b n) e ∙ ok);
               kept = g.kept;
               order = λ o. ap (λ (fs : List Field). in_order follows (last_field last ++ fs)) (sym others_same) ∙ g.order o;
-              width = g.width;
               fits = g.fits;
               many = omega (arith, g.many, f.on);
-              limits = passed-limits over g.limits;
+              limits = passed-limits table.counts g.limits;
             }
 
     -- a field beside it
@@ -247,22 +244,21 @@ module _ (s : List ℕ) (call : ℕ) where
 
 -- one more field
 
-set-length : (r : Bool) (xs : List ℕ) (i v : ℕ) → length (cond r xs (set xs i v)) ≡ length xs
-set-length true xs i v = refl
-set-length false xs i v = length-set xs i v
+set-length : (r : Bool) (xs : List ℕ) (i v : ℕ) → length (cond r (set xs i v) xs) ≡ length xs
+set-length true xs i v = length-set xs i v
+set-length false xs i v = refl
 
 pub passed_length :
-    {over : Bool} {f : Field} {b : ℕ} {before after : PlaceTable} {r : Bool} → FieldNoted over f b before after r
-    → length after.index.now ≡ length before.index.now
-passed_length {b = b} {before = before} {r = r} p = ap length p.placed ∙ set-length r before.index.now before.n b
+    {within : Bool} {rank b : ℕ} {before after : PlaceTable} → Noted within before after rank b → length after.index.now ≡ length before.index.now
+passed_length {b = b} {before = before} {after = after} p = ap length p.placed ∙ set-length (is_some after.counts) before.index.now before.n b
 
-at-most-one : (r : Bool) (n : ℕ) → cond r n (n + 1) ≤ n + 1
+at-most-one : (r : Bool) (n : ℕ) → cond r (n + 1) n ≤ n + 1
 at-most-one true n = omega arith
 at-most-one false n = omega arith
 
 module _
-    (s : List ℕ) (call : ℕ) (any : Bool) (at : ℕ) (head : Option ℕ) (last : Field) (over : Bool) (table : PlaceTable)
-    (g : Going s call any at head last over table) (t b n : ℕ) (e : step_of at (drop at s) ≡ found t b n)
+    (s : List ℕ) (call : ℕ) (any : Bool) (at : ℕ) (head : Option ℕ) (last : Field) (table : PlaceTable)
+    (g : Going s call any at head last table) (t b n : ℕ) (e : step_of at (drop at s) ≡ found t b n)
     (ok : call_field_ok call (field_at s t b n) ≡ true) where
   f : FieldAt s at t b n
   f = field-at s at t b n e
@@ -277,40 +273,45 @@ module _
   h = head_size head
 
   -- an entry for it, where it is noted
-  entry_free : (o : Bool) → o ≡ false → Limits s call at h table.n table.counts table.index.now o → Free table (rank_of t)
-  entry_free true z w = apart z
-  entry_free false z w =
-      λ k.
+  entry_free : (o : Option (List ℕ)) → table.counts ≡ o → Limits s call at h table.n o table.index.now → Free table (rank_of t)
+  entry_free None z w = λ c e. absurd (let y : ◌≡◌ {A = ℕ} 0 1 = cc in omega arith)
+  entry_free (Some d) z w =
+      λ c e k.
+      let y : d ≡ c = cc in
       ⊎_elim
-      (λ l. omega (arith, table-free s (others (fields s)) at h table.n table.counts table.index.now g.width w (rank_of t) (rank_below t) k))
+      (λ l. omega (arith, table-free s (others (fields s)) at h table.n d table.index.now w.0 w.1 (rank_of t) (rank_below t) (rw y k)))
       (λ l. omega (arith, g.many, f.on, f.within))
       g.fits
 
-  pub next-free : over ≡ false → Free table (rank_of t)
-  next-free z = entry_free over z g.limits
+  pub next-free : Free table (rank_of t)
+  next-free = entry_free table.counts refl g.limits
 
-  limits-next :
-      (o p q : Bool) → p ≡ field_within (field_at s t b n) → q ≡ room table.counts (rank_of t) b
-      → Limits s call at h table.n table.counts table.index.now o
-      → Limits s call (b + n) h (cond (o || (not p || not q)) table.n (table.n + 1))
-      (cond (o || (not p || not q)) table.counts (set table.counts (rank_of t) (get_or table.counts (rank_of t) 0 + 1)))
-      (cond (o || (not p || not q)) table.index.now (set table.index.now table.n b))
-      (o || (not p || not q))
-  limits-next true p q hp hq w = w
-  limits-next false false q hp hq w =
-      λ r.
-      over-field s call
-      (field-over s (others (fields s)) at h table.n table.counts table.index.now g.width w t b n f beside (sym hp))
-  limits-next false true false hp hq w =
-      λ r.
-      over-rank s call t n l r
-      (rank-full s (others (fields s)) at h table.n table.counts table.index.now g.width w t b n f beside
-      (room-false table.counts (rank_of t) b
-      (omega (arith, f.on, place-fits s (others (fields s)) at h table.n table.counts table.index.now g.width w (head-most head))) hq))
-  limits-next false true true hp hq w =
-      noting-more s (others (fields s)) at h table.n table.counts table.index.now g.width w t b n f beside
-      (entry_free false refl w (room-true table.counts (rank_of t) b hq)) (here-at s at t b n e f)
-      (listed-most l) (sym hp) (room-true table.counts (rank_of t) b hq)
+  -- the counts, with one more or none, and the table with them
+  abbrev LimitsWith : Option (List ℕ) → Type 0
+  LimitsWith o = Limits s call (b + n) h (cond (is_some o) (table.n + 1) table.n) o (cond (is_some o) (set table.index.now table.n b) table.index.now)
+
+  limits-next : (o : Option (List ℕ)) → table.counts ≡ o → Limits s call at h table.n o table.index.now → LimitsWith (counted_more (field_within (field_at s t b n)) (rank_of t) b o)
+  limits-next None z w = w
+  limits-next (Some c) z w = go (field_within (field_at s t b n)) (room c (rank_of t) b) refl refl
+    where
+      go : (p q : Bool) → p ≡ field_within (field_at s t b n) → q ≡ room c (rank_of t) b
+          → LimitsWith (cond (p && q) (Some (set c (rank_of t) (get_or c (rank_of t) 0 + 1))) None)
+      go false q hp hq =
+          λ r.
+          over-field s call
+          (field-over s (others (fields s)) at h table.n c table.index.now w.0 w.1 t b n f beside (sym hp))
+      go true false hp hq =
+          λ r.
+          over-rank s call t n l r
+          (rank-full s (others (fields s)) at h table.n c table.index.now w.0 w.1 t b n f beside
+          (room-false c (rank_of t) b
+          (omega (arith, f.on, place-fits s (others (fields s)) at h table.n c table.index.now w.0 w.1 (head-most head))) hq))
+      go true true hp hq = (
+        length-set c (rank_of t) (get_or c (rank_of t) 0 + 1) ∙ w.0,
+        noting-more s (others (fields s)) at h table.n c table.index.now w.0 w.1 t b n f beside
+            (entry_free (Some c) z w c z (room-true c (rank_of t) b hq)) (here-at s at t b n e f)
+            (listed-most l) (sym hp) (room-true c (rank_of t) b hq),
+      )
 
   -- none stands in order after 255
   last_some : follows last (field_at s t b n) ≡ true → last.tag ≡ 255 → ⊥
@@ -327,16 +328,16 @@ module _
   passed-order false z k = absurd (k refl)
   passed-order true z k =
       rw (ne_eqb t 1 (λ y. omega (arith, listed_above l)))
-      (simp z at (order-here s call any at head last over table g t b n f ok (last_some z)))
+      (simp z at (order-here s call any at head last table g t b n f ok (last_some z)))
 
   least-next : (q : Bool) → least_of (next_tag q) ≤ n
   least-next true = listed-least l
   least-next false = omega arith
 
   pub goes_on :
-      (after : PlaceTable) (r : Bool) (tag : ℕ) → tag ≡ cond (follows last (field_at s t b n)) t 255
-      → FieldNoted over (field_at s t b n) b table after r → Going s call any (b + n) head (record { tag = tag; body = take n (drop b s) }) r after
-  goes_on after r tag z p =
+      (after : PlaceTable) (tag : ℕ) → tag ≡ cond (follows last (field_at s t b n)) t 255
+      → FieldNoted (field_at s t b n) b table after → Going s call any (b + n) head (record { tag = tag; body = take n (drop b s) }) after
+  goes_on after tag z p =
       let q = follows last (field_at s t b n) in
       record {
         walked = walked_more s at g.walked t b n f;
@@ -346,22 +347,20 @@ module _
             ∙ g.heads;
         inside = g.inside;
         fine =
-            passed-fine s call any at head last over table g t b n f
+            passed-fine s call any at head last table g t b n f
             (any-beside call any (field_at s t b n) beside ∙ ok);
         kept = inr (rw (z, body-length s b n f.within) (least-next q));
         order = rw z (passed-order q refl);
-        width = ap length p.counted ∙ set-length r table.counts (rank_of t) _ ∙ g.width;
         fits =
             let z = passed_length p in
             ⊎_elim (λ l. inl (omega arith)) (λ l. inr (omega arith)) g.fits;
-        many = omega (arith, g.many, f.on, p.number, at-most-one r table.n);
+        many = omega (arith, g.many, f.on, p.number, at-most-one (is_some after.counts) table.n);
         limits =
-            rw (p.counted, p.placed, p.number, p.answer)
-            (limits-next over (field_within (field_at s t b n)) (room table.counts (rank_of t) b) refl refl g.limits);
+            rw (p.placed, p.number, p.counted) (limits-next table.counts refl g.limits);
       }
 
   -- where it follows the last
   pub goes_after :
-      (after : PlaceTable) (r : Bool) → follows last (field_at s t b n) ≡ true
-      → FieldNoted over (field_at s t b n) b table after r → Going s call any (b + n) head (field_at s t b n) r after
-  goes_after after r z p = goes_on after r t (sym (rw z)) p
+      (after : PlaceTable) → follows last (field_at s t b n) ≡ true
+      → FieldNoted (field_at s t b n) b table after → Going s call any (b + n) head (field_at s t b n) after
+  goes_after after z p = goes_on after t (sym (rw z)) p

@@ -4,7 +4,7 @@ use mathlib.Core.Path.{refl, sym, ◌∙◌, ap}
 use mathlib.Core.Logic.{inr}
 use Rattle.std.proofs.Common.{Option, Some, None}
 use mathlib.Core.List.{List, []}
-use mathlib.Core.Bool.{Bool, false}
+use mathlib.Core.Bool.{Bool}
 use lib.ListN.{length}
 use native.Mathlib.Omega.{arith}
 use Rattle.wire.specs.Fields.{Field}
@@ -21,8 +21,8 @@ use Rattle.reader.proofs.SurveyLaws.{Going, going_start, goes-head}
 abbrev pub no_order : Field
 no_order = record { tag = 255; body = [] }
 
-pub loosen : {s : List ℕ} {call : ℕ} {any : Bool} {at : ℕ} {head : Option ℕ} {last : Field} {over : Bool} {table : PlaceTable}
-    → Going s call any at head last over table → Going s call any at head no_order over table
+pub loosen : {s : List ℕ} {call : ℕ} {any : Bool} {at : ℕ} {head : Option ℕ} {last : Field} {table : PlaceTable}
+    → Going s call any at head last table → Going s call any at head no_order table
 loosen g =
     record {
       walked = g.walked;
@@ -31,7 +31,6 @@ loosen g =
       fine = g.fine;
       kept = inr (omega arith);
       order = λ n. absurd (n refl);
-      width = g.width;
       fits = g.fits;
       many = g.many;
       limits = g.limits;
@@ -41,7 +40,7 @@ abbrev first_field : Field
 first_field = record { tag = 1; body = [] }
 
 pub any-going : (s : List ℕ) (call : ℕ) (any : Bool) (table : PlaceTable) → Fits s table.index.now → Unfilled table
-    → Going s call any 0 None no_order false table
+    → Going s call any 0 None no_order table
 any-going s call any table w e = loosen (going_start s call any first_field table refl w e)
 
 -- field 1 stands first
@@ -51,7 +50,7 @@ module _ {s : List ℕ} {call : ℕ} {any : Bool} {f : code.Field} (h : HeadAt c
   first-found = field-at s 0 f.tag f.start (length f.body.now) (sym h.found.place)
 
   pub first-going : (table : PlaceTable) → Fits s table.index.now → Unfilled table
-      → Going s call any (f.start + length f.body.now) (Some f.start) (field_in f) false table
+      → Going s call any (f.start + length f.body.now) (Some f.start) (field_in f) table
   first-going table w e =
-      goes-head s call any 0 None (field_in f) false table (going_start s call any (field_in f) table h.tag w e) f.tag f.start (length f.body.now)
+      goes-head s call any 0 None (field_in f) table (going_start s call any (field_in f) table h.tag w e) f.tag f.start (length f.body.now)
       first-found h.tag refl (ap (head_field_ok call any) (sym h.found.body) ∙ h.ok)

@@ -31,14 +31,13 @@ impl<'a> NamedField<'a> {
     pub fn may_stand(self, asked: Option<u8>) -> bool
         ensures { result ≡ call_field_ok (unwrap_or asked 0) (field_in self.entry.field) }
     {
-        let call = asked.unwrap_or(0);
         let len = self.field.body.len();
         match self.tag {
             Tag::Key(Tree::Extents) => false,
             Tag::Key(_) => keys::key_ok(self.field.body),
             Tag::Reserved => len == 4,
-            Tag::Piece => call == Call::Place.number() && len == 13,
-            Tag::Freed => call == Call::Release.number() && len == 10,
+            Tag::Piece => asked == Some(Call::Place.number()) && len == 13,
+            Tag::Freed => asked == Some(Call::Release.number()) && len == 10,
             _ => false,
         }
     }

@@ -1,5 +1,5 @@
 // One pass over a call list or a volume: its layout, its limits, whether its fields are in order, and where they stand.
-ghost use Rattle.std.specs.Prelude.{◌≡◌, false, ◌≤◌, unwrap_or, is_none, length};
+ghost use Rattle.std.specs.Prelude.{◌≡◌, ◌≤◌, unwrap_or, is_none, length};
 ghost use Rattle.wire.specs.FieldsFound.{field_in};
 ghost use Rattle.reader.specs.CallFields.{head_field_ok, least_of};
 ghost use Rattle.reader.specs.Table.{rank_of, Free, FieldNoted, Fits};
@@ -39,19 +39,21 @@ fn head_first(s: &[u8], asked: Option<u8>) -> Option<Field>
     ensures { HeadFirst (unwrap_or asked 0) (is_none asked) s.now result }
 {
     let field = Fields::of(s).next()?;
-    if field.tag == Tag::Head.number() && head_field_ok(asked, field.body) {
-        Some(field)
-    } else {
-        None
-    }
+    let is_head = field.tag == Tag::Head.number() && head_field_ok(asked, field.body);
+    is_head.then_some(field)
 }
 
-// Whether a limit is passed, now or before: else the field's place is noted. The length that its tag asks shows the bound.
-fn passes(over: bool, field: NamedField, table: &mut PlaceTable) -> bool
-    requires { (least_of field.field.tag ≤ length field.field.body.now) × (over ≡ false → Free table.old (rank_of field.field.tag)) }
-    ensures { FieldNoted over (field_in field.entry.field) field.entry.field.start table.old table.new result }
+// A field's place is noted, unless a limit is passed, by it or before it. The length that its tag asks shows the bound. Inlined, as a pass asks it of each field.
+#[inline(always)]
+fn note_field(table: &mut PlaceTable, field: NamedField)
+    requires { (least_of field.field.tag ≤ length field.field.body.now) × Free table.old (rank_of field.field.tag) }
+    ensures { FieldNoted (field_in field.entry.field) field.entry.field.start table.old table.new }
 {
-    over || !field.keeps_limits() || !table.note(table::rank(field.tag), field.field.start)
+    if field.keeps_limits() {
+        table.note(table::rank(field.tag), field.field.start);
+    } else {
+        table.counts = None;
+    }
 }
 
 // The pass over a list in any order, of the call that is asked for, or of whatever call its head names: field 1 may stand anywhere, and no order is told. None where the list breaks the layout, as a field that passes the end does. `Fits` says that the table that is lent is long enough.
@@ -61,12 +63,12 @@ fn survey_any(s: &[u8], asked: Option<u8>, index: &mut [u32]) -> Option<Laid>
 {
     let mut table = PlaceTable::new(index);
     let mut head = None;
-    let mut over = false;
     let mut fields = Fields::of(s);
+    // By `while let`: tried `for` over `by_ref`, and that what it gives back for `at_end` is what the loop left stays open.
     while let Some(field) = fields.next() {
         let named = NamedField::try_from(field).ok()?;
         if named.may_stand(asked) {
-            over = passes(over, named, &mut table);
+            note_field(&mut table, named);
         } else {
             if field.tag != Tag::Head.number()
                 || head.is_some()
@@ -83,7 +85,7 @@ fn survey_any(s: &[u8], asked: Option<u8>, index: &mut [u32]) -> Option<Laid>
     Some(Laid {
         head: head?,
         ordered: false,
-        counts: table.counted(over),
+        counts: table.counts,
     })
 }
 
@@ -94,15 +96,15 @@ fn survey_ordered(s: &[u8], asked: Option<u8>, index: &mut [u32]) -> Option<Laid
 {
     let head = head_first(s, asked)?;
     let mut table = PlaceTable::new(index);
-    let mut over = false;
     let mut last = head;
     let mut fields = Fields::from_place(s, head.start + head.body.len());
+    // By `while let`: tried `for` over `by_ref`, and that what it gives back for `at_end` is what the loop left stays open.
     while let Some(field) = fields.next() {
         let named = NamedField::try_from(field).ok()?;
         if !named.may_stand(asked) || !named.follows(last) {
             return None;
         }
-        over = passes(over, named, &mut table);
+        note_field(&mut table, named);
         last = field;
     }
     if !fields.at_end() {
@@ -111,7 +113,7 @@ fn survey_ordered(s: &[u8], asked: Option<u8>, index: &mut [u32]) -> Option<Laid
     Some(Laid {
         head: head.start,
         ordered: true,
-        counts: table.counted(over),
+        counts: table.counts,
     })
 }
 

@@ -17,14 +17,14 @@ loop-field-init c =
     let t = c.new-table.ensures in
     (o.0, rw o.1 (any-going _ _ _ _ (rw t.same_entries c.requires) t.unfilled), refl)
 
-pub passes-over-requires : goal.passes-over-requires
-passes-over-requires c =
+pub note_field-requires : goal.note_field-requires
+note_field-requires c =
     let same = named-is c.try_from.result c.try_from.ensures (sym c.ok.ensures.value ∙ c.in_ok-named.was) in
     let w = c.in-Some.ensures.steps in
     let i = c.loop-field.invariant in
     let ok = ap (call_field_ok _) (sym (field-is i.0 w)) ∙ sym (rw same at c.may_stand.ensures) ∙ c.if-may_stand.true in
     rw same
-    (next-within _ _ _ _ _ _ _ _ i.1 _ _ _ (field-found i.0 w) ok, next-free _ _ _ _ _ _ _ _ i.1 _ _ _ (steps-to i.0 w) ok)
+    (next-within _ _ _ _ _ _ _ i.1 _ _ _ (field-found i.0 w) ok, next-free _ _ _ _ _ _ _ i.1 _ _ _ (steps-to i.0 w) ok)
 
 pub loop-field-preserved-then-may_stand : goal.loop-field-preserved-then-may_stand
 loop-field-preserved-then-may_stand c =
@@ -34,8 +34,8 @@ loop-field-preserved-then-may_stand c =
     let is = field-is i.0 w in
     let ok = ap (call_field_ok _) (sym is) ∙ sym (rw same at c.may_stand.ensures) ∙ c.if-may_stand.true in (
       list-stays i.0 w,
-      rw w.at (loosen (goes_on _ _ _ _ _ _ _ _ i.1 _ _ _ (steps-to i.0 w) ok _ _ _ refl (rw (same, is) at c.passes-over.ensures))),
-      c.passes-over.ensures.same ∙ i.2,
+      rw w.at (loosen (goes_on _ _ _ _ _ _ _ i.1 _ _ _ (steps-to i.0 w) ok _ _ refl (rw (same, is) at c.note_field.ensures))),
+      c.note_field.ensures.same ∙ i.2,
     )
 
 pub returns-then-field-number : goal.returns-then-field-number
@@ -48,10 +48,10 @@ returns-then-field-number c =
     broken-found
     (elim c.then-field-number.branch [
       | then-field-number-via-then-field-number w ↦
-          bad-beside _ _ _ _ _ _ _ _ i.1 _ _ _ f (λ e. w.if-field-number.true (e ∙ sym c.number.ensures)) (ap (call_field_ok _) (sym is) ∙ sym (rw same at c.may_stand.ensures) ∙ c.if-may_stand.false)
-      | then-field-number-via-else-field-number+then-is_some w ↦ second _ _ _ _ _ _ _ _ i.1 _ _ _ f (w.if-field-number.false ∙ c.number.ensures) (sym w.is_some.ensures ∙ w.if-is_some.true)
+          bad-beside _ _ _ _ _ _ _ i.1 _ _ _ f (λ e. w.if-field-number.true (e ∙ sym c.number.ensures)) (ap (call_field_ok _) (sym is) ∙ sym (rw same at c.may_stand.ensures) ∙ c.if-may_stand.false)
+      | then-field-number-via-else-field-number+then-is_some w ↦ second _ _ _ _ _ _ _ i.1 _ _ _ f (w.if-field-number.false ∙ c.number.ensures) (sym w.is_some.ensures ∙ w.if-is_some.true)
       | then-field-number-via-else-field-number+else-is_some+then-not-head_field_ok w ↦
-          bad-head _ _ _ _ _ _ _ _ i.1 _ _ _ f (w.if-field-number.false ∙ c.number.ensures) (ap (head_field_ok _ _) (sym (ap (λ (f : Field). f.body) is)) ∙ sym w.head_field_ok.ensures ∙ w.if-not-head_field_ok.true)
+          bad-head _ _ _ _ _ _ _ i.1 _ _ _ f (w.if-field-number.false ∙ c.number.ensures) (ap (head_field_ok _ _) (sym (ap (λ (f : Field). f.body) is)) ∙ sym w.head_field_ok.ensures ∙ w.if-not-head_field_ok.true)
     ])
 
 pub loop-field-preserved : goal.loop-field-preserved
@@ -60,7 +60,7 @@ loop-field-preserved c =
     let i = c.loop-field.invariant in (
       list-stays i.0 w,
       rw w.at
-          (goes-head _ _ _ _ _ _ _ _ i.1 _ _ _ (field-found i.0 w) (c.if-field-number.false ∙ c.number.ensures) (sym c.is_some.ensures ∙ c.if-is_some.false)
+          (goes-head _ _ _ _ _ _ _ i.1 _ _ _ (field-found i.0 w) (c.if-field-number.false ∙ c.number.ensures) (sym c.is_some.ensures ∙ c.if-is_some.false)
           (ap (head_field_ok _ _) (sym (ap (λ (f : Field). f.body) (field-is i.0 w))) ∙ sym c.head_field_ok.ensures ∙ c.if-not-head_field_ok.false)),
       i.2,
     )
@@ -72,24 +72,24 @@ returns-in_err-named c =
     let u = unnamed-is _ c.try_from.result c.try_from.ensures (sym c.ok.ensures.value ∙ c.in_err-named.was) in
     rw c.from_residual.ensures
     (broken-found
-    (bad-beside _ _ _ _ _ _ _ _ i.1 _ _ _ (field-found i.0 w) (u Head) (ap (call_field_ok _) (sym (field-is i.0 w)) ∙ sym (call-unnamed u _ _))))
+    (bad-beside _ _ _ _ _ _ _ i.1 _ _ _ (field-found i.0 w) (u Head) (ap (call_field_ok _) (sym (field-is i.0 w)) ∙ sym (call-unnamed u _ _))))
 
 pub returns-then-not-at_end : goal.returns-then-not-at_end
 returns-then-not-at_end c =
     let i = c.loop-field.invariant in
     let w = c.in_default.ensures.steps in
-    broken-found (breaks _ _ _ _ _ _ _ _ i.1 (steps-nowhere i.0 w) (ended i.0 w c.if-not-at_end.ensures))
+    broken-found (breaks _ _ _ _ _ _ _ i.1 (steps-nowhere i.0 w) (ended i.0 w c.if-not-at_end.ensures))
 
 pub returns-in_err-head : goal.returns-in_err-head
 returns-in_err-head c =
     let i = c.loop-field.invariant in
     let e = to-the-end i.0 c.in_default.ensures.steps c.if-not-at_end.ensures in
-    rw c.from_residual-in_err-head.ensures (broken-found (no-head _ _ _ _ _ _ _ _ i.1 e c.in_err-head.was))
+    rw c.from_residual-in_err-head.ensures (broken-found (no-head _ _ _ _ _ _ _ i.1 e c.in_err-head.was))
 
 pub returns : goal.returns
 returns c =
     let i = c.loop-field.invariant in
     let e = to-the-end i.0 c.in_default.ensures.steps c.if-not-at_end.ensures in
     let same = sym c.new-table.ensures.same_reference ∙ sym i.2 in
-    let laid = laid-found (ends_found _ _ _ _ _ _ _ _ i.1 e _ c.in_ok-head.was false (λ z. absurd (clash z refl)) _ c.counted.ensures) in
+    let laid = laid-found (ends_found _ _ _ _ _ _ _ i.1 e _ c.in_ok-head.was false (λ z. absurd (clash z refl))) in
     search (same, laid, rules)

@@ -1,4 +1,4 @@
--- What is left of the list decides its layout, and no limit was passed yet or one was; no order is told.
+-- What is left of the list decides its layout, no limit was passed yet or one was, and no order is told.
 use Rattle.std.proofs.Common.{◌≡◌, length, unwrap_or, is_none, ◌-◌}
 use Rattle.reader.proofs.SurveyLaws.{Going}
 use Rattle.reader.proofs.SurveyStartLaws.{no_order}
@@ -6,7 +6,7 @@ use Rattle.reader.proofs.survey.survey_any.Given as goal
 
 abbrev pub invariant-loop-field : goal.invariant-loop-field
 invariant-loop-field l =
-    (l.fields.list.now ≡ l.s) × Going l.s (unwrap_or l.asked 0) (is_none l.asked) l.fields.at l.head no_order l.over l.table
+    (l.fields.list.now ≡ l.s) × Going l.s (unwrap_or l.asked 0) (is_none l.asked) l.fields.at l.head no_order l.table
     × (l.table.index.ghost_name ≡ l.initial.table.index.ghost_name)
 
 abbrev pub decreases-loop-field : goal.decreases-loop-field

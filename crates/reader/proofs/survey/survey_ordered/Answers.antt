@@ -27,15 +27,15 @@ follows-requires c =
     let w = c.in-Some.ensures.steps in
     let f = field-found i.0 w in
     let ok = ap (call_field_ok _) (sym (field-is i.0 w)) ∙ sym (rw same at c.may_stand.ensures) ∙ c.if-not-may_stand.false in
-    rw same (last_within _ _ _ _ _ _ _ _ i.1 _ _ _ f ok, next-within _ _ _ _ _ _ _ _ i.1 _ _ _ f ok)
+    rw same (last_within _ _ _ _ _ _ _ i.1 _ _ _ f ok, next-within _ _ _ _ _ _ _ i.1 _ _ _ f ok)
 
-pub passes-over-requires : goal.passes-over-requires
-passes-over-requires c =
+pub note_field-requires : goal.note_field-requires
+note_field-requires c =
     let same = named-is c.try_from.result c.try_from.ensures (sym c.ok.ensures.value ∙ c.in_ok-named.was) in
     let w = c.in-Some.ensures.steps in
     let i = c.loop-field.invariant in
     let ok = ap (call_field_ok _) (sym (field-is i.0 w)) ∙ sym (rw same at c.may_stand.ensures) ∙ c.if-not-may_stand.false in
-    rw same (next-within _ _ _ _ _ _ _ _ i.1 _ _ _ (field-found i.0 w) ok, next-free _ _ _ _ _ _ _ _ i.1 _ _ _ (steps-to i.0 w) ok)
+    rw same (next-within _ _ _ _ _ _ _ i.1 _ _ _ (field-found i.0 w) ok, next-free _ _ _ _ _ _ _ i.1 _ _ _ (steps-to i.0 w) ok)
 
 pub loop-field-preserved : goal.loop-field-preserved
 loop-field-preserved c =
@@ -46,9 +46,9 @@ loop-field-preserved c =
     let ok = ap (call_field_ok _) (sym is) ∙ sym (rw same at c.may_stand.ensures) ∙ c.if-not-may_stand.false in
     let order = ap (follows _) (sym is) ∙ sym (rw same at c.follows.ensures) ∙ c.if-not-follows.false in (
       list-stays i.0 w,
-      rw (w.at, is) (goes_after _ _ _ _ _ _ _ _ i.1 _ _ _ (steps-to i.0 w) ok _ _ order (rw (same, is) at c.passes-over.ensures)),
-      next-below _ _ _ _ _ _ _ _ i.1 _ _ _ (field-found i.0 w) ok,
-      c.passes-over.ensures.same ∙ i.3,
+      rw (w.at, is) (goes_after _ _ _ _ _ _ _ i.1 _ _ _ (steps-to i.0 w) ok _ order (rw (same, is) at c.note_field.ensures)),
+      next-below _ _ _ _ _ _ _ i.1 _ _ _ (field-found i.0 w) ok,
+      c.note_field.ensures.same ∙ i.3,
     )
 
 pub returns : goal.returns
@@ -56,5 +56,5 @@ returns c =
     let i = c.loop-field.invariant in
     let e = to-the-end i.0 c.in_default.ensures.steps c.if-not-at_end.ensures in
     let same = sym c.new-table.ensures.same_reference ∙ sym i.3 in
-    let laid = ordered-found i.1.fits (ends_found _ _ _ _ _ _ _ _ i.1 e _ refl true (λ z. i.2) _ c.counted.ensures) refl in
+    let laid = ordered-found i.1.fits (ends_found _ _ _ _ _ _ _ i.1 e _ refl true (λ z. i.2)) refl in
     search (same, laid, rules)
