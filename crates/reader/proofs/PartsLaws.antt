@@ -17,7 +17,7 @@ use Rattle.calls.proofs.answers.OutcomeLaws.{answer-next, answer-stops}
 use Rattle.reader.specs.Readings.{call_refusal, volume_refusal, list_refusal, KeysRead, BucketsRead, ReadAs}
 use Rattle.reader.specs.Located.{KeysAt, BucketsAt, PiecesAt, FreedsAt}
 use Rattle.reader.specs.declared.listed_keys.Keys.{Keys}
-use Rattle.reader.specs.declared.reserved_buckets.ReservedBuckets.{ReservedBuckets}
+use Rattle.reader.specs.ListedBuckets.{ReservedBuckets}
 use Rattle.reader.specs.declared.read_list.ReadList.{ReadList}
 use Rattle.reader.proofs.VolumeLaws.{volume-refusal}
 use Rattle.reader.proofs.OfferedLaws.{call_kept, limits-kept}
