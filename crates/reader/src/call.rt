@@ -21,11 +21,7 @@ use crate::{arrange, head, read_list, survey, table};
 fn counts_within(laid: Laid, first: Head) -> Option<[usize; 8]>
     ensures { result ≡ cond (head_within (head_in first)) laid.counts None }
 {
-    if head::head_within(first) {
-        laid.counts
-    } else {
-        None
-    }
+    laid.counts.filter(|_| head::head_within(first))
 }
 
 // The refusal of a list that passes a limit: 22 where a position stands twice, else 3. The pass over it shows what is asked.
@@ -56,7 +52,7 @@ fn read_table(s: &[u8], asked: Option<u8>, index: &mut [u32]) -> Result<(Head, E
     if laid.ordered {
         return Ok((first, ends));
     }
-    arrange::sort_table(s, asked.unwrap_or(0), ends, index)?;
+    arrange::sort_table(s, asked, ends, index)?;
     Ok((first, ends))
 }
 
