@@ -6,7 +6,8 @@ ghost use Rattle.reader.specs.KeyHere.{Whole, WholeKeys};
 use crate::key::ListedKey;
 use crate::skip;
 
-// A list, and the places of some of its keys. Whoever makes one shows that a whole key stands at each.
+// A list, and the places of some of its keys. Whoever makes one shows that a whole key stands at each. No `Listed`: tried, and a trait whose values borrow from the list has a lifetime, and a
+// struct with such a bound gets no generated proof.
 #[derive(Clone, Copy, Drop)]
 pub struct Keys<'a> {
     pub list: &'a [u8],

@@ -1,4 +1,5 @@
 use Rattle.std.proofs.Common.{arith, refl, get_or}
+use Rattle.reader.specs.Located.{no_piece}
 use Rattle.place_keys.proofs.SlotTables.{no_slot}
 use Rattle.place_keys.proofs.StepLaws.{slots-many, index-low}
 use Rattle.place_keys.proofs.BucketLaws.{counting-first, counting-next, counting-end, zero-at}
@@ -23,10 +24,16 @@ bounds-dirty-index-in-loop-i c =
 pub loop-i-preserved : goal.loop-i-preserved
 loop-i-preserved c =
     let p = c.args.plan.now.planned in
-    counting-next p c.loop-i.invariant (omega (arith, c.loop-i-test.true, slots-many p)) c.get.result c.get.ensures
+    counting-next p c.loop-i.invariant (omega (arith, c.loop-i-test.true, slots-many p)) c.get.result (c.get.ensures no_piece)
     (get_or c.args.plan.now.slots.now c.loop-i.i no_slot) refl
 
 pub returns : goal.returns
 returns c =
     let p = c.args.plan.now.planned in
     counting-end p c.loop-i.invariant (omega (arith, c.loop-i-test.false, slots-many p))
+
+pub overflow_add-dirty : goal.overflow_add-dirty
+overflow_add-dirty c =
+    let p = c.args.plan.now.planned in
+    let most = c.loop-i.invariant.most (get_or c.args.plan.now.slots.now c.loop-i.i no_slot).index in
+    omega (arith, most, c.loop-i-test.true, slots-many p, p.few, c.get.type_inv.1)
