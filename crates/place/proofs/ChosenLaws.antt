@@ -29,8 +29,7 @@ use Rattle.place_tests.specs.Called.{Called}
 use Rattle.place_tests.specs.Choice.{ChosenIs}
 use Rattle.freespace.specs.Walks.{unwalked, queue_of, WalkTook}
 use Rattle.place_tests.specs.declared.refusals.Chosen.{Chosen}
-use Rattle.reader.specs.PieceLists.{pieces_of}
-use Rattle.reader.specs.declared.pieces.Pieces.{Pieces}
+use Rattle.reader.specs.PieceLists.{Pieces, pieces_of}
 use Rattle.reader.proofs.CheckedLaws.{trees-in-order}
 use Rattle.place_tests.proofs.RefusalLaws.{TestsPassed, accepted}
 use Rattle.place_tests.proofs.SizedLaws.{needed-short}

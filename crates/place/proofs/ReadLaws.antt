@@ -11,8 +11,7 @@ use Rattle.calls.specs.ChangeList.{change_bytes}
 use Rattle.calls.specs.Place.{place_tests}
 use Rattle.calls.proofs.answers.AnswerLaws.{place_is}
 use Rattle.reader.specs.Readings.{call_refusal, ReadAs}
-use Rattle.reader.specs.PieceLists.{pieces_of}
-use Rattle.reader.specs.declared.pieces.Pieces.{Pieces}
+use Rattle.reader.specs.PieceLists.{Pieces, pieces_of}
 use Rattle.reader.specs.declared.read_list.ReadList.{ReadList}
 use Rattle.reader.proofs.PartsLaws.{passed, read-on, read-refused, located}
 use Rattle.place_tests.specs.Called.{Called}

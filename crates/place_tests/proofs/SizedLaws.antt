@@ -14,8 +14,7 @@ use Rattle.calls.specs.Lists.{all_of}
 use Rattle.calls.specs.Pieces.{next_fit, buckets_needed, kind_listed, piece_sized}
 use Rattle.calls.specs.Place.{slots_of}
 use Rattle.calls.proofs.lists.BoolLaws.{parts as and-true}
-use Rattle.reader.specs.PieceLists.{pieces_of}
-use Rattle.reader.specs.declared.pieces.Pieces.{Pieces}
+use Rattle.reader.specs.PieceLists.{Pieces, pieces_of}
 use Rattle.reader.specs.declared.read_list.ReadList.{ReadList}
 use Rattle.place_tests.specs.Called.{Called}
 use Rattle.place_tests.proofs.RefusalLaws.{Asked}

@@ -5,9 +5,8 @@ use Rattle.calls.specs.Answers.{read_call, read_volume}
 use Rattle.reader.specs.Heads.{head_in}
 use Rattle.reader.specs.ListedKeys.{keys_listed}
 use Rattle.reader.specs.ListedBuckets.{buckets_listed}
-use Rattle.reader.specs.PieceLists.{pieces_of}
+use Rattle.reader.specs.PieceLists.{Pieces, pieces_of}
 use Rattle.reader.specs.declared.read_list.ReadList.{ReadList}
-use Rattle.reader.specs.declared.pieces.Pieces.{Pieces}
 use Rattle.reader.specs.Checked.{Checked}
 
 pub record Called (r : ReadList) (ps : Pieces) : Type 0 where

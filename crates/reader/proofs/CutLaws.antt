@@ -13,12 +13,12 @@ use Rattle.calls.specs.CallList.{bodies, key_below, call_list_of, sorted_trees, 
 use Rattle.reader.specs.Table.{between, sorted_bodies, request_bodies}
 use Rattle.reader.specs.Collected.{body_at, PlacesOf}
 use Rattle.reader.specs.KeyHere.{key_here, keys_here}
-use Rattle.reader.specs.BucketHere.{WholeBuckets}
+use Rattle.reader.specs.Listed.{WholeBodies}
+use Rattle.reader.specs.ListedBuckets.{ReservedBuckets}
 use Rattle.reader.specs.Readings.{list_refusal, TableRead, TableKnown, KeysBetween, KeysRead, BucketsRead, Read}
 use Rattle.reader.specs.declared.head.Head.{Head}
 use Rattle.reader.specs.declared.table.Ends.{Ends}
 use Rattle.reader.specs.declared.listed_keys.Keys.{Keys}
-use Rattle.reader.specs.declared.reserved_buckets.ReservedBuckets.{ReservedBuckets}
 use Rattle.reader.specs.declared.read_list.ReadList.{ReadList}
 use Rattle.reader.proofs.SortedBodyLaws.{keys-sorted-are, buckets-sorted-are}
 use Rattle.reader.proofs.PlacedLaws.{in_turn, section, all-places, part-placed}
@@ -43,7 +43,7 @@ pub record SectionsWhole (s index : List ℕ) (e : Ends) : Type 0 where
   pub need_discard : KeysBetween s index e.freespace e.need_discard
   pub backpointers : KeysBetween s index e.need_discard e.backpointers
   pub gens : KeysBetween s index e.backpointers e.gens
-  pub reserved : WholeBuckets s (between e.gens e.reserved index)
+  pub reserved : WholeBodies 4 s (between e.gens e.reserved index)
 
 -- keys and reserved buckets, at the places of a part of a table
 abbrev KeysCut : List ℕ → Keys → List ℕ → Type 0

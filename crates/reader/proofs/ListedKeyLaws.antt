@@ -1,8 +1,9 @@
--- The keys and the reserved buckets at places of a list: a step along them, and the same facts place by place.
+-- The keys and the bodies of a fixed length at places of a list: a step along them, and the same facts place by place.
 use mathlib.Core.Path.{◌≡◌, refl, sym, ap, ◌∙◌}
-use mathlib.Core.List.{List, [], ◌∷◌, map}
-use Prim.Native.Nat.{ℕ, zero, suc, ◌+◌, ◌≤◌, ◌<◌}
+use mathlib.Core.List.{List, [], ◌∷◌}
+use Prim.Native.Nat.{ℕ, suc, ◌+◌, ◌≤◌, ◌<◌}
 use native.Mathlib.Omega.{arith}
+use Rattle.std.proofs.lemmas.List.{get_or-map}
 use lib.ListN.{length, take, drop, get_or, length-map}
 use Rattle.wire.specs.Bytes.{All}
 use Rattle.wire.specs.Keys.{Key}
@@ -10,7 +11,8 @@ use Rattle.wire.specs.Kinds.{bucket_read, no_bucket}
 use Rattle.wire.specs.declared.kinds.Bucket.{Bucket}
 use Rattle.wire.proofs.NumberLaws.{le-take}
 use Rattle.reader.specs.KeyHere.{key_here, Whole, WholeKeys, keys_here}
-use Rattle.reader.specs.BucketHere.{bucket_here, buckets_here, WholeBuckets}
+use Rattle.reader.specs.Listed.{WholeBodies}
+use Rattle.reader.specs.BucketHere.{bucket_here, buckets_here}
 use Rattle.reader.specs.ListedKeys.{key_listed, keys_listed, KeyOf}
 use Rattle.reader.specs.declared.key.ListedKey.{ListedKey}
 use Rattle.reader.specs.declared.listed_keys.Keys.{Keys}
@@ -25,29 +27,24 @@ whole-each w = all-indexed 0 _ w.at
 pub whole-rest : {s rest places : List ℕ} {at : ℕ} → places ≡ at ∷ rest → WholeKeys s places → WholeKeys s rest
 whole-rest e w = let v = rw e at w in record { at = λ i h. v.at (suc i) (omega arith) }
 
--- the number of a bucket is within the list at each place
-pub buckets-each : {s places : List ℕ} → WholeBuckets s places → All (λ at. at + 4 ≤ length s) places
-buckets-each w = all-indexed 0 _ w.at
+-- each of some bodies is within the list, and so is each after the first
+pub bodies-each : {width : ℕ} {s places : List ℕ} → WholeBodies width s places → All (λ at. at + width ≤ length s) places
+bodies-each w = all-indexed 0 _ w.at
 
-pub buckets-rest : {s rest places : List ℕ} {at : ℕ} → places ≡ at ∷ rest → WholeBuckets s places → WholeBuckets s rest
-buckets-rest e w = let v = rw e at w in record { at = λ i h. v.at (suc i) (omega arith) }
-
-map_at : {A B : Type 0} (f : A → B) (l : List A) (i : ℕ) (d : A) (e : B) → i < length l → get_or (map f l) i e ≡ f (get_or l i d)
-map_at f [] i d e h = absurd (omega arith)
-map_at f (x ∷ l) zero d e h = refl
-map_at f (x ∷ l) (suc i) d e h = map_at f l i d e (omega arith)
+pub bodies-rest : {width : ℕ} {s rest places : List ℕ} {at : ℕ} → places ≡ at ∷ rest → WholeBodies width s places → WholeBodies width s rest
+bodies-rest e w = let v = rw e at w in record { at = λ i h. v.at (suc i) (omega arith) }
 
 -- the key with an index
 pub key-of : {ks : Keys} {i : ℕ} {k : ListedKey} → i < length ks.places.now → KeyOf ks i k → key_listed k ≡ get_or (keys_listed ks) i no_key
 key-of {ks} {i} {k} h q =
-    ap (λ s. key_here s k.at) q.list ∙ ap (key_here ks.list.now) q.at ∙ sym (map_at (key_here ks.list.now) ks.places.now i 0 no_key h)
+    ap (λ s. key_here s k.at) q.list ∙ ap (key_here ks.list.now) q.at ∙ sym (get_or-map (key_here ks.list.now) ks.places.now i 0 no_key h)
 
 -- the places of some keys find them, one for one
 pub keys-at : {s places : List ℕ} → WholeKeys s places → KeysAt s places (keys_here s places)
 keys-at {s} {places} w =
     record {
       count = sym (length-map places (key_here s));
-      at = λ i h. record { whole = w.at i h; is = sym (map_at (key_here s) places i 0 no_key h) };
+      at = λ i h. record { whole = w.at i h; is = sym (get_or-map (key_here s) places i 0 no_key h) };
     }
 
 -- places that find keys are those of whole keys
@@ -58,14 +55,14 @@ whole-located q = record { at = λ i h. (q.at i h).whole }
 pub bucket-front : (s : List ℕ) → bucket_read (take 4 s) ≡ bucket_read s
 bucket-front s = ap (λ n. record { 0 = n }) (le-take 4 4 s (omega arith))
 
-pub buckets-at : {s places : List ℕ} → WholeBuckets s places → BucketsAt s places (buckets_here s places)
+pub buckets-at : {s places : List ℕ} → WholeBodies 4 s places → BucketsAt s places (buckets_here s places)
 buckets-at {s} {places} w =
     record {
       count = sym (length-map places (bucket_here s));
-      at = λ i h. record { within = w.at i h; is = bucket-front (drop (get_or places i 0) s) ∙ sym (map_at (bucket_here s) places i 0 no_bucket h) };
+      at = λ i h. record { within = w.at i h; is = bucket-front (drop (get_or places i 0) s) ∙ sym (get_or-map (bucket_here s) places i 0 no_bucket h) };
     }
 
-pub buckets-located-whole : {s places : List ℕ} {bs : List Bucket} → BucketsAt s places bs → WholeBuckets s places
+pub buckets-located-whole : {s places : List ℕ} {bs : List Bucket} → BucketsAt s places bs → WholeBodies 4 s places
 buckets-located-whole q = record { at = λ i h. (q.at i h).within }
 
 -- the buckets are those at the places

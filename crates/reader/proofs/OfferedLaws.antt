@@ -68,9 +68,6 @@ module _ (call : ℕ) (any : Bool) (s : List ℕ) (h : 0 ≡ list_refusal call a
   pub limits-kept : list_within (read_call s) ≡ true
   limits-kept = (kept s call any h).within
 
-  pub once-kept : none_twice (read_volume s) ≡ true
-  once-kept = (kept s call any h).once
-
   -- each body is as long as its tag asks
   pub all-bodies-listed : (t : ℕ) → 1 < t → All (λ b. FieldListed call t (length b)) (bodies t (fields s))
   all-bodies-listed t l = rw (← beside-bodies t l (fields s)) (bodies-listed call t (laid-listed s call any (kept s call any h).laid))

@@ -14,12 +14,11 @@ use Rattle.calls.specs.Answers.{Answer, answer, read_call, read_volume}
 use Rattle.calls.proofs.encoding.KeyFitsLaws.{list-within}
 use Rattle.calls.proofs.answers.RefusalLaws.{verdict-ok, test-ok}
 use Rattle.calls.proofs.answers.OutcomeLaws.{answer-next, answer-stops}
-use Rattle.reader.specs.Readings.{call_refusal, volume_refusal, list_refusal, KeysRead, BucketsRead, ReadAs}
+use Rattle.reader.specs.Readings.{call_refusal, volume_refusal, KeysRead, BucketsRead, ReadAs}
 use Rattle.reader.specs.Located.{KeysAt, BucketsAt, PiecesAt, FreedsAt}
 use Rattle.reader.specs.declared.listed_keys.Keys.{Keys}
-use Rattle.reader.specs.declared.reserved_buckets.ReservedBuckets.{ReservedBuckets}
+use Rattle.reader.specs.ListedBuckets.{ReservedBuckets}
 use Rattle.reader.specs.declared.read_list.ReadList.{ReadList}
-use Rattle.reader.proofs.VolumeLaws.{volume-refusal}
 use Rattle.reader.proofs.OfferedLaws.{call_kept, limits-kept}
 use Rattle.reader.proofs.LocatedLaws.{pieces-located, freeds-located}
 use Rattle.reader.proofs.ListedKeyLaws.{keys-at, buckets-at}
@@ -59,9 +58,6 @@ volume-passed s h =
       once = test-ok 22 _ (omega arith) once.0;
       within = test-ok 3 _ (omega arith) three.0;
     }
-
-pub volume-kept : (s : List ℕ) → 0 ≡ volume_refusal s → 0 ≡ list_refusal 0 true s
-volume-kept s h = h ∙ sym (volume-refusal s)
 
 -- the answer after refusals 2, 22 and 3, or with one of them
 module _ (call : ℕ) (s ts bytes : List ℕ) (room : ℕ) where

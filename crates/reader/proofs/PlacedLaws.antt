@@ -1,9 +1,10 @@
 -- Places of fields and their bodies, by index, and as a part of a table.
-use Prim.Native.Nat.{ℕ, zero, suc, ◌+◌, ◌-◌, ◌≤◌, ◌<◌}
+use Prim.Native.Nat.{ℕ, suc, ◌+◌, ◌-◌, ◌≤◌, ◌<◌}
 use native.Mathlib.Nat.{min-eq_left}
 use native.Mathlib.Omega.{arith}
 use mathlib.Core.Path.{◌≡◌, refl, sym, ◌∙◌, ap}
-use mathlib.Core.List.{List, [], ◌∷◌, ◌++◌, map}
+use mathlib.Core.List.{List, [], ◌∷◌, ◌++◌}
+use Rattle.std.proofs.lemmas.List.{get_or-map}
 use lib.ListN.{length, take, drop, get_or, length-map, length-take, length-drop}
 use lib.Seq.{get_or-take, get_or-drop, take-add, drop-drop}
 use Rattle.wire.specs.Bytes.{none, more}
@@ -17,20 +18,13 @@ use Rattle.reader.specs.declared.head.Head.{Head}
 use Rattle.reader.specs.declared.table.Ends.{Ends}
 use Rattle.reader.proofs.SortedBodyLaws.{sorted-length}
 
--- by index
-
-map_at : {A B : Type 0} (f : A → B) (l : List A) (i : ℕ) (d : A) (e : B) → i < length l → get_or (map f l) i e ≡ f (get_or l i d)
-map_at f [] i d e h = absurd (omega arith)
-map_at f (x ∷ l) zero d e h = refl
-map_at f (x ∷ l) (suc i) d e h = map_at f l i d e (omega arith)
-
 module _ {s : List ℕ} {t : ℕ} {os : List ℕ} {bs : List (List ℕ)} (p : PlacesOf s t os bs) where
   pub places-length : length os ≡ length bs
   places-length = sym (length-map os (body_at s)) ∙ ap length p.are
 
   pub place_at : (i : ℕ) → i < length os → FieldHere s (get_or os i 0) t (get_or bs i [])
   place_at i h =
-      let e : get_or bs i [] ≡ body_at s (get_or os i 0) = ap (λ (l : List (List ℕ)). get_or l i []) (sym p.are) ∙ map_at (body_at s) os i 0 [] h in
+      let e : get_or bs i [] ≡ body_at s (get_or os i 0) = ap (λ (l : List (List ℕ)). get_or l i []) (sym p.are) ∙ get_or-map (body_at s) os i 0 [] h in
       rw e (all-nth 0 p.here i h)
 
 -- as many places as bodies, each of one

@@ -1,5 +1,5 @@
--- A reserved bucket at a place of a list: its number has four bytes there.
-use Rattle.std.specs.Prelude.{ℕ, ◌+◌, ◌≤◌, ◌<◌, List, map, length, drop, get_or}
+-- A reserved bucket at a place of a list.
+use Rattle.std.specs.Prelude.{ℕ, List, map, drop}
 use Rattle.wire.specs.Kinds.{bucket_read}
 use Rattle.wire.specs.declared.kinds.Bucket.{Bucket}
 
@@ -10,7 +10,3 @@ bucket_here s at = bucket_read (drop at s)
 -- the buckets at some places
 abbrev pub buckets_here : List ℕ → List ℕ → List Bucket
 buckets_here s places = map (bucket_here s) places
-
--- the number at each of some places is within the list
-pub record WholeBuckets (s places : List ℕ) : Type 0 where
-  pub at : (i : ℕ) → i < length places → get_or places i 0 + 4 ≤ length s

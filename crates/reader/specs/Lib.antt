@@ -8,6 +8,7 @@ pub mod Readings
 pub mod Lending
 pub mod KeyHere
 pub mod ListedKeys
+pub mod Listed
 pub mod BucketHere
 pub mod ListedBuckets
 pub mod Located

@@ -10,14 +10,13 @@ use Rattle.reader.specs.Heads.{head_in}
 use Rattle.wire.specs.Keys.{Key}
 use Rattle.reader.specs.KeyHere.{WholeKeys}
 use Rattle.reader.specs.ListedKeys.{keys_listed}
-use Rattle.reader.specs.ListedBuckets.{buckets_listed}
+use Rattle.reader.specs.ListedBuckets.{ReservedBuckets, buckets_listed}
 use Rattle.reader.specs.Table.{Indexed, Ended, between, sorted_bodies, request_bodies, request_tag}
 use Rattle.reader.specs.Collected.{PlacesOf}
 use Rattle.reader.specs.declared.head.Head.{Head}
 use Rattle.reader.specs.declared.table.Ends.{Ends}
 use Rattle.reader.specs.declared.read_list.ReadList.{ReadList}
 use Rattle.reader.specs.declared.listed_keys.Keys.{Keys}
-use Rattle.reader.specs.declared.reserved_buckets.ReservedBuckets.{ReservedBuckets}
 use Rattle.reader.specs.declared.refusal.Refusal.{Refusal}
 use Rattle.reader.specs.Refusals.{number_of}
 

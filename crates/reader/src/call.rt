@@ -21,11 +21,7 @@ use crate::{arrange, head, read_list, survey, table};
 fn counts_within(laid: Laid, first: Head) -> Option<[usize; 8]>
     ensures { result ≡ cond (head_within (head_in first)) laid.counts None }
 {
-    if head::head_within(first) {
-        laid.counts
-    } else {
-        None
-    }
+    laid.counts.filter(|_| head::head_within(first))
 }
 
 // The refusal of a list that passes a limit: 22 where a position stands twice, else 3. The pass over it shows what is asked.
@@ -42,7 +38,8 @@ fn past_refusal(s: &[u8], ordered: bool) -> Refusal
     Refusal::Limit
 }
 
-// A list of the call that is asked for, or of whatever call its head names: its head, and where the places of each tag end in the table. The table that is lent shows the bound.
+// A list of the call that is asked for, or of whatever call its head names: its head, and where the places of each tag end in the table. The table that is lent shows the bound. A byte and
+// no `Call`: sort asks for whatever byte a list has. `Fits` stands in each contract: a struct of a list and its table would have to say beside it that its table is the one that was lent.
 fn read_table(s: &[u8], asked: Option<u8>, index: &mut [u32]) -> Result<(Head, Ends), Refusal>
     requires { Fits s.now index.old }
     ensures { TableAnswered (list_refusal (unwrap_or asked 0) (is_none asked) s.now) (unwrap_or asked 0) s.now index.new result }
@@ -56,7 +53,7 @@ fn read_table(s: &[u8], asked: Option<u8>, index: &mut [u32]) -> Result<(Head, E
     if laid.ordered {
         return Ok((first, ends));
     }
-    arrange::sort_table(s, asked.unwrap_or(0), ends, index)?;
+    arrange::sort_table(s, asked, ends, index)?;
     Ok((first, ends))
 }
 
@@ -92,7 +89,7 @@ fn answer_by<F: FnOnce(&ReadList, &mut [u32], &mut [u8]) -> Result<usize, Refusa
 }
 
 // Reads a list of the call that is asked for, by its byte, or a volume: refusal 2, then 22, then 3, else what is answered to it, with the scratch and the output that are lent. A short
-// list has a table of its own, since a long one takes time to clear. A byte and no `Call`: sort asks for whatever byte a list has.
+// list has a table of its own, since the long one takes 3 µs more to clear (docs/BENCHMARKS.md). A byte and no `Call`: sort asks for whatever byte a list has.
 pub fn with_list<F: FnOnce(&ReadList, &mut [u32], &mut [u8]) -> Result<usize, Refusal>>(
     list: &[u8],
     asked: Option<u8>,

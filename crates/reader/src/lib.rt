@@ -10,6 +10,7 @@ pub mod head;
 pub mod key;
 pub mod keys;
 pub mod limits;
+pub mod listed;
 pub mod listed_keys;
 pub mod named_field;
 pub mod order;

@@ -6,7 +6,8 @@ ghost use Rattle.reader.specs.KeyHere.{Whole, WholeKeys};
 use crate::key::ListedKey;
 use crate::skip;
 
-// A list, and the places of some of its keys. Whoever makes one shows that a whole key stands at each.
+// A list, and the places of some of its keys. Whoever makes one shows that a whole key stands at each. No `Listed`: tried, and a trait whose values borrow from the list has a lifetime, and a
+// struct with such a bound gets no generated proof.
 #[derive(Clone, Copy, Drop)]
 pub struct Keys<'a> {
     pub list: &'a [u8],
@@ -32,33 +33,39 @@ impl<'a> Keys<'a> {
         self.places.len()
     }
 
+    // The key at a place. Who asks for it shows that a whole one stands there.
+    fn key_at(&self, at: u32) -> ListedKey<'a>
+        requires { Whole self.now.list.now at }
+        ensures { (result.list.now ≡ self.now.list.now) × (result.at ≡ at) }
+    {
+        ListedKey {
+            list: self.list,
+            at,
+        }
+    }
+
     // The key with an index. Who asks for it shows the bound.
     pub fn at(&self, i: usize) -> ListedKey<'a>
         requires { i < length self.now.places.now }
         ensures { KeyOf self.now i result }
     {
-        ListedKey {
-            list: self.list,
-            at: self.places[i],
-        }
+        self.key_at(self.places[i])
     }
 
     // The key with an index, if there are so many.
     pub fn get(&self, i: usize) -> Option<ListedKey<'a>>
         ensures { KeyGot self.now i result }
     {
-        if i < self.len() {
-            Some(self.at(i))
-        } else {
-            None
-        }
+        let at = self.places.get(i)?;
+        Some(self.key_at(*at))
     }
 
     // The last of them, if there is one.
     pub fn last(&self) -> Option<ListedKey<'a>>
         ensures { KeyLast self.now result }
     {
-        self.get(self.len().checked_sub(1)?)
+        let at = self.places.last()?;
+        Some(self.key_at(*at))
     }
 
     // The first of them, so many. Who asks for them shows the bound.
@@ -119,13 +126,11 @@ impl<'a> Iterator for KeysLeft<'a> {
 
     // The next key, if one is left.
     fn next(&mut self) -> Option<ListedKey<'a>> {
+        let list = self.keys.list;
         let (first, others) = self.keys.places.split_first()?;
-        let key = ListedKey {
-            list: self.keys.list,
-            at: *first,
-        };
+        let key = self.keys.key_at(*first);
         self.keys = Keys {
-            list: self.keys.list,
+            list,
             places: others,
         };
         Some(key)
@@ -139,13 +144,11 @@ impl<'a> DoubleEndedIterator for KeysLeft<'a> {
 
     // The last key, if one is left.
     fn next_back(&mut self) -> Option<ListedKey<'a>> {
+        let list = self.keys.list;
         let (last, others) = self.keys.places.split_last()?;
-        let key = ListedKey {
-            list: self.keys.list,
-            at: *last,
-        };
+        let key = self.keys.key_at(*last);
         self.keys = Keys {
-            list: self.keys.list,
+            list,
             places: others,
         };
         Some(key)

@@ -4,6 +4,7 @@ ghost use Rattle.reader.specs.Table.{between};
 ghost use Rattle.reader.specs.Readings.{TableRead, TableKnown, KeysBetween, Read};
 
 use crate::head::Head;
+use crate::listed::Listed;
 use crate::listed_keys::Keys;
 use crate::reserved_buckets::ReservedBuckets;
 use crate::table::Ends;
@@ -51,10 +52,7 @@ pub fn cut<'a>(list: &'a [u8], head: Head, table: &'a [u32], ends: Ends) -> Read
         need_discard: keys_between(list, table, ends.freespace, ends.need_discard),
         backpointers: keys_between(list, table, ends.need_discard, ends.backpointers),
         gens: keys_between(list, table, ends.backpointers, ends.gens),
-        reserved: ReservedBuckets {
-            list,
-            places: &table[ends.gens..ends.reserved],
-        },
+        reserved: Listed::new(list, &table[ends.gens..ends.reserved]),
         requests: &table[ends.reserved..ends.requests],
     }
 }

@@ -53,7 +53,7 @@ pub enum Refusal {
 }
 
 impl Refusal {
-    // Its number. By this name and not by `From`: the crates above ask for the number of a refusal, and there is one number for it.
+    // Its number. A method and not `From`: its name says which number, where `u32::from` does not.
     pub fn number(self) -> u32
         ensures { result ≡ number_of self }
     {

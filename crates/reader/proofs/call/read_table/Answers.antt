@@ -37,18 +37,17 @@ returns-then-laid c =
 
 pub sort_table-requires : goal.sort_table-requires
 sort_table-requires c =
-    rw c.unwrap_or.ensures
-    (table-sortable (c.survey.ensures.found _ c.in_ok-laid.ensures.ok_part) _ c.read_head-first.ensures (sym c.counts_within.ensures ∙ c.in-Some.is) _
-    c.ends_of-ends.ensures)
+    table-sortable (c.survey.ensures.found _ c.in_ok-laid.ensures.ok_part) _ c.read_head-first.ensures (sym c.counts_within.ensures ∙ c.in-Some.is) _
+    c.ends_of-ends.ensures
 
 pub returns-in_err-sort_table : goal.returns-in_err-sort_table
 returns-in_err-sort_table c =
     let p = err_from_is_err_and c.from_residual-in_err-sort_table.result c.from_residual-in_err-sort_table.ensures.1 in
     rw (p.1, p.2)
     (read_twice (c.survey.ensures.found _ c.in_ok-laid.ensures.ok_part) _ c.read_head-first.ensures (sym c.counts_within.ensures ∙ c.in-Some.is)
-    _ refl (rw c.unwrap_or.ensures at c.in_err-sort_table.ensures))
+    _ refl c.in_err-sort_table.ensures)
 
 pub returns : goal.returns
 returns c =
     read-sorted (c.survey.ensures.found _ c.in_ok-laid.ensures.ok_part) _ c.read_head-first.ensures (sym c.counts_within.ensures ∙ c.in-Some.is) _
-    c.ends_of-ends.ensures (search rules) _ refl (rw c.unwrap_or.ensures at c.in_ok-sort_table.ensures)
+    c.ends_of-ends.ensures (search rules) _ refl c.in_ok-sort_table.ensures

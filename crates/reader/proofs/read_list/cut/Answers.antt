@@ -1,4 +1,4 @@
-use Rattle.std.proofs.Common.{refl, arith}
+use Rattle.std.proofs.Common.{refl, arith, ap}
 use Rattle.wire.proofs.NumberLaws.{bytes-from}
 use Rattle.reader.proofs.CutLaws.{sections-whole, cut-read}
 use Rattle.reader.proofs.read_list.cut.Goals as goal
@@ -21,8 +21,8 @@ keys_between-requires-5 c = (sections-whole c.requires).backpointers
 pub keys_between-requires-6 : goal.keys_between-requires-6
 keys_between-requires-6 c = (sections-whole c.requires).gens
 
-pub invariant_of-result : goal.invariant_of-result
-invariant_of-result c = record { whole = (sections-whole c.requires).reserved }
+pub new-requires : goal.new-requires
+new-requires c = (sections-whole c.requires).reserved
 
 pub returns-clause-read : goal.returns-clause-read
 returns-clause-read c call q =
@@ -37,6 +37,6 @@ returns-clause-read c call q =
       need_discard = c.keys_between-4.ensures;
       backpointers = c.keys_between-5.ensures;
       gens = c.keys_between-6.ensures;
-      reserved = (refl, refl);
+      reserved = (ap (λ l. l.now) c.new.ensures.0, ap (λ l. l.now) c.new.ensures.1);
       requests = refl;
     }

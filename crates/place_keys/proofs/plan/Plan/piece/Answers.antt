@@ -1,6 +1,7 @@
 use Rattle.std.proofs.Common.{arith, ap, refl, ◌∙◌, get_or}
 use borrow.Author.Tests.{ltb-true}
 use Rattle.wire.specs.Kinds.{bucket_in_range}
+use Rattle.reader.specs.Located.{no_piece}
 use Rattle.place_keys.proofs.SlotTables.{no_slot}
 use Rattle.place_keys.proofs.StepLaws.{gens-length, slots-many, index-low, bucket-at, low-at, stepped}
 use Rattle.place_keys.proofs.plan.Plan.piece.Goals as goal
@@ -25,5 +26,5 @@ pub returns : goal.returns
 returns c =
     let a = c.args.self.now in
     let t = get_or a.slots.now c.args.i no_slot in
-    stepped a.planned c.args.i c.requires.i_in_bounds.0 t refl (omega arith) c.get-piece.result c.get-piece.ensures c.args.end c.requires.i_in_bounds.1
+    stepped a.planned c.args.i c.requires.i_in_bounds.0 t refl (omega arith) c.get-piece.result (c.get-piece.ensures no_piece) c.args.end c.requires.i_in_bounds.1
     (omega arith) _ c.sector_at.result c.extent_end.result (bucket-at a.taken.now t.index) c.sector_at.ensures c.extent_end.ensures

@@ -8,7 +8,7 @@ use Rattle.calls.specs.CallList.{Head}
 use Rattle.reader.specs.declared.refusal.Refusal.TheVariants.{RunsOverlap, TooFewFree}
 use Rattle.reader.specs.ListedKeys.{keys_listed}
 use Rattle.reader.specs.declared.read_list.ReadList.{ReadList}
-use Rattle.reader.specs.declared.pieces.Pieces.{Pieces}
+use Rattle.reader.specs.PieceLists.{Pieces}
 use Rattle.reader.proofs.CheckedLaws.{alloc-checked, runs-checked, reserved-checked}
 use Rattle.place_tests.specs.Called.{Called}
 use Rattle.place_tests.proofs.ChoiceLaws.{chosen-stopped, chosen-walk, enough-is, took-front}
