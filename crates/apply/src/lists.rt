@@ -23,16 +23,6 @@ use std::marker::Model;
 use wire::output::Output;
 use wire::trees::Tree;
 
-// What the next volume is made of: a volume that was read, with the root bits of the next; a change list, and the places of its queued keys by section, where the table that is lent
-// held them.
-#[derive(Drop)]
-pub struct NextVolume<'a, 'q> {
-    read: ReadList<'a>,
-    roots: u8,
-    list: &'a [u8],
-    queue: Option<Queue<'q>>,
-}
-
 // A section by the tag of its keys: their places in the volume, and those of its queued keys in the change list, where the table that is lent held them.
 #[derive(Clone, Copy, Drop)]
 struct Section<'s> {
@@ -44,10 +34,20 @@ struct Section<'s> {
 impl<'s> Section<'s> {
     // A section with these places.
     fn new(tag: u8, keys: &'s [u32], queue: Option<&'s [usize]>) -> Section<'s>
-        ensures { result ≡ record { tag = tag; keys = keys; queue = queue } }
+        ensures { result ≡ record { tag = tag; keys = keys.entry; queue = queue.entry } }
     {
         Section { tag, keys, queue }
     }
+}
+
+// What the next volume is made of: a volume that was read, with the root bits of the next; a change list, and the places of its queued keys by section, where the table that is lent
+// held them.
+#[derive(Drop)]
+pub struct NextVolume<'a, 'q> {
+    read: ReadList<'a>,
+    roots: u8,
+    list: &'a [u8],
+    queue: Option<Queue<'q>>,
 }
 
 // It is seen as both lists. Their layouts were tested, and the places are theirs.
@@ -117,12 +117,7 @@ impl<'a, 'q> NextVolume<'a, 'q> {
         if !self.put(&mut dry) {
             return Err(Refusal::Limit);
         }
-        let n = dry.at;
-        if out.len() < n {
-            return Err(Refusal::ShortOutput);
-        }
-        answer::put_into(self, out);
-        Ok(n)
+        answer::written_of_length(self, dry.at, out)
     }
 }
 
