@@ -77,8 +77,16 @@ impl<'a, 'q> NextVolume<'a, 'q> {
             Section::new(Tree::Alloc.tag(), r.alloc.places, self.queued(0)),
             Section::new(Tree::Lru.tag(), r.lru.places, self.queued(1)),
             Section::new(Tree::Freespace.tag(), r.freespace.places, self.queued(2)),
-            Section::new(Tree::NeedDiscard.tag(), r.need_discard.places, self.queued(3)),
-            Section::new(Tree::Backpointers.tag(), r.backpointers.places, self.queued(4)),
+            Section::new(
+                Tree::NeedDiscard.tag(),
+                r.need_discard.places,
+                self.queued(3),
+            ),
+            Section::new(
+                Tree::Backpointers.tag(),
+                r.backpointers.places,
+                self.queued(4),
+            ),
             Section::new(Tree::BucketGens.tag(), r.gens.places, self.queued(5)),
             Section::new(BUCKETS, r.reserved.places, self.queued(6)),
         ]
@@ -129,7 +137,7 @@ impl<'a, 'q> Emit for NextVolume<'a, 'q> {
     }
 }
 
-// Apply, with tables of N of the change list's queued keys, and of half as many to sort them in.
+// Apply, with tables of N of the change list's queued keys, and of half as many to sort them in. No heap: the tables stand in this frame, and `apply_lists` picks of two sizes.
 fn apply_within<const N: usize, const HALF: usize>(
     read: &ReadList,
     list: &[u8],
