@@ -1,8 +1,8 @@
 -- The loop over the sections, and the answer.
 use mathlib.Core.Path.{◌≡◌, refl, ap, sym, ◌∙◌}
 use mathlib.Core.Bool.{Bool, true, false, ◌&&◌, and-true, and_assoc}
-use mathlib.Core.List.{List, [], ◌∷◌, ◌++◌, map}
-use Prim.Native.Nat.{ℕ, ◌+◌, ◌≤◌, ◌<◌, min}
+use mathlib.Core.List.{List, [], ◌∷◌, map}
+use Prim.Native.Nat.{ℕ, ◌+◌, ◌<◌, min}
 use native.Mathlib.Omega.{arith}
 use lib.Dec.{leb}
 use lib.ListN.{length, drop, get_or, get_or-map}
@@ -26,7 +26,7 @@ use Rattle.calls.specs.ChangeList.{change_laid_out}
 use Rattle.calls.specs.Refusals.{test}
 use Rattle.calls.specs.Answers.{Outcome, answer, read_volume, next_volume, apply, made, outcome}
 use Rattle.calls.proofs.answers.AnswerLaws.{apply-is}
-use Rattle.calls.proofs.answers.OutcomeLaws.{answer-short, answer-fits, answer-next, answer-stops, refused, accepted}
+use Rattle.calls.proofs.answers.OutcomeLaws.{answer-next, answer-stops, refused}
 use Rattle.reader.proofs.AnswerLaws.{counted}
 use Rattle.wire.specs.Fields.{fields}
 use Rattle.calls.specs.Trees.{apply_queue}

@@ -2,17 +2,16 @@
 use mathlib.Core.Path.{◌≡◌, refl, ap, sym, subst, ◌∙◌}
 use mathlib.Core.Bool.{Bool, true, false, cond}
 use mathlib.Core.List.{List, [], ◌∷◌, map}
-use Prim.Native.Nat.{ℕ, ◌+◌, ◌≤◌, ◌<◌}
-use native.Mathlib.Nat.{add-zero}
+use Prim.Native.Nat.{ℕ, ◌+◌, ◌<◌}
 use native.Mathlib.Omega.{arith}
 use lib.Dec.{eqb}
-use lib.ListN.{length, take, drop, get_or}
+use lib.ListN.{drop}
 use borrow.Author.Tests.{eqb-true, eq-eqb, ne_eqb}
 use denote.Param.Members.{Mut}
 use Rattle.std.specs.Fn.{Called, Takes}
 use Rattle.std.specs.Iterator.{Yields, FoldTurn, CallableInFold, FoldsItems}
 use Rattle.std.specs.List.{FoldsTo}
-use Rattle.std.proofs.Common.{Some, None, true≢false}
+use Rattle.std.proofs.Common.{true≢false}
 use Rattle.wire.specs.Bytes.{All, none, more}
 use Rattle.wire.specs.Numbers.{le}
 use Rattle.wire.specs.Fields.{Field, fields, field_at, whole}
@@ -21,7 +20,6 @@ use Rattle.wire.specs.FieldSteps.{FieldStepped}
 use Rattle.wire.specs.declared.fields.Field as code
 use Rattle.wire.specs.declared.fields.Fields.{Fields}
 use Rattle.wire.proofs.FieldStepLaws.{field-found, field-is, list-stays, none-here}
-use Rattle.wire.proofs.NumberLaws.{le-byte, body-le, body-length}
 use Rattle.calls.specs.Lists.{all_of, those}
 use Rattle.calls.specs.CallList.{bodies, shaped}
 use Rattle.calls.specs.ChangeList.{change_shapes, root_listed, field_ok, change_laid_out}

@@ -1,5 +1,5 @@
 -- What all fields make of the bits, one by one.
-use Rattle.std.proofs.Common.{rules, ◌∙◌}
+use Rattle.std.proofs.Common.{rules}
 use Rattle.apply.proofs.RootLaws.{roots-low, fold-start, fold-callable, fold-roots}
 use Rattle.apply.proofs.front.roots_after.Goals as goal
 
