@@ -1,13 +1,14 @@
 -- The loop over the sections, and the answer.
 use mathlib.Core.Path.{◌≡◌, refl, ap, sym, ◌∙◌}
 use mathlib.Core.Bool.{Bool, true, false, ◌&&◌, and-true, and_assoc}
-use mathlib.Core.List.{List, [], ◌∷◌, ◌++◌, map}
-use Prim.Native.Nat.{ℕ, ◌+◌, ◌≤◌, ◌<◌, min}
+use mathlib.Core.List.{List, [], ◌∷◌, map}
+use Prim.Native.Nat.{ℕ, ◌+◌, ◌<◌, min}
 use native.Mathlib.Omega.{arith}
 use lib.Dec.{leb}
 use lib.ListN.{length, drop, get_or, get_or-map}
 use Rattle.std.specs.Borrow.{Bor}
 use Rattle.std.proofs.Common.{Some}
+use Rattle.merge.specs.QueueTable.{QueuePart}
 use Rattle.merge.specs.QueueParts.{InParts}
 use Rattle.merge.specs.declared.queue.Queue.{Queue}
 use Rattle.reader.specs.Heads.{head_in}
@@ -25,7 +26,7 @@ use Rattle.calls.specs.ChangeList.{change_laid_out}
 use Rattle.calls.specs.Refusals.{test}
 use Rattle.calls.specs.Answers.{Outcome, answer, read_volume, next_volume, apply, made, outcome}
 use Rattle.calls.proofs.answers.AnswerLaws.{apply-is}
-use Rattle.calls.proofs.answers.OutcomeLaws.{answer-short, answer-fits, answer-next, answer-stops, refused, accepted}
+use Rattle.calls.proofs.answers.OutcomeLaws.{answer-next, answer-stops, refused}
 use Rattle.reader.proofs.AnswerLaws.{counted}
 use Rattle.wire.specs.Fields.{fields}
 use Rattle.calls.specs.Trees.{apply_queue}
@@ -34,7 +35,7 @@ use Rattle.sorting.specs.EntryPlaces.{entries_at}
 use Rattle.merge.specs.Merging.{Done}
 use Rattle.merge.proofs.CountLaws.{within_is}
 use Rattle.apply.specs.Roots.{roots_after, front_bytes}
-use Rattle.apply.specs.NextVolume.{Lists, bytes_after, Ready, section_keys, next_of, QueueReady, VolumeDone}
+use Rattle.apply.specs.NextVolume.{Lists, bytes_after, Ready, section_keys, next_of, VolumeDone}
 use Rattle.apply.proofs.NextLaws.{next_bytes, next_within, next-bytes, next-within}
 
 -- the keys of a section that are put are those of the next volume
@@ -51,7 +52,7 @@ pub record Sectioning (n : Lists) (o o' : Output) (within : Bool) (i : ℕ) : Ty
 
 -- the part of a queue at an index
 pub queue-ready : {list : List ℕ} (q : Queue) → InParts list (Some q) → (i : ℕ) → i < 7 → (d : Bor (List ℕ)) → d.now ≡ []
-    → QueueReady (get_or sections i 0) list (get_or q.parts i d).now
+    → QueuePart (get_or sections i 0) list (get_or q.parts i d).now
 queue-ready {list} q p i h d e =
     let x = p i h in
     let z : get_or (map (λ (x : Bor (List ℕ)). x.now) q.parts) i [] ≡ (get_or q.parts i d).now =
@@ -139,22 +140,10 @@ module _ {n : Lists} {o o' : Output} {within : Bool} (dry : VolumeDone n o o' wi
       refused 3 xs (dry.answers (length xs) ∙ rw h (answer-stops 3 [] (bytes_after n) (length xs) (λ e. omega arith))) refl
 
   -- where no test is left but 21
-  light : within ≡ true → apply n.volume n.change (length xs) ≡ answer [] (bytes_after n) (length xs)
-  light h = dry.answers (length xs) ∙ rw h (answer-next 0 [] (bytes_after n) (length xs) refl)
+  pub gives-rest : within ≡ true → outcome (answer [] (bytes_after n) (length xs)) xs ≡ whole
+  gives-rest h =
+      ap (λ x. outcome x xs) (sym (dry.answers (length xs) ∙ rw h (answer-next 0 [] (bytes_after n) (length xs) refl)))
 
-  module _ (z : o.at ≡ 0) where
-    -- the length that the run tells
-    run-length : o'.at ≡ min (length (bytes_after n)) cap
-    run-length = ap (λ (x : Output). x.at) dry.wrote ∙ counted o (bytes_after n) z
-
-    pub gives-21 : within ≡ true → length xs < o'.at → made 21 0 xs ≡ whole
-    gives-21 h l = refused 21 xs (light h ∙ answer-short (bytes_after n) (length xs) (omega (arith, run-length))) refl
-
-    pub has-room : o'.at ≤ length xs → length xs < cap → length (bytes_after n) ≤ length xs
-    has-room l k = omega (arith, run-length)
-
-    pub gives-0 :
-        {ys : List ℕ} → within ≡ true → o'.at ≤ length xs → length xs < cap → ys ≡ bytes_after n ++ drop (length (bytes_after n)) xs
-        → made 0 o'.at ys ≡ whole
-    gives-0 h l k w =
-        accepted (bytes_after n) xs (light h ∙ answer-fits (bytes_after n) (length xs) (has-room l k)) (omega (arith, run-length, has-room l k)) w
+  -- the length that the run tells
+  pub run-length : o.at ≡ 0 → o'.at ≡ min (length (bytes_after n)) cap
+  run-length z = ap (λ (x : Output). x.at) dry.wrote ∙ counted o (bytes_after n) z

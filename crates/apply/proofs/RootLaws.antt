@@ -1,18 +1,25 @@
 -- Root bits: one field 70, and the loop over a change list.
-use mathlib.Core.Path.{◌≡◌, refl, ap, sym, ◌∙◌}
+use mathlib.Core.Path.{◌≡◌, refl, ap, sym, subst, ◌∙◌}
 use mathlib.Core.Bool.{Bool, true, false, cond}
 use mathlib.Core.List.{List, [], ◌∷◌, map}
-use Prim.Native.Nat.{ℕ, ◌+◌, ◌≤◌, ◌<◌}
-use native.Mathlib.Nat.{add-zero}
+use Prim.Native.Nat.{ℕ, ◌+◌, ◌<◌}
 use native.Mathlib.Omega.{arith}
 use lib.Dec.{eqb}
-use lib.ListN.{length, take, drop, get_or}
+use lib.ListN.{drop}
 use borrow.Author.Tests.{eqb-true, eq-eqb, ne_eqb}
+use denote.Param.Members.{Mut}
+use Rattle.std.specs.Fn.{Called, Takes}
+use Rattle.std.specs.Iterator.{Yields, FoldTurn, CallableInFold, FoldsItems}
+use Rattle.std.specs.List.{FoldsTo}
 use Rattle.std.proofs.Common.{true≢false}
 use Rattle.wire.specs.Bytes.{All, none, more}
 use Rattle.wire.specs.Numbers.{le}
 use Rattle.wire.specs.Fields.{Field, fields, field_at, whole}
-use Rattle.wire.proofs.NumberLaws.{le-byte, body-le, body-length}
+use Rattle.wire.specs.FieldsFound.{field_in}
+use Rattle.wire.specs.FieldSteps.{FieldStepped}
+use Rattle.wire.specs.declared.fields.Field as code
+use Rattle.wire.specs.declared.fields.Fields.{Fields}
+use Rattle.wire.proofs.FieldStepLaws.{field-found, field-is, list-stays, none-here}
 use Rattle.calls.specs.Lists.{all_of, those}
 use Rattle.calls.specs.CallList.{bodies, shaped}
 use Rattle.calls.specs.ChangeList.{change_shapes, root_listed, field_ok, change_laid_out}
@@ -112,3 +119,43 @@ module _ {list : List ℕ} {roots at r : ℕ} (p : Rooting list roots at r) {tag
               ≡ set_roots (roots_in (fields (drop (b + n) list))) (cond t (with_root r (le 1 f.body)) r)
           go true e = rw e
           go false e = rw e
+
+-- a walk along the fields that are left of a change list, with the bits so far
+pub record Walked (list : List ℕ) (roots : ℕ) (left : Fields) (r : ℕ) : Type 0 where
+  pub list-is : left.list.now ≡ list
+  pub rooting : Rooting list roots left.at r
+
+pub fold-start : {list : List ℕ} {roots : ℕ} {s : Fields} → change_laid_out list ≡ true → s.list.now ≡ list → s.at ≡ 0 → Walked list roots s roots
+fold-start {list} {roots} h l z = record { list-is = l; rooting = rw z (rooting-start list roots h) }
+
+-- `fold` by what one field makes of the bits
+module _ {F : Type 0} {g : Mut F (ℕ × (code.Field × Unit {0})) ℕ} (list : List ℕ) (roots : ℕ) (f : F)
+    (does : (a : ℕ) (x : code.Field) (b : ℕ) (q : F) → Called g f (a, (x, tt)) b q → (q ≡ f) × (b ≡ after_field a (field_in x))) where
+  walked : (xs : List code.Field) (s t : Fields) (r : ℕ) (q : F × ℕ) → Walked list roots s r → Yields FieldStepped s xs t
+      → FoldsTo {P = F × ℕ} (FoldTurn g) (f, r) xs q → (q.0 ≡ f) × Walked list roots t q.1
+  walked [] s t r q w y c = (ap (λ (p : F × ℕ). p.0) (sym c), subst (λ (u : Fields). Walked list roots u q.1) y (subst (λ (p : F × ℕ). Walked list roots s p.1) c w))
+  walked (x ∷ xs) s t r q w y c =
+      let d = does r x c.0.1 c.0.0 c.1 in
+      let h = y.1 in
+      walked xs y.0 t c.0.1 q
+      (record {
+        list-is = list-stays w.list-is h;
+        rooting = rw h.at (rooting-on w.rooting (field-found w.list-is h) (rw (field-is w.list-is h) at d.1));
+      })
+      y.2
+      (subst (λ (k : F). FoldsTo {P = F × ℕ} (FoldTurn g) (k, c.0.1) xs q) d.0 c.2)
+
+  -- each field that comes may be asked
+  pub fold-callable : {s : Fields} → Walked list roots s roots → ((a : ℕ) (x : code.Field) → NamesRoot (field_in x) → Takes g f (a, (x, tt)))
+      → CallableInFold FieldStepped g s f roots
+  fold-callable {s} w takes =
+      record {
+        at = λ xs t q x u y c h.
+            let k = walked xs s t roots q w y c in
+            rw k.0 (takes q.1 x (subst (λ (i : Field). NamesRoot i) (sym (field-is k.1.list-is h)) (rooting-names k.1.rooting (field-found k.1.list-is h))));
+      }
+
+  pub fold-roots : {s : Fields} {r : ℕ} → Walked list roots s roots → FoldsItems FieldStepped g s f roots r → r ≡ roots_after list roots
+  fold-roots {s} {r} w d =
+      let k = walked d.0 s d.2.1.0 roots (d.1, r) w d.2.1.1 d.3 in
+      rooting-end k.1.rooting (none-here k.1.list-is d.2.1.2)

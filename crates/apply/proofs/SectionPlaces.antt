@@ -3,6 +3,7 @@ use mathlib.Core.Path.{◌≡◌, refl, sym, ap, ◌∙◌}
 use mathlib.Core.Bool.{true}
 use lib.Dec.{leb}
 use Rattle.std.specs.Borrow.{Bor}
+use Rattle.std.specs.Prelude.{Option, IfSome}
 use mathlib.Core.List.{List, [], ◌∷◌, map}
 use Prim.Native.Nat.{ℕ, zero, suc, ◌<◌}
 use native.Mathlib.Omega.{arith}
@@ -24,7 +25,9 @@ use Rattle.sorting.specs.Entries.{sections, is_entry, entry_of}
 use Rattle.sorting.specs.EntryPlaces.{size_at, tag_at, entry_from, entries_at, Stands}
 use Rattle.reader.specs.CallFields.{key_fits}
 use Rattle.merge.specs.Counts.{StandsWithin, section_within}
-use Rattle.apply.specs.NextVolume.{Ready, section_keys, SectionReady, SectionsReady}
+use Rattle.apply.specs.NextVolume.{Lists, Ready, section_keys, SectionReady, SectionListed, SectionsReady}
+use Rattle.apply.specs.declared.lists.Section.{Section}
+use Rattle.merge.specs.QueueTable.{QueuePart}
 use Rattle.apply.proofs.VolumeLaws.{SectionOf, parted}
 use Rattle.apply.proofs.NextLaws.{section-within}
 
@@ -115,26 +118,46 @@ keys-ready {r} q i l d =
     let k = parted p.laid p.once in
     section-ready (all-nth 0 k i l) (section-within vol p.within i l) (section-at k q.read.read i l d)
 
--- all of them
-pub sections-ready :
-    {r : ReadList} {list : List ℕ} → Ready r list
-    → SectionsReady r.list.now ((4, r.alloc.places) ∷ (10, r.lru.places) ∷ (11, r.freespace.places) ∷ (12, r.need_discard.places) ∷ (13, r.backpointers.places) ∷ (14, r.gens.places) ∷ (64, r.reserved.places) ∷ [])
-sections-ready {r} q =
-    record {
-      tags = refl;
-      ready =
-          more (keys-ready q 0 (omega arith) r.alloc.places)
-          (more (keys-ready q 1 (omega arith) r.alloc.places)
-          (more (keys-ready q 2 (omega arith) r.alloc.places)
-          (more (keys-ready q 3 (omega arith) r.alloc.places)
-          (more (keys-ready q 4 (omega arith) r.alloc.places) (more (keys-ready q 5 (omega arith) r.alloc.places) (more (keys-ready q 6 (omega arith) r.alloc.places) none))))));
-    }
+-- all of them, with the parts of a queue
+abbrev pub listed_section : ℕ → Bor (List ℕ) → Option (Bor (List ℕ)) → Section
+listed_section t keys queue = record { tag = t; keys = keys; queue = queue }
+
+module _ {r : ReadList} {list : List ℕ} (q : Ready r list) where
+  abbrev lists : Lists
+  lists = record { volume = r.list.now; change = list }
+
+  pub section-listed : {i : ℕ} (l : i < 7) {queue : Option (Bor (List ℕ))} → IfSome queue (λ p. QueuePart (get_or sections i 0) list p.now)
+      → SectionListed lists (listed_section (get_or sections i 0) (get_or (section_places r) i r.alloc.places) queue)
+  section-listed {i} l p = record { keys = keys-ready q i l r.alloc.places; queue = p }
+
+  -- the part of a queue at an index
+  abbrev Part : ℕ → Option (Bor (List ℕ)) → Type 0
+  Part i queue = IfSome queue (λ p. QueuePart (get_or sections i 0) list p.now)
+
+  pub sections-ready :
+      {q0 q1 q2 q3 q4 q5 q6 : Option (Bor (List ℕ))} → Part 0 q0 → Part 1 q1 → Part 2 q2 → Part 3 q3 → Part 4 q4 → Part 5 q5 → Part 6 q6
+      → SectionsReady lists
+      (listed_section 4 r.alloc.places q0
+      ∷ listed_section 10 r.lru.places q1
+      ∷ listed_section 11 r.freespace.places q2
+      ∷ listed_section 12 r.need_discard.places q3
+      ∷ listed_section 13 r.backpointers.places q4 ∷ listed_section 14 r.gens.places q5 ∷ listed_section 64 r.reserved.places q6 ∷ [])
+  sections-ready p0 p1 p2 p3 p4 p5 p6 =
+      record {
+        tags = refl;
+        listed =
+            more (section-listed {i = 0} (omega arith) p0)
+            (more (section-listed {i = 1} (omega arith) p1)
+            (more (section-listed {i = 2} (omega arith) p2)
+            (more (section-listed {i = 3} (omega arith) p3)
+            (more (section-listed {i = 4} (omega arith) p4) (more (section-listed {i = 5} (omega arith) p5) (more (section-listed {i = 6} (omega arith) p6) none))))));
+      }
 
 -- section number i among them
-pub section-ready-at :
-    {vol : List ℕ} {ps : List (ℕ × Bor (List ℕ))} → SectionsReady vol ps → (d : ℕ × Bor (List ℕ)) (i : ℕ) → i < 7
-    → ((get_or ps i d).0 ≡ get_or sections i 0) × SectionReady (get_or ps i d).0 vol (get_or ps i d).1.now
-section-ready-at {ps = ps} s d i l =
-    let n : length ps ≡ 7 = sym (length-map ps (λ p. p.0)) ∙ ap length s.tags in
-    let e : get_or sections i d.0 ≡ (get_or ps i d).0 = ap (λ (ts : List ℕ). get_or ts i d.0) (sym s.tags) ∙ get_or-map (λ p. p.0) ps i d in
-    (sym e ∙ get_or_default sections i d.0 0 (omega arith), all-nth d s.ready i (omega (arith, n)))
+pub section-at-index :
+    {n : Lists} {ps : List Section} → SectionsReady n ps → (d : Section) (i : ℕ) → i < 7
+    → ((get_or ps i d).tag ≡ get_or sections i 0) × SectionListed n (get_or ps i d)
+section-at-index {ps = ps} s d i l =
+    let n : length ps ≡ 7 = sym (length-map ps (λ p. p.tag)) ∙ ap length s.tags in
+    let e : get_or sections i d.tag ≡ (get_or ps i d).tag = ap (λ (ts : List ℕ). get_or ts i d.tag) (sym s.tags) ∙ get_or-map (λ p. p.tag) ps i d in
+    (sym e ∙ get_or_default sections i d.tag 0 (omega arith), all-nth d s.listed i (omega (arith, n)))

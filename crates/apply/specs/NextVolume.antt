@@ -1,6 +1,5 @@
 -- What is asked before the next volume is written, and what is promised of each of its sections and of the whole.
-use Rattle.std.specs.Prelude.{◌≡◌, Bool, true, ℕ, None, List, [], ◌∷◌, map}
-use Rattle.std.specs.Borrow.{Bor}
+use Rattle.std.specs.Prelude.{◌≡◌, Bool, true, ℕ, None, IfSome, List, [], ◌∷◌, map}
 use Rattle.wire.specs.Bytes.{All}
 use Rattle.wire.specs.Fields.{fields}
 use Rattle.wire.specs.Keys.{Key}
@@ -15,9 +14,11 @@ use Rattle.reader.specs.Readings.{ReadAs}
 use Rattle.reader.specs.Table.{sorted_bodies}
 use Rattle.reader.specs.declared.read_list.ReadList.{ReadList}
 use Rattle.sorting.specs.Entries.{sections, entries, entry_of}
-use Rattle.sorting.specs.EntryPlaces.{EntryAt, entries_at}
-use Rattle.merge.specs.Queues.{gather, ascending}
+use Rattle.sorting.specs.EntryPlaces.{entries_at}
+use Rattle.merge.specs.Queues.{ascending}
+use Rattle.merge.specs.QueueTable.{QueuePart}
 use Rattle.merge.specs.Counts.{StandsWithin}
+use Rattle.apply.specs.declared.lists.Section.{Section}
 
 -- a volume and a change list
 pub record Lists : Type 0 where
@@ -47,15 +48,15 @@ pub record SectionReady (t : ℕ) (vol keys : List ℕ) : Type 0 where
   pub up : ascending (entries_at t vol keys) ≡ true
   pub all : entries_at t vol keys ≡ section_keys vol t
 
--- the sections of a volume, each with the places of its keys
-pub record SectionsReady (vol : List ℕ) (ps : List (ℕ × Bor (List ℕ))) : Type 0 where
-  pub tags : map (λ p. p.0) ps ≡ sections
-  pub ready : All (λ p. SectionReady p.0 vol p.1.now) ps
+-- the places of a section are of its keys in the volume, and of its queued keys in the change list, where those are known
+pub record SectionListed (n : Lists) (p : Section) : Type 0 where
+  pub keys : SectionReady p.tag n.volume p.keys.now
+  pub queue : IfSome p.queue (λ q. QueuePart p.tag n.change q.now)
 
--- these places of a change list are of its queued keys of section t, the last at each position, in order
-pub record QueueReady (t : ℕ) (list queue : List ℕ) : Type 0 where
-  pub kept : All (EntryAt t list) queue
-  pub keys : entries_at t list queue ≡ gather (entries t (fields list))
+-- the sections of a volume, in order
+pub record SectionsReady (n : Lists) (ps : List Section) : Type 0 where
+  pub tags : map (λ p. p.tag) ps ≡ sections
+  pub listed : All (SectionListed n) ps
 
 -- the next volume was written, and whether its sections are within the limits tells the refusals that are left: 3, and 21 where there is too little room
 pub record VolumeDone (n : Lists) (o o' : Output) (r : Bool) : Type 0 where

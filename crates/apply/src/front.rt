@@ -34,11 +34,7 @@ pub fn roots_after(list: &[u8], roots: u8) -> u8
     ensures same { result ≡ roots_after list.now roots }
     ensures low { roots < 8 → result < 8 }
 {
-    let mut r = roots;
-    for field in Fields::of(list) {
-        r = after_field(r, field);
-    }
-    r
+    Fields::of(list).fold(roots, after_field)
 }
 
 // Field 1: the volume's head with other root bits.

@@ -23,16 +23,6 @@ use std::marker::Model;
 use wire::output::Output;
 use wire::trees::Tree;
 
-// What the next volume is made of: a volume that was read, with the root bits of the next; a change list, and the places of its queued keys by section, where the table that is lent
-// held them.
-#[derive(Drop)]
-pub struct NextVolume<'a, 'q> {
-    read: ReadList<'a>,
-    roots: u8,
-    list: &'a [u8],
-    queue: Option<Queue<'q>>,
-}
-
 // A section by the tag of its keys: their places in the volume, and those of its queued keys in the change list, where the table that is lent held them.
 #[derive(Clone, Copy, Drop)]
 struct Section<'s> {
@@ -44,10 +34,20 @@ struct Section<'s> {
 impl<'s> Section<'s> {
     // A section with these places.
     fn new(tag: u8, keys: &'s [u32], queue: Option<&'s [usize]>) -> Section<'s>
-        ensures { result ≡ record { tag = tag; keys = keys; queue = queue } }
+        ensures { result ≡ record { tag = tag; keys = keys.entry; queue = queue.entry } }
     {
         Section { tag, keys, queue }
     }
+}
+
+// What the next volume is made of: a volume that was read, with the root bits of the next; a change list, and the places of its queued keys by section, where the table that is lent
+// held them.
+#[derive(Drop)]
+pub struct NextVolume<'a, 'q> {
+    read: ReadList<'a>,
+    roots: u8,
+    list: &'a [u8],
+    queue: Option<Queue<'q>>,
 }
 
 // It is seen as both lists. Their layouts were tested, and the places are theirs.
@@ -77,8 +77,16 @@ impl<'a, 'q> NextVolume<'a, 'q> {
             Section::new(Tree::Alloc.tag(), r.alloc.places, self.queued(0)),
             Section::new(Tree::Lru.tag(), r.lru.places, self.queued(1)),
             Section::new(Tree::Freespace.tag(), r.freespace.places, self.queued(2)),
-            Section::new(Tree::NeedDiscard.tag(), r.need_discard.places, self.queued(3)),
-            Section::new(Tree::Backpointers.tag(), r.backpointers.places, self.queued(4)),
+            Section::new(
+                Tree::NeedDiscard.tag(),
+                r.need_discard.places,
+                self.queued(3),
+            ),
+            Section::new(
+                Tree::Backpointers.tag(),
+                r.backpointers.places,
+                self.queued(4),
+            ),
             Section::new(Tree::BucketGens.tag(), r.gens.places, self.queued(5)),
             Section::new(BUCKETS, r.reserved.places, self.queued(6)),
         ]
@@ -117,12 +125,7 @@ impl<'a, 'q> NextVolume<'a, 'q> {
         if !self.put(&mut dry) {
             return Err(Refusal::Limit);
         }
-        let n = dry.at;
-        if out.len() < n {
-            return Err(Refusal::ShortOutput);
-        }
-        answer::put_into(self, out);
-        Ok(n)
+        answer::written_of_length(self, dry.at, out)
     }
 }
 
@@ -134,7 +137,7 @@ impl<'a, 'q> Emit for NextVolume<'a, 'q> {
     }
 }
 
-// Apply, with tables of N of the change list's queued keys, and of half as many to sort them in.
+// Apply, with tables of N of the change list's queued keys, and of half as many to sort them in. No heap: the tables stand in this frame, and `apply_lists` picks of two sizes.
 fn apply_within<const N: usize, const HALF: usize>(
     read: &ReadList,
     list: &[u8],

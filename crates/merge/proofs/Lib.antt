@@ -10,3 +10,4 @@ pub mod CollectLaws
 pub mod TableLaws
 pub mod SortQueueLaws
 pub mod PartLaws
+pub mod RankLaws

@@ -29,11 +29,7 @@ impl Stretch {
     fn of(n: usize, end: usize, count: KeyCount) -> Option<Stretch>
         ensures { result ≡ stretch_of n end count }
     {
-        if n == 0 {
-            None
-        } else {
-            Some(Stretch { n, end, count })
-        }
+        (n != 0).then_some(Stretch { n, end, count })
     }
 }
 

@@ -2,5 +2,5 @@
 use Rattle.apply.proofs.ResultLaws.{Sectioning}
 use Rattle.apply.proofs.lists.NextVolume.put.Given as goal
 
-abbrev pub invariant-loop-i : goal.invariant-loop-i
-invariant-loop-i l = Sectioning l.self l.fn.out l.out l.within l.i
+abbrev pub invariant-loop-section : goal.invariant-loop-section
+invariant-loop-section l = Sectioning l.self l.fn.out l.out l.within l.section-index

@@ -4,8 +4,8 @@ use Rattle.apply.proofs.lists.NextVolume.put_section.Goals as goal
 
 pub returns-in-Some : goal.returns-in-Some
 returns-in-Some c =
-    rw (← c.self.view_is) (done-next _ _ _ (rw (← c.self.view_is) at c.requires.2.all) (rw c.new-rest.ensures at c.put_section.ensures))
+    rw (← c.self.view_is) (done-next _ _ _ (rw (← c.self.view_is) at c.requires.keys.all) (rw c.new-rest.ensures at c.put_section.ensures))
 
 pub returns-in-None : goal.returns-in-None
 returns-in-None c =
-    rw (← c.self.view_is) (done-next _ _ _ (rw (← c.self.view_is) at c.requires.2.all) (rw c.new-rest.ensures at c.put_section_in_chunks.ensures))
+    rw (← c.self.view_is) (done-next _ _ _ (rw (← c.self.view_is) at c.requires.keys.all) (rw c.new-rest.ensures at c.put_section_in_chunks.ensures))
