@@ -28,7 +28,8 @@ pub fn is_run(key: ListedKey) -> bool
     key.key_type() == KeyType::Set.number() && key.pos().inode == 0
 }
 
-// Whether it is one that began before bucket 0. Apart from `run_of`, though both ask whether it is a run: only the walk refuses such a run, and all others would drop the refusal.
+// Whether it is one that began before bucket 0.
+// A question of its own, though `run_of` too asks whether it is a run: one answer to both would be a refusal that all but the walk drop.
 #[tactic(auto, unfolding(crate::specs::Runs::began_early))]
 pub fn began_early(key: ListedKey) -> bool
     ensures { result ≡ began_early (key_listed key.entry) }

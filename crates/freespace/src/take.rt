@@ -17,7 +17,8 @@ use reader::refusal::Refusal;
 use wire::kinds;
 use wire::kinds::Bucket;
 
-// What the walk makes, so far or in the end, beside the buckets taken. No heap: they stand at the front of an array that is lent, and the walk under way has only their number.
+// What the walk makes, so far or in the end, beside the buckets taken.
+// No heap: they stand at the front of an array that is lent, and the walk under way has only their number.
 #[derive(Clone, Copy, Drop)]
 pub struct Walked {
     // How many buckets are taken.

@@ -86,7 +86,7 @@ pub fn bucket_gens<N: BucketNumber>(out: &mut [u8], gens: Keys, buckets: &[N]) -
     ensures { Looked (keys_listed gens.entry) (N.buckets_in buckets.now) out.old out.new result }
 {
     let mut k: usize = 0;
-    // By index: after an adapter of `iter_mut` nothing is known of a slice (Rattle's LIBRARY.md).
+    // By index: after an adapter of iter_mut nothing is known of a slice (Rattle's LIBRARY.md).
     for (i, n) in buckets.iter().enumerate() {
         let b = n.bucket();
         k = keys_up_to(gens, k, b);

@@ -15,7 +15,7 @@ pub fn layout<'a>(pieces: &[Piece], bucket: u64, slots: &'a mut [Slot]) -> &'a [
     ensures { slots_in result.now ≡ next_fit bucket 0 0 (map (λ p. p.stored) pieces.now) }
 {
     let mut open = OpenBucket { index: 0, used: 0 };
-    // By index: after an adapter of `iter_mut` nothing is known of a slice (Rattle's LIBRARY.md).
+    // By index: after an adapter of iter_mut nothing is known of a slice (Rattle's LIBRARY.md).
     for (i, p) in pieces.iter().enumerate() {
         let stored = p.stored as u64;
         let fit = open.next_fit(stored, bucket);
@@ -31,8 +31,8 @@ pub fn layout<'a>(pieces: &[Piece], bucket: u64, slots: &'a mut [Slot]) -> &'a [
     &slots[..pieces.len()]
 }
 
-// The pieces of a call list as records, at the front of an array: they are copied since `layout` takes a slice of them, the form that the user's document names. Refusal 3 shows
-// that they are few.
+// The pieces of a call list as records, at the front of an array. Refusal 3 shows that they are few.
+// They are copied since `layout` takes a slice of records, the form that the user's document names.
 fn read_pieces(pieces: &Pieces) -> [Piece; 1024]
     requires { length (pieces_of pieces.now) ≤ 1024 }
     ensures { map piece_in (take (length (pieces_of pieces.now)) result) ≡ pieces_of pieces.now }
@@ -44,7 +44,7 @@ fn read_pieces(pieces: &Pieces) -> [Piece; 1024]
         checksum: 0,
     };
     let mut records = [none; 1024];
-    // By index: after an adapter of `iter_mut` nothing is known of an array (Rattle's LIBRARY.md).
+    // By index: after an adapter of iter_mut nothing is known of an array (Rattle's LIBRARY.md).
     for (i, p) in pieces.iter().enumerate() {
         records[i] = p;
     }

@@ -36,11 +36,6 @@ overflow_sub-free-in-Some-run_of c =
     let q = counting-on c.loop-key.invariant c.in-Some.ensures.steps.keys (rising _ c.requires.1.order) (sym c.run_of.ensures ∙ c.in-Some-run_of.is) in
     omega (arith, from-length, q.fits)
 
-pub overflow_add-free : goal.overflow_add-free
-overflow_add-free c =
-    let q = counting-on c.loop-key.invariant c.in-Some.ensures.steps.keys (rising _ c.requires.1.order) (sym c.run_of.ensures ∙ c.in-Some-run_of.is) in
-    omega (arith, from-length, q.room)
-
 pub loop-key-preserved-in-Some-run_of : goal.loop-key-preserved-in-Some-run_of
 loop-key-preserved-in-Some-run_of c =
     let q = counting-on c.loop-key.invariant c.in-Some.ensures.steps.keys (rising _ c.requires.1.order) (sym c.run_of.ensures ∙ c.in-Some-run_of.is) in

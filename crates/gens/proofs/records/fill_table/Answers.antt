@@ -1,4 +1,4 @@
-use Rattle.std.proofs.Common.{◌≡◌, append-nil, ap, sym, ◌∙◌, List, [], ◌∷◌, ◌++◌, ℕ}
+use Rattle.std.proofs.Common.{◌≡◌, append-nil, ◌∙◌, [], ◌∷◌}
 use Rattle.gens.proofs.RecordLaws.{noting-start, noting-on, last-left}
 use Rattle.reader.specs.KeyHere.{Whole}
 use Rattle.gens.proofs.records.fill_table.Goals as goal
@@ -15,9 +15,3 @@ loop-key-preserved c =
     let q : c.in-Some.key.list.now ≡ c.args.gens.list.now = step.list ∙ h.2 in
     let w : Whole c.args.gens.list.now at = rw q at c.in-Some.key.whole in
     (at ∷ h.0, e, step.same ∙ h.2, noting-on _ at w _ _ h.3 _ (rw q at c.note_record.ensures))
-
-pub returns : goal.returns
-returns c =
-    let h = c.loop-key.invariant in
-    let e : h.0 ≡ c.args.gens.places.now = ap (λ (r : List ℕ). r ++ h.0) (sym c.in-None.ensures.steps) ∙ h.1 in
-    rw e at h.3

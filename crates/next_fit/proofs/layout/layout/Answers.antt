@@ -16,11 +16,6 @@ none = record { file = 0; stored = 0; kind = 0; checksum = 0 }
 pub loop-i-init : goal.loop-i-init
 loop-i-init c = laid-first c.args.bucket _ _ c.args.slots.now refl
 
-pub next_fit-fit-requires : goal.next_fit-fit-requires
-next_fit-fit-requires c =
-    let d = c.loop-i.invariant in
-    (omega (arith, d.below, c.loop-i-test.true, c.requires.0), d.short, search rules)
-
 pub overflow_cast-slots : goal.overflow_cast-slots
 overflow_cast-slots c =
     let d = c.loop-i.invariant in

@@ -1,15 +1,6 @@
-use Rattle.std.proofs.Common.{arith, sym, refl, ◌∙◌}
+use Rattle.std.proofs.Common.{arith, sym, ◌∙◌}
 use Rattle.freespace.proofs.WalkLaws.{ahead-skip, ahead-take, ahead-used, ahead-full, ahead-done}
 use Rattle.freespace.proofs.take.Walker.walk_run.Goals as goal
-
-pub loop-number-init : goal.loop-number-init
-loop-number-init c =
-    rw c.past_key-walked.ensures
-    (record {
-      ahead = record { most = c.requires.1; size = refl; taken = refl; many = refl; left = refl; used = refl };
-      passed = refl;
-      left = refl;
-    })
 
 pub returns-then-walked-self : goal.returns-then-walked-self
 returns-then-walked-self c =
