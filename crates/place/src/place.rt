@@ -34,13 +34,13 @@ fn place_read(read: &ReadList, out: &mut [u8]) -> Result<usize, Refusal>
     let asked = Placement { read, pieces };
     let chosen = asked.choose_buckets(&mut taken, &mut slots)?;
     let mut gens = [0u8; 1024];
-    generations::fill_gens(&mut gens, &Records::of(read.gens), chosen.taken);
+    let records = Records::of(read.gens);
     let plan = Plan {
         list: read.list,
         pieces,
         slots: chosen.slots,
         taken: chosen.taken,
-        gens: &gens[..chosen.taken.len()],
+        gens: generations::fill_gens(&mut gens, &records, chosen.taken),
         head: read.head,
         sectors: chosen.sectors,
         option: chosen.option,

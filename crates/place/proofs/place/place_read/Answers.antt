@@ -37,7 +37,7 @@ pub invariant_of-plan : goal.invariant_of-plan
 invariant_of-plan c =
     let q = chosen (called {ps = c.asked-pieces.result} c.requires c.asked-pieces.ensures.are c.asked-pieces.ensures.few) c.in_ok-chosen.ensures in
     let r = c.in_ok-chosen.chosen in
-    let gens = rw (ap keys_listed c.of.ensures ∙ c.requires.read.gens.are) at c.fill_gens.ensures in
+    let gens = rw (ap keys_listed c.of-records.ensures ∙ c.requires.read.gens.are) at c.fill_gens.ensures in
     record {
       planned = subst (λ gs. Planned c.args.read.now.list.now (pieces_of c.asked-pieces.result) r.slots.now r.taken.now gs c.args.read.now.head r.option) (sym gens) q.plan;
       sized = q.sized;
