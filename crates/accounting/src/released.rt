@@ -11,7 +11,7 @@ use wire::rows;
 
 // What a release tells: the buckets emptied, the sectors freed, those of them in buckets that stay, and the unused sectors of the buckets emptied.
 #[derive(Clone, Copy, Drop)]
-pub struct Released {
+pub struct Amounts {
     pub emptied: u64,
     pub total: u64,
     pub kept: u64,
@@ -19,23 +19,23 @@ pub struct Released {
 }
 
 // User sectors, user buckets and buckets that wait for discard. What counts the amounts shows their bounds.
-pub fn put_rows(out: &mut Output, r: Released)
-    requires { (r.emptied < 2 ^ 62) × (r.total < 2 ^ 62) × (r.kept < 2 ^ 62) × (r.lost < 2 ^ 62) }
-    ensures { out.new ≡ with_bytes out.old (rows_bytes (sectors_row (neg_ℤ (pos r.total)) ∷ buckets_row 4 (neg_ℤ (pos r.emptied)) (neg_ℤ (pos r.total)) (pos r.kept +ℤ neg_ℤ (pos r.lost)) ∷ buckets_row 9 (pos r.emptied) (pos 0) (pos 0) ∷ [])) }
+pub fn put_rows(out: &mut Output, a: Amounts)
+    requires { (a.emptied < 2 ^ 62) × (a.total < 2 ^ 62) × (a.kept < 2 ^ 62) × (a.lost < 2 ^ 62) }
+    ensures { out.new ≡ with_bytes out.old (rows_bytes (sectors_row (neg_ℤ (pos a.total)) ∷ buckets_row 4 (neg_ℤ (pos a.emptied)) (neg_ℤ (pos a.total)) (pos a.kept +ℤ neg_ℤ (pos a.lost)) ∷ buckets_row 9 (pos a.emptied) (pos 0) (pos 0) ∷ [])) }
 {
-    let freed = rows::minus(r.total);
+    let freed = rows::minus(a.total);
     counters::put_sectors_row(out, freed);
     counters::put_buckets_row(
         out,
         DataType::User.number(),
-        rows::minus(r.emptied),
+        rows::minus(a.emptied),
         freed,
-        counters::difference(r.kept, r.lost),
+        counters::difference(a.kept, a.lost),
     );
     counters::put_buckets_row(
         out,
         DataType::NeedDiscard.number(),
-        rows::plus(r.emptied),
+        rows::plus(a.emptied),
         0,
         0,
     );

@@ -1,10 +1,8 @@
 -- Laws of the change list of a placement: its bytes in the order in which they are emitted.
 use mathlib.Core.Path.{◌≡◌, sym, ap, ◌∙◌}
-use mathlib.Core.Bool.{Bool, true, false, ◌&&◌}
+use mathlib.Core.Bool.{◌&&◌}
 use mathlib.Core.List.{List, [], ◌∷◌, ◌++◌, map, flat_map, append_assoc, append-nil}
-use Prim.Native.Nat.{ℕ, ◌%◌, ◌/◌, ◌^◌}
-use native.Mathlib.Omega.{arith}
-use lib.Dec.{eqb}
+use Prim.Native.Nat.{ℕ}
 use Rattle.wire.specs.Fields.{Field}
 use Rattle.wire.specs.Encode.{encode, encode_field, key_field}
 use Rattle.wire.specs.Rows.{row_field}

@@ -5,6 +5,7 @@ use mathlib.Core.List.{List, [], ◌∷◌}
 use Prim.Native.Nat.{ℕ, zero, suc, ◌+◌, ◌≤◌, ◌<◌}
 use native.Mathlib.Omega.{arith}
 use Rattle.std.specs.Prelude.{Ok}
+use Rattle.std.specs.Int.NonZero.{non_zero_u64_get}
 use lib.Dec.{eqb}
 use lib.ListN.{length, take, length-take}
 use borrow.Author.Tests.{eq-eqb, eqb-true}
@@ -79,6 +80,7 @@ taken-once R U n l sorted apart b = go (R (bucket b)) refl
 -- what is chosen, for the change list
 pub record Choice (l : ReadList) (ps : List Piece) (c : Chosen) : Type 0 where
   pub plan : PlanFor l.list.now l.head ps c.slots.now c.taken.now c.option
+  pub sized : non_zero_u64_get c.sectors ≡ l.head.bucket_sectors
   pub few : c.walked.passed ≤ length (read_volume l.list.now).trees.freespace
   pub queue : queue_of c.walked.passed c.walked.left (read_volume l.list.now).trees.freespace ≡ (walk_of (read_call l.list.now)).queue
 
@@ -131,7 +133,6 @@ module _ {l : ReadList} {ps : Pieces} {r : Chosen} (q : Called l ps) (o : Chosen
               gens = refl;
               few = q.few;
               base = q.base;
-              sectors = passed.requests.sectors;
               option = o.chosen.option ∙ ap (λ (h : Head). h.option) (sym q.head);
               kinds = passed.requests.kinds;
               sizes = passed.requests.sizes;
@@ -140,6 +141,7 @@ module _ {l : ReadList} {ps : Pieces} {r : Chosen} (q : Called l ps) (o : Chosen
               low = rw taken-is low;
               distinct = rw taken-is (distinct-at (walk_of c).taken once);
             };
+        sized = o.chosen.sectors ∙ ap (λ (h : Head). h.bucket_sectors) (sym q.head);
         few = omega (arith, passed-all, length-take r.walked.passed ks);
         queue = sym (w.queue ∙ ap (λ (m : ℕ). queue_of m r.walked.left (take r.walked.passed ks)) passed-all ∙ sym (queue-take r.walked.passed r.walked.left ks));
       }

@@ -13,7 +13,7 @@ use Rattle.calls.proofs.answers.AnswerLaws.{place_is}
 use Rattle.reader.specs.Readings.{call_refusal, ReadAs}
 use Rattle.reader.specs.PieceLists.{Pieces, pieces_of}
 use Rattle.reader.specs.declared.read_list.ReadList.{ReadList}
-use Rattle.reader.proofs.PartsLaws.{passed, read-on, read-refused, located}
+use Rattle.reader.proofs.PartsLaws.{passed, read-on, read-refused}
 use Rattle.place_tests.specs.Called.{Called}
 use Rattle.reader.proofs.CheckedLaws.{checked, base-range}
 use Rattle.place.specs.Change.{placement}
@@ -22,13 +22,9 @@ pub called : {r : ReadList} {ps : Pieces} → ReadAs (Some 1) r → pieces_of ps
 called {r} q e l =
     let p = passed 1 r.list.now q.passed in
     let k = checked 1 r.list.now p.laid p.once p.within in
-    let at = located q in
     record {
       checked = k;
       head = q.read.head;
-      alloc = at.alloc;
-      runs = at.freespace;
-      reserved = at.reserved;
       alloc_are = q.read.alloc.are;
       runs_are = q.read.freespace.are;
       reserved_are = q.read.reserved.are;

@@ -76,6 +76,7 @@ impl<'a> Emit for ChangeList<'a> {
 }
 
 // Field 70: the LRU root, where it is wanted and does not exist.
+// Whether it is wanted is one half of what is promised, and what `put_lrus` answers; the roots are the head's byte, since a narrower type would ask more of callers.
 pub fn put_lru_root(out: &mut Output, wanted: bool, roots: u8)
     ensures { out.new ≡ with_bytes out.old (roots_bytes (roots_if (wanted && root_missing roots 0) 10)) }
 {

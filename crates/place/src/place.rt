@@ -1,10 +1,7 @@
 // The call: a list is read, then answered.
-ghost use Rattle.std.specs.Prelude.{◌≡◌, true, map, ◌≤◌, length, take};
-ghost use Rattle.wire.specs.Kinds.{bucket_in_range};
-ghost use Rattle.calls.specs.Lists.{all_of};
-ghost use Rattle.calls.specs.Generations.{gen_of};
+ghost use Rattle.std.specs.Prelude.{◌≡◌, length};
 ghost use Rattle.calls.specs.Answers as answers;
-ghost use Rattle.calls.specs.Answers.{outcome, read_volume};
+ghost use Rattle.calls.specs.Answers.{outcome};
 ghost use Rattle.reader.specs.Readings.{ReadAs};
 ghost use Rattle.reader.specs.Refusals.{made_by};
 
@@ -23,15 +20,6 @@ use reader::refusal::Refusal;
 use reader::{answer, call};
 use wire::kinds::Bucket;
 
-// Fills in the generations of the buckets taken. Choosing them shows what is required.
-fn fill_gens(read: &ReadList, taken: &[Bucket], out: &mut [u8])
-    requires { ReadAs (Some 1) read.now × (length taken.now ≤ length out.old) × (all_of bucket_in_range taken.now ≡ true) }
-    ensures { take (length taken.now) out.new ≡ map (gen_of (read_volume read.now.list.now).trees.gens) taken.now }
-{
-    let records = Records::of(read.gens);
-    generations::fill_gens(out, &records, taken);
-}
-
 // The answer to a list that was read: refusals 4 to 13, or its change list.
 fn place_read(read: &ReadList, out: &mut [u8]) -> Result<usize, Refusal>
     requires { ReadAs (Some 1) read.now }
@@ -45,18 +33,19 @@ fn place_read(read: &ReadList, out: &mut [u8]) -> Result<usize, Refusal>
     let pieces = Pieces::asked(read);
     let asked = Placement { read, pieces };
     let chosen = asked.choose_buckets(&mut taken, &mut slots)?;
-    let mut generations = [0u8; 1024];
-    fill_gens(read, chosen.taken, &mut generations);
+    let mut gens = [0u8; 1024];
+    let records = Records::of(read.gens);
     let plan = Plan {
         list: read.list,
         pieces,
         slots: chosen.slots,
         taken: chosen.taken,
-        gens: &generations[..chosen.taken.len()],
+        gens: generations::fill_gens(&mut gens, &records, chosen.taken),
         head: read.head,
+        sectors: chosen.sectors,
         option: chosen.option,
     };
-    let list = ChangeList {
+    let changes = ChangeList {
         counted: DirtyPlan {
             plan: &plan,
             dirty: &dirty::dirty_counts(&plan),
@@ -66,7 +55,7 @@ fn place_read(read: &ReadList, out: &mut [u8]) -> Result<usize, Refusal>
         tallies: tally::tally_pieces(&pieces),
         clock: clock::write_clock(&read.alloc),
     };
-    answer::written(&list, out)
+    answer::written(&changes, out)
 }
 
 // Place: for any list and any output, how many bytes are written or the refusal, and the output, that the definition gives.

@@ -53,9 +53,9 @@ queue_with [] last left = key_queue last left
 queue_with (k ∷ ks) last left = key_queue k 0 ++ queue_with ks last left
 
 -- the first of the keys before the last one is put
-pub queue-turn : (o : Output) {r : Output} {ks rest : List Key} {k : Key} (last : Key) (left : ℕ) → ks ≡ k ∷ rest → r ≡ with_bytes o (queue_bytes (key_queue k 0))
+pub passed-turn : (o : Output) {r : Output} {ks rest : List Key} {k : Key} (last : Key) (left : ℕ) → ks ≡ k ∷ rest → r ≡ with_bytes o (queue_bytes (key_queue k 0))
     → with_bytes r (queue_bytes (queue_with rest last left)) ≡ with_bytes o (queue_bytes (queue_with ks last left))
-queue-turn o {rest = rest} {k = k} last left e w =
+passed-turn o {rest = rest} {k = k} last left e w =
     run-put o _ _ (ap (λ l. queue_bytes (queue_with l last left)) e ∙ bytes-append (key_queue k 0) (queue_with rest last left)) w
 
 -- the keys passed are some, a last one, and those after them that the walk did not come to

@@ -32,15 +32,24 @@ pair-turn {C = C} {D = D} {v = v} ks vs e xs t y r u x is st =
       λ d. ap (λ (p : C × D). p.1) g ∙ get_or_default vs i (v x).1 d h,
     )
 
+-- two slices
+pub two-slices : {A B : Type 0} {s z : Zip (Iter A) (Iter B)} {i : Iter A} (ks : List A) (vs : List B) → s ≡ z → zip_first z ≡ i → iter_rest i ≡ ks
+    → iter_rest (zip_second z) ≡ vs → YieldsList (zips fronts fronts) (λ (p : Bor A × Bor B). (p.0.now, p.1.now)) s (zip ks vs)
+two-slices ks vs e f a b =
+    YieldsList-from_zip (YieldsList-from_slice ks (ap (λ x. iter_rest (zip_first x)) e ∙ ap iter_rest f ∙ a))
+    (YieldsList-from_slice vs (ap (λ x. iter_rest (zip_second x)) e ∙ b))
+
 -- three slices
-pub three-slices : {A B C : Type 0} (s : Zip (Zip (Iter A) (Iter B)) (Iter C)) (ks : List A) (vs : List B) (ws : List C)
-    → iter_rest (zip_first (zip_first s)) ≡ ks → iter_rest (zip_second (zip_first s)) ≡ vs → iter_rest (zip_second s) ≡ ws
+pub three-slices : {A B C : Type 0} {s z : Zip (Zip (Iter A) (Iter B)) (Iter C)} {y : Zip (Iter A) (Iter B)} {i : Iter A} (ks : List A) (vs : List B) (ws : List C)
+    → s ≡ z → zip_first z ≡ y → zip_first y ≡ i → iter_rest i ≡ ks → iter_rest (zip_second y) ≡ vs → iter_rest (zip_second z) ≡ ws
     → YieldsList (zips (zips fronts fronts) fronts) (λ (p : (Bor A × Bor B) × Bor C). ((p.0.0.now, p.0.1.now), p.1.now)) s (zip (zip ks vs) ws)
-three-slices s ks vs ws a b c =
-    YieldsList-from_zip (YieldsList-from_zip (YieldsList-from_slice ks a) (YieldsList-from_slice vs b)) (YieldsList-from_slice ws c)
+three-slices ks vs ws e g f a b c =
+    YieldsList-from_zip (two-slices ks vs (ap zip_first e ∙ g) f a b) (YieldsList-from_slice ws (ap (λ x. iter_rest (zip_second x)) e ∙ c))
 
 -- a slice, and an iterator that shows what it has left
-pub slice-and-rest : {A T B D : Type 0} (s : Zip (Iter A) T) (v : B → D) (rest : T → List D) (ks : List A) (ws : List D)
-    → iter_rest (zip_first s) ≡ ks → rest (zip_second s) ≡ ws
+pub slice-and-rest : {A T B D : Type 0} {s z : Zip (Iter A) T} {i : Iter A} {j : T} (v : B → D) (rest : T → List D) (ks : List A) (ws : List D)
+    → s ≡ z → zip_first z ≡ i → zip_second z ≡ j → iter_rest i ≡ ks → rest j ≡ ws
     → YieldsList (zips fronts (YieldsFirstBy v rest)) (λ (p : Bor A × B). (p.0.now, v p.1)) s (zip ks ws)
-slice-and-rest s v rest ks ws a b = YieldsList-from_zip (YieldsList-from_slice ks a) (YieldsList-from_first v rest ws b)
+slice-and-rest v rest ks ws e f g a b =
+    YieldsList-from_zip (YieldsList-from_slice ks (ap (λ x. iter_rest (zip_first x)) e ∙ ap iter_rest f ∙ a))
+    (YieldsList-from_first v rest ws (ap (λ x. rest (zip_second x)) e ∙ ap rest g ∙ b))

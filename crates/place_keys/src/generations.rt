@@ -1,5 +1,5 @@
 // The generations of the buckets taken.
-ghost use Rattle.std.specs.Prelude.{◌≡◌, true, map, ◌≤◌, length, take};
+ghost use Rattle.std.specs.Prelude.{◌≡◌, true, map, ◌≤◌, length};
 ghost use Rattle.calls.specs.Lists.{all_of};
 ghost use Rattle.calls.specs.Generations.{gen_of};
 ghost use Rattle.reader.specs.ListedKeys.{keys_listed};
@@ -8,13 +8,14 @@ ghost use Rattle.wire.specs.Kinds.{bucket_in_range};
 use gens::records::Records;
 use wire::kinds::Bucket;
 
-// Fills in the generation of each bucket taken. The limits show the buckets' bound.
-pub fn fill_gens(out: &mut [u8], records: &Records, taken: &[Bucket])
+// The generation of each bucket taken, at the front of a table. The limits show the buckets' bound.
+pub fn fill_gens<'a>(out: &'a mut [u8], records: &Records, taken: &[Bucket]) -> &'a [u8]
     requires { (length taken.now ≤ length out.old) × (all_of bucket_in_range taken.now ≡ true) }
-    ensures { take (length taken.now) out.new ≡ map (gen_of (keys_listed records.now.gens)) taken.now }
+    ensures { result.now ≡ map (gen_of (keys_listed records.now.gens)) taken.now }
 {
     // By index: after an adapter of `iter_mut` nothing is known of a slice (Rattle's LIBRARY.md).
     for (i, b) in taken.iter().enumerate() {
         out[i] = records.bucket_gen(*b);
     }
+    &out[..taken.len()]
 }

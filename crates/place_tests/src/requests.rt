@@ -45,6 +45,7 @@ pub fn block_fits(block: NonZero<u16>, bucket: u16) -> bool
 }
 
 // Whether a piece stored as it is has as many sectors stored as in the file, and one that is compressed has not.
+// By the kind's byte: of a byte that names no kind it is asked too.
 #[tactic(auto, unfolding(crate::specs::Requests::kind_fits))]
 fn kind_fits(p: Piece) -> bool
     ensures { result ≡ kind_fits (piece_in p) }

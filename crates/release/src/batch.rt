@@ -5,7 +5,7 @@ ghost use Rattle.release.specs.Given.{change_of};
 ghost use Rattle.release.specs.Outcomes.{BatchTables};
 
 use accounting::released;
-use accounting::released::Released;
+use accounting::released::Amounts;
 use change_fields::batch_end;
 use gens::records::Records;
 use reader::answer::Emit;
@@ -71,7 +71,7 @@ impl<'a> Emit for ReleaseBatch<'a> {
         roots::put_roots(out, count != 0, read.head.roots);
         released::put_rows(
             out,
-            Released {
+            Amounts {
                 emptied: count as u64,
                 total,
                 kept: unused.kept,

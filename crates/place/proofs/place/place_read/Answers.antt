@@ -8,6 +8,7 @@ use Rattle.calls.proofs.answers.OutcomeLaws.{refused}
 use Rattle.accounting.specs.Tally.{Tallied}
 use Rattle.freespace.specs.Walks.{queue_of}
 use Rattle.reader.specs.KeyHere.{key_here}
+use Rattle.reader.specs.ListedKeys.{keys_listed}
 use Rattle.reader.specs.PieceLists.{pieces_of}
 use Rattle.reader.proofs.NumberLaws.{some-number}
 use Rattle.place_keys.specs.Plan.{Planned}
@@ -30,16 +31,20 @@ returns-in_err-chosen c =
 pub fill_gens-requires : goal.fill_gens-requires
 fill_gens-requires c =
     let q = chosen (called {ps = c.asked-pieces.result} c.requires c.asked-pieces.ensures.are c.asked-pieces.ensures.few) c.in_ok-chosen.ensures in
-    (c.requires, q.plan.short, q.plan.low)
+    (q.plan.short, q.plan.low)
 
 pub invariant_of-plan : goal.invariant_of-plan
 invariant_of-plan c =
     let q = chosen (called {ps = c.asked-pieces.result} c.requires c.asked-pieces.ensures.are c.asked-pieces.ensures.few) c.in_ok-chosen.ensures in
     let r = c.in_ok-chosen.chosen in
-    record { planned = subst (λ gs. Planned c.args.read.now.list.now (pieces_of c.asked-pieces.result) r.slots.now r.taken.now gs c.args.read.now.head r.option) (sym c.fill_gens.ensures) q.plan }
+    let gens = rw (ap keys_listed c.of-records.ensures ∙ c.requires.read.gens.are) at c.fill_gens.ensures in
+    record {
+      planned = subst (λ gs. Planned c.args.read.now.list.now (pieces_of c.asked-pieces.result) r.slots.now r.taken.now gs c.args.read.now.head r.option) (sym gens) q.plan;
+      sized = q.sized;
+    }
 
-pub invariant_of-list-2 : goal.invariant_of-list-2
-invariant_of-list-2 c =
+pub invariant_of-changes-2 : goal.invariant_of-changes-2
+invariant_of-changes-2 c =
     let q = chosen (called {ps = c.asked-pieces.result} c.requires c.asked-pieces.ensures.are c.asked-pieces.ensures.few) c.in_ok-chosen.ensures in
     let w = c.in_ok-chosen.chosen.walked in
     let g = c.args.read.now in

@@ -24,12 +24,9 @@ loop-b-preserved c =
     let gs = plan.gens.now in
     let ds = c.args.counted.now.dirty.now in
     let s = plan.list.now in
-    let all = c.into_iter-b-iterator.ensures.into_iter_gives in
     let chain =
-    three-slices c.into_iter-b-iterator.result bs gs ds
-    (ap (λ z. z.a.a.rest.now) all ∙ ap (λ z. z.a.rest.now) c.zip-buckets.ensures.first ∙ ap (λ z. z.rest.now) c.zip.ensures.first ∙ c.iter.ensures.rest)
-    (ap (λ z. z.a.b.rest.now) all ∙ ap (λ z. z.b.rest.now) c.zip-buckets.ensures.first ∙ c.zip.ensures.second.0)
-    (ap (λ z. z.b.rest.now) all ∙ c.zip-buckets.ensures.second.0) in
+    three-slices bs gs ds c.into_iter-b-iterator.ensures.into_iter_gives c.zip-buckets.ensures.first c.zip.ensures.first c.iter.ensures.rest c.zip.ensures.second.0
+    c.zip-buckets.ensures.second.0 in
     let turn = pair-turn (zip bs gs) ds chain c.loop-b.yielded c.loop-b.b-iterator c.loop-b.yielded_by c.next.result c.next.new.self _ c.in-Some.is c.next.ensures.steps in
     let low : i < length bs = omega (arith, turn.0, length-zip bs gs) in
     let here = turn.2 (no_bucket, 0) ∙ get_or-zip bs gs i (no_bucket, 0) low (omega (arith, low, gens-length plan.planned)) in
@@ -50,12 +47,9 @@ returns c =
     let gs = plan.gens.now in
     let ds = c.args.counted.now.dirty.now in
     let s = plan.list.now in
-    let all = c.into_iter-b-iterator.ensures.into_iter_gives in
     let chain =
-    three-slices c.into_iter-b-iterator.result bs gs ds
-    (ap (λ z. z.a.a.rest.now) all ∙ ap (λ z. z.a.rest.now) c.zip-buckets.ensures.first ∙ ap (λ z. z.rest.now) c.zip.ensures.first ∙ c.iter.ensures.rest)
-    (ap (λ z. z.a.b.rest.now) all ∙ ap (λ z. z.b.rest.now) c.zip-buckets.ensures.first ∙ c.zip.ensures.second.0)
-    (ap (λ z. z.b.rest.now) all ∙ c.zip-buckets.ensures.second.0) in
+    three-slices bs gs ds c.into_iter-b-iterator.ensures.into_iter_gives c.zip-buckets.ensures.first c.zip.ensures.first c.iter.ensures.rest c.zip.ensures.second.0
+    c.zip-buckets.ensures.second.0 in
     let end = YieldsList-end chain c.loop-b.yielded c.loop-b.b-iterator c.loop-b.yielded_by c.next.result c.next.new.self c.in-None.is c.next.ensures.steps in
     let none = drop_of_length-le bs {i = length c.loop-b.yielded} (omega (arith, end.1, length-zip (zip bs gs) ds, length-zip bs gs, gens-length plan.planned, c.args.counted.now.counted.long)) in
     sym (all-put c.loop-b.out (fields-none (key_field 4) (ap (map (new_alloc_key (read_volume s) (placed_of (read_call s)))) none)))

@@ -1,4 +1,4 @@
-use Rattle.std.proofs.Common.{arith, ap, ◌≡◌, ◌+◌, ◌∙◌, length, [], ◌∷◌, ◌++◌, length-append}
+use Rattle.std.proofs.Common.{arith, ◌≡◌, ◌+◌, length, [], ◌∷◌, ◌++◌, length-append}
 use Rattle.std.proofs.lemmas.Iterator.Consumers.{YieldsList-end}
 use Rattle.std.proofs.lemmas.Slice.Zip.{length-zip}
 use Rattle.reader.specs.Located.{no_piece}
@@ -16,33 +16,27 @@ loop-slot-init c = counting-first (omega (arith, c.args.plan.now.planned.short))
 pub bounds-dirty-index : goal.bounds-dirty-index
 bounds-dirty-index c =
     let p = c.args.plan.now in
-    let all = c.into_iter-slot-iterator.ensures.into_iter_gives in
     let chain =
-    slice-and-rest c.into_iter-slot-iterator.result piece_in pieces_left p.slots.now (pieces_of p.pieces)
-    (ap (λ z. z.a.rest.now) all ∙ ap (λ z. z.rest.now) c.zip-slot-items.ensures.first ∙ c.iter.ensures.rest)
-    (ap (λ z. pieces_left z.b) all ∙ ap pieces_left c.zip-slot-items.ensures.second ∙ c.iter-2.ensures) in
+    slice-and-rest piece_in pieces_left p.slots.now (pieces_of p.pieces) c.into_iter-slot-iterator.ensures.into_iter_gives c.zip-slot-items.ensures.first
+    c.zip-slot-items.ensures.second c.iter.ensures.rest c.iter-2.ensures in
     let turn = pair-turn p.slots.now (pieces_of p.pieces) chain c.loop-slot.yielded c.loop-slot.slot-iterator c.loop-slot.yielded_by c.next.result c.next.new.self _ c.in-Some.is c.next.ensures.steps in
     omega (arith, p.planned.short, index-low p.planned (length c.loop-slot.yielded) turn.1 c.in-Some.slot.now (turn.2 no_slot))
 
 pub bounds-dirty-index-in-loop-slot : goal.bounds-dirty-index-in-loop-slot
 bounds-dirty-index-in-loop-slot c =
     let p = c.args.plan.now in
-    let all = c.into_iter-slot-iterator.ensures.into_iter_gives in
     let chain =
-    slice-and-rest c.into_iter-slot-iterator.result piece_in pieces_left p.slots.now (pieces_of p.pieces)
-    (ap (λ z. z.a.rest.now) all ∙ ap (λ z. z.rest.now) c.zip-slot-items.ensures.first ∙ c.iter.ensures.rest)
-    (ap (λ z. pieces_left z.b) all ∙ ap pieces_left c.zip-slot-items.ensures.second ∙ c.iter-2.ensures) in
+    slice-and-rest piece_in pieces_left p.slots.now (pieces_of p.pieces) c.into_iter-slot-iterator.ensures.into_iter_gives c.zip-slot-items.ensures.first
+    c.zip-slot-items.ensures.second c.iter.ensures.rest c.iter-2.ensures in
     let turn = pair-turn p.slots.now (pieces_of p.pieces) chain c.loop-slot.yielded c.loop-slot.slot-iterator c.loop-slot.yielded_by c.next.result c.next.new.self _ c.in-Some.is c.next.ensures.steps in
     omega (arith, p.planned.short, index-low p.planned (length c.loop-slot.yielded) turn.1 c.in-Some.slot.now (turn.2 no_slot))
 
 pub loop-slot-preserved : goal.loop-slot-preserved
 loop-slot-preserved c =
     let p = c.args.plan.now in
-    let all = c.into_iter-slot-iterator.ensures.into_iter_gives in
     let chain =
-    slice-and-rest c.into_iter-slot-iterator.result piece_in pieces_left p.slots.now (pieces_of p.pieces)
-    (ap (λ z. z.a.rest.now) all ∙ ap (λ z. z.rest.now) c.zip-slot-items.ensures.first ∙ c.iter.ensures.rest)
-    (ap (λ z. pieces_left z.b) all ∙ ap pieces_left c.zip-slot-items.ensures.second ∙ c.iter-2.ensures) in
+    slice-and-rest piece_in pieces_left p.slots.now (pieces_of p.pieces) c.into_iter-slot-iterator.ensures.into_iter_gives c.zip-slot-items.ensures.first
+    c.zip-slot-items.ensures.second c.iter.ensures.rest c.iter-2.ensures in
     let turn = pair-turn p.slots.now (pieces_of p.pieces) chain c.loop-slot.yielded c.loop-slot.slot-iterator c.loop-slot.yielded_by c.next.result c.next.new.self _ c.in-Some.is c.next.ensures.steps in
     let more : length (c.loop-slot.yielded ++ (c.in-Some.slot, c.in-Some.piece) ∷ []) ≡ length c.loop-slot.yielded + 1 = length-append c.loop-slot.yielded _ in
     rw more (counting-next p.planned c.loop-slot.invariant turn.1 c.in-Some.piece (turn.3 no_piece) c.in-Some.slot.now (turn.2 no_slot))
@@ -50,10 +44,8 @@ loop-slot-preserved c =
 pub returns : goal.returns
 returns c =
     let p = c.args.plan.now in
-    let all = c.into_iter-slot-iterator.ensures.into_iter_gives in
     let chain =
-    slice-and-rest c.into_iter-slot-iterator.result piece_in pieces_left p.slots.now (pieces_of p.pieces)
-    (ap (λ z. z.a.rest.now) all ∙ ap (λ z. z.rest.now) c.zip-slot-items.ensures.first ∙ c.iter.ensures.rest)
-    (ap (λ z. pieces_left z.b) all ∙ ap pieces_left c.zip-slot-items.ensures.second ∙ c.iter-2.ensures) in
+    slice-and-rest piece_in pieces_left p.slots.now (pieces_of p.pieces) c.into_iter-slot-iterator.ensures.into_iter_gives c.zip-slot-items.ensures.first
+    c.zip-slot-items.ensures.second c.iter.ensures.rest c.iter-2.ensures in
     let end = YieldsList-end chain c.loop-slot.yielded c.loop-slot.slot-iterator c.loop-slot.yielded_by c.next.result c.next.new.self c.in-None.is c.next.ensures.steps in
     counting-end p.planned c.loop-slot.invariant (omega (arith, end.1, length-zip p.slots.now (pieces_of p.pieces), slots-many p.planned))

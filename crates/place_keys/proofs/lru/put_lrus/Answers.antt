@@ -1,6 +1,7 @@
 use Rattle.std.proofs.Common.{arith, sym, ap, ◌∙◌, map, drop, get_or, Bool, ℕ, ◌≡◌, ◌||◌, ◌+◌, length, [], ◌∷◌, ◌++◌, length-append}
 use lib.ListN.{drop_of_length-le}
-use Rattle.std.proofs.lemmas.Slice.Zip.{zip_turn, zip_end}
+use Rattle.std.proofs.lemmas.Iterator.Consumers.{YieldsList-end}
+use Rattle.std.proofs.lemmas.Slice.Zip.{length-zip}
 use Rattle.std.specs.Int.NonZero.{non_zero_u64_get}
 use Rattle.wire.specs.Encode.{key_field}
 use Rattle.wire.specs.Kinds.{no_bucket}
@@ -15,6 +16,7 @@ use Rattle.change_fields.proofs.FieldLists.{flat-next, flat-none}
 use Rattle.place_keys.proofs.StepLaws.{bucket-at}
 use Rattle.place_keys.proofs.RootLaws.{wanted-next, wanted-none}
 use Rattle.place_keys.proofs.WalkLaws.{run-put, all-put}
+use Rattle.place_keys.proofs.ZipLaws.{pair-turn, two-slices}
 use Rattle.place_keys.proofs.lru.put_lrus.Goals as goal
 
 pub loop-b-preserved : goal.loop-b-preserved
@@ -23,9 +25,9 @@ loop-b-preserved c =
     let bs = c.args.counted.now.plan.now.taken.now in
     let n = non_zero_u64_get c.args.counted.now.plan.now.sectors in
     let b = get_or bs i no_bucket in
-    let first = ap (λ z. z.a.rest.now) c.into_iter-b-iterator.ensures.into_iter_gives ∙ ap (λ z. z.rest.now) c.zip-b-items.ensures.first ∙ c.iter.ensures.rest in
-    let second = ap (λ z. z.b.rest.now) c.into_iter-b-iterator.ensures.into_iter_gives ∙ c.zip-b-items.ensures.second.0 in
-    let turn = zip_turn bs c.args.counted.now.dirty.now c.loop-b.yielded _ c.loop-b.b-iterator c.next.new.self c.next.result first second c.loop-b.yielded_by _ c.in-Some.is c.next.ensures.steps in
+    let ds = c.args.counted.now.dirty.now in
+    let chain = two-slices bs ds c.into_iter-b-iterator.ensures.into_iter_gives c.zip-b-items.ensures.first c.iter.ensures.rest c.zip-b-items.ensures.second.0 in
+    let turn = pair-turn bs ds chain c.loop-b.yielded c.loop-b.b-iterator c.loop-b.yielded_by c.next.result c.next.new.self _ c.in-Some.is c.next.ensures.steps in
     let next = drop-next no_bucket bs i turn.0 in
     let more : length (c.loop-b.yielded ++ (c.in-Some.b, c.in-Some.stored) ∷ []) ≡ i + 1 = length-append c.loop-b.yielded _ in
     let ps = placed_of (read_call c.args.counted.now.plan.now.list.now) in
@@ -44,19 +46,21 @@ loop-b-preserved c =
 pub returns-clause-keys : goal.returns-clause-keys
 returns-clause-keys c =
     let plan = c.args.counted.now.plan.now in
-    let first = ap (λ z. z.a.rest.now) c.into_iter-b-iterator.ensures.into_iter_gives ∙ ap (λ z. z.rest.now) c.zip-b-items.ensures.first ∙ c.iter.ensures.rest in
-    let second = ap (λ z. z.b.rest.now) c.into_iter-b-iterator.ensures.into_iter_gives ∙ c.zip-b-items.ensures.second.0 in
-    let end = zip_end plan.taken.now c.args.counted.now.dirty.now c.loop-b.yielded _ c.loop-b.b-iterator c.next.new.self c.next.result first second c.loop-b.yielded_by c.in-None.is c.next.ensures.steps in
-    let none = drop_of_length-le plan.taken.now {i = length c.loop-b.yielded} (omega (arith, end, c.args.counted.now.counted.long)) in
+    let bs = plan.taken.now in
+    let ds = c.args.counted.now.dirty.now in
+    let chain = two-slices bs ds c.into_iter-b-iterator.ensures.into_iter_gives c.zip-b-items.ensures.first c.iter.ensures.rest c.zip-b-items.ensures.second.0 in
+    let end = YieldsList-end chain c.loop-b.yielded c.loop-b.b-iterator c.loop-b.yielded_by c.next.result c.next.new.self c.in-None.is c.next.ensures.steps in
+    let none = drop_of_length-le bs {i = length c.loop-b.yielded} (omega (arith, end.1, length-zip bs ds, c.args.counted.now.counted.long)) in
     let e : non_zero_u64_get c.args.counted.now.plan.now.sectors ≡ plan.head.bucket_sectors = plan.sized in
     rw e at (sym (all-put c.loop-b.out (flat-none (key_field 10) (λ b. lru_keys (non_zero_u64_get c.args.counted.now.plan.now.sectors) b (dirty_in (placed_of (read_call plan.list.now)) b)) none)) ∙ c.loop-b.invariant.0)
 
 pub returns-clause-root : goal.returns-clause-root
 returns-clause-root c =
     let plan = c.args.counted.now.plan.now in
-    let first = ap (λ z. z.a.rest.now) c.into_iter-b-iterator.ensures.into_iter_gives ∙ ap (λ z. z.rest.now) c.zip-b-items.ensures.first ∙ c.iter.ensures.rest in
-    let second = ap (λ z. z.b.rest.now) c.into_iter-b-iterator.ensures.into_iter_gives ∙ c.zip-b-items.ensures.second.0 in
-    let end = zip_end plan.taken.now c.args.counted.now.dirty.now c.loop-b.yielded _ c.loop-b.b-iterator c.next.new.self c.next.result first second c.loop-b.yielded_by c.in-None.is c.next.ensures.steps in
-    let none = drop_of_length-le plan.taken.now {i = length c.loop-b.yielded} (omega (arith, end, c.args.counted.now.counted.long)) in
+    let bs = plan.taken.now in
+    let ds = c.args.counted.now.dirty.now in
+    let chain = two-slices bs ds c.into_iter-b-iterator.ensures.into_iter_gives c.zip-b-items.ensures.first c.iter.ensures.rest c.zip-b-items.ensures.second.0 in
+    let end = YieldsList-end chain c.loop-b.yielded c.loop-b.b-iterator c.loop-b.yielded_by c.next.result c.next.new.self c.in-None.is c.next.ensures.steps in
+    let none = drop_of_length-le bs {i = length c.loop-b.yielded} (omega (arith, end.1, length-zip bs ds, c.args.counted.now.counted.long)) in
     let e : non_zero_u64_get c.args.counted.now.plan.now.sectors ≡ plan.head.bucket_sectors = plan.sized in
     rw e at (wanted-none (non_zero_u64_get c.args.counted.now.plan.now.sectors) (dirty_in (placed_of (read_call plan.list.now))) c.loop-b.root_wanted none c.loop-b.invariant.1)

@@ -4,7 +4,7 @@ use Rattle.wire.specs.Output.{with_bytes}
 use Rattle.change_fields.proofs.FieldLists.{fields-none}
 use Rattle.reader.specs.ListedKeys.{key_listed, keys_listed}
 use Rattle.reader.specs.declared.listed_keys.Keys.{Keys}
-use Rattle.place_keys.proofs.QueueLaws.{queue_bytes, queue_with, queue-turn, queue-is, passed_none}
+use Rattle.place_keys.proofs.QueueLaws.{queue_bytes, queue_with, passed-turn, queue-is, passed_none}
 use Rattle.place_keys.proofs.WalkLaws.{all-put}
 use Rattle.place_keys.proofs.queue.put_queue.Goals as goal
 
@@ -20,7 +20,7 @@ loop-key-init c =
 
 pub loop-key-preserved : goal.loop-key-preserved
 loop-key-preserved c =
-    queue-turn c.loop-key.out (key_listed c.in-Some.last) c.args.walked.left c.in-Some-key.ensures.steps.keys c.put_passed.ensures ∙ c.loop-key.invariant
+    passed-turn c.loop-key.out (key_listed c.in-Some.last) c.args.walked.left c.in-Some-key.ensures.steps.keys c.put_passed.ensures ∙ c.loop-key.invariant
 
 pub returns : goal.returns
 returns c =

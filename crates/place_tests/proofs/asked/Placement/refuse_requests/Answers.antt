@@ -4,14 +4,25 @@ use Rattle.std.specs.Result.{MatchResult, IsErrAnd}
 use Rattle.std.specs.Int.NonZero.{non_zero_u64_get}
 use Rattle.std.proofs.lemmas.Bool.Decides.{nat_tests}
 use Rattle.std.proofs.lemmas.Result.{err_from_is_err_and}
+use lib.ListN.{take}
 use Rattle.calls.specs.Answers.{read_call}
+use Rattle.calls.specs.Place.{place_tests}
+use Rattle.calls.specs.Refusals.{verdict}
 use Rattle.format.specs.Checksums.{Names}
 use Rattle.format.specs.declared.checksums.ChecksumOption.{ChecksumOption}
 use Rattle.format.specs.declared.checksums.UnknownOption.{UnknownOption}
 use Rattle.reader.specs.declared.refusal.Refusal.{Refusal}
 use Rattle.reader.specs.declared.refusal.Refusal.TheVariants as variants
-use Rattle.place_tests.proofs.RefusalLaws.{first_tests}
+use Rattle.reader.specs.PieceLists.{pieces_of}
+use Rattle.reader.specs.declared.pieces.Pieces.{Pieces}
+use Rattle.reader.specs.declared.read_list.ReadList.{ReadList}
+use Rattle.place_tests.specs.Called.{Called}
+use Rattle.place_tests.proofs.RefusalLaws.{first_refusal, first_tests}
 use Rattle.place_tests.proofs.asked.Placement.refuse_requests.Goals as goal
+
+-- the first of refusals 4 to 9, by what the code holds
+first : {r : ReadList} {ps : Pieces} → Called r ps → verdict (take 6 (place_tests (read_call r.list.now))) ≡ first_refusal (pieces_of ps) r.head
+first {r} q = first_tests (read_call r.list.now) r.head q.head q.pieces
 
 -- refusal 4: a bucket has no sectors
 none-told : {T : Type 0} (get : T → ℕ) (o : Option T) {n : ℕ} {e : Refusal} → MatchOption o (n ≡ 0) (λ x. get x ≡ n)
@@ -27,40 +38,28 @@ unknown-told (Err u) Q n m w = (n.1, (u, rw w at m))
 
 pub returns-in_err-sectors-clause-refusal : goal.returns-in_err-sectors-clause-refusal
 returns-in_err-sectors-clause-refusal c =
-    let p = c.args.self.now in
     let r = err_from_is_err_and c.from_residual.result c.from_residual.ensures.1 in
     let t = none-told non_zero_u64_get c.new.result c.new.ensures c.in_err-sectors.ensures.value in
-    rw (r.1, r.2, t.1, first_tests (read_call p.read.now.list.now) p.read.now.head p.called.head p.called.pieces) (grind (arith, nat_tests, t.0))
+    rw (r.1, r.2, t.1, first c.args.self.now.called) (grind (arith, nat_tests, t.0))
 
 pub returns-in_err-option-clause-refusal : goal.returns-in_err-option-clause-refusal
 returns-in_err-option-clause-refusal c =
-    let p = c.args.self.now in
     let r = err_from_is_err_and c.from_residual-in_err-option.result c.from_residual-in_err-option.ensures.1 in
     let t = unknown-told c.try_from.result _ c.try_from.ensures c.map_err.ensures.cases c.in_err-option.was in
     let told : c.in_err-option.field-0.0 ≡ variants.ChecksumOption = let q = t.1.1 in search (rules, of_calls) in
-    rw (r.1, r.2, told, first_tests (read_call p.read.now.list.now) p.read.now.head p.called.head p.called.pieces) (grind (arith, nat_tests, t.0))
+    rw (r.1, r.2, told, first c.args.self.now.called) (grind (arith, nat_tests, t.0))
 
 pub returns-then-not-kinds_listed-clause-refusal : goal.returns-then-not-kinds_listed-clause-refusal
-returns-then-not-kinds_listed-clause-refusal c =
-    let p = c.args.self.now in
-    rw (first_tests (read_call p.read.now.list.now) p.read.now.head p.called.head p.called.pieces) (grind (arith, nat_tests))
+returns-then-not-kinds_listed-clause-refusal c = rw (first c.args.self.now.called) (grind (arith, nat_tests))
 
 pub returns-then-not-option_fits-clause-refusal : goal.returns-then-not-option_fits-clause-refusal
-returns-then-not-option_fits-clause-refusal c =
-    let p = c.args.self.now in
-    rw (first_tests (read_call p.read.now.list.now) p.read.now.head p.called.head p.called.pieces) (grind (arith, nat_tests))
+returns-then-not-option_fits-clause-refusal c = rw (first c.args.self.now.called) (grind (arith, nat_tests))
 
 pub returns-then-not-block_fits-clause-refusal : goal.returns-then-not-block_fits-clause-refusal
-returns-then-not-block_fits-clause-refusal c =
-    let p = c.args.self.now in
-    rw (first_tests (read_call p.read.now.list.now) p.read.now.head p.called.head p.called.pieces) (grind (arith, nat_tests))
+returns-then-not-block_fits-clause-refusal c = rw (first c.args.self.now.called) (grind (arith, nat_tests))
 
 pub returns-then-not-pieces_sized-clause-refusal : goal.returns-then-not-pieces_sized-clause-refusal
-returns-then-not-pieces_sized-clause-refusal c =
-    let p = c.args.self.now in
-    rw (first_tests (read_call p.read.now.list.now) p.read.now.head p.called.head p.called.pieces) (grind (arith, nat_tests))
+returns-then-not-pieces_sized-clause-refusal c = rw (first c.args.self.now.called) (grind (arith, nat_tests))
 
 pub returns-clause-refusal : goal.returns-clause-refusal
-returns-clause-refusal c =
-    let p = c.args.self.now in
-    rw (first_tests (read_call p.read.now.list.now) p.read.now.head p.called.head p.called.pieces) (grind (arith, nat_tests))
+returns-clause-refusal c = rw (first c.args.self.now.called) (grind (arith, nat_tests))
