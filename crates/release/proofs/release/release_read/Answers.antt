@@ -7,7 +7,7 @@ pub release_lists-requires-clause-ascend : goal.release_lists-requires-clause-as
 release_lists-requires-clause-ascend c = read-ascend c.requires.0
 
 pub release_lists-requires-clause-requested : goal.release_lists-requires-clause-requested
-release_lists-requires-clause-requested c = let p = read-requested c.requires.0 in (p.0, p.1, c.requires.1)
+release_lists-requires-clause-requested c = read-requested c.requires.0
 
 pub returns : goal.returns
 returns c =

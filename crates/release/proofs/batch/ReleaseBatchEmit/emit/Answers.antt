@@ -15,7 +15,7 @@ put_rows-requires c =
 pub returns : goal.returns
 returns c =
     let d = c.self.invariant in
-    let g = c.self.inside.held.table.read in
+    let g = c.self.inside.held.freed.read in
     let u = c.unused_in-unused in
     let lrus = then _ _ _ c.put_allocs.ensures c.put_lrus.ensures in
     let waits = then _ _ _ lrus c.put_need_discards.ensures in
