@@ -5,9 +5,9 @@ use Rattle.std.proofs.Common.{Some}
 use mathlib.Core.List.{List, [], ◌∷◌, ◌++◌, map}
 use Prim.Native.Nat.{ℕ, suc, ◌≤◌, ◌<◌}
 use native.Mathlib.Omega.{arith}
-use lib.ListN.{length, get_or, take, drop, replicate, length-append, length-drop, length-replicate, get_or-append}
+use lib.ListN.{length, get_or, take, drop, replicate, length-replicate}
 use lib.Seq.{drop_at}
-use borrow.Author.Tests.{le-leb, lt-leb, lt-ltb, le-ltb, ltb-true}
+use borrow.Author.Tests.{le-leb, lt-leb, lt-ltb, le-ltb}
 use Rattle.wire.specs.Keys.{Key}
 use Rattle.calls.specs.CallList as calls
 use Rattle.calls.specs.CallList.{Volume, Freed, freed_of, keys_ok, keys_ascend, snapshots_ok, call_laid_out, none_twice}

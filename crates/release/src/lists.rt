@@ -42,12 +42,13 @@ fn release_table(table: FreedTable, out: &mut [u8]) -> Result<usize, Refusal>
 // The answer after refusals 1, 2, 22 and 3, and the scratch, which is left cleared. The reader shows what is required.
 pub fn release_lists(
     read: &ReadList,
-    scratch: ClearedScratch,
+    scratch: &mut ClearedScratch,
     out: &mut [u8],
 ) -> Result<usize, Refusal>
     requires ascend { keys_ascend (keys_listed read.now.alloc) ≡ true }
     requires requested { Requested read.now.list.now read.now.requests.now × (length read.now.requests.now ≤ 1024) }
-    ensures { (made_by result out.new ≡ outcome (answer (release_tests (volume_in read.now) (requests_in read.now)) (change_of read.now) (length out.old)) out.old) × (scratch.exit.0.now ≡ replicate 65536 0 ++ drop 65536 scratch.entry.sums.now) }
+    ensures same_reference { scratch.new.sums.ghost_name ≡ scratch.old.sums.ghost_name }
+    ensures answered { (made_by result out.new ≡ outcome (answer (release_tests (volume_in read.now) (requests_in read.now)) (change_of read.now) (length out.old)) out.old) × (scratch.new.sums.now ≡ replicate 65536 0 ++ drop 65536 scratch.old.sums.now) }
 {
     let sectors = NonZero::<u64>::new(read.head.bucket_sectors as u64).ok_or(Refusal::NoSectors)?;
     if !Freeds::of(read).all_ok(sectors) {

@@ -18,7 +18,7 @@ fn release_read(read: &ReadList, scratch: &mut [u32], out: &mut [u8]) -> Result<
     requires { ReadAs (Some 2) read.now × Cleared scratch.old }
     ensures { (made_by result out.new ≡ outcome (release read.now.list.now (length scratch.old) (length out.old)) out.old) × (scratch.new ≡ scratch_after scratch.old) }
 {
-    lists::release_lists(read, ClearedScratch { sums: scratch }, out)
+    lists::release_lists(read, &mut ClearedScratch { sums: scratch }, out)
 }
 
 // Release: for any list, scratch and output, how many bytes are written or the refusal, the output and the scratch that the definition gives.

@@ -77,13 +77,14 @@ fn list_sums<'a>(
 pub fn list_freed<'a>(
     read: ReadList<'a>,
     bucket_sectors: NonZero<u64>,
-    scratch: ClearedScratch,
+    scratch: &mut ClearedScratch,
     buckets: &'a mut [FreedBucket; 1024],
 ) -> FreedTable<'a>
     requires { RequestsChecked read × (keys_ascend (keys_listed read.alloc) ≡ true) × (non_zero_u64_get bucket_sectors ≡ read.head.bucket_sectors) }
-    ensures { (result.read ≡ read.entry) × (scratch.exit.0.now ≡ replicate 65536 0 ++ drop 65536 scratch.entry.sums.now) }
+    ensures same_reference { scratch.new.sums.ghost_name ≡ scratch.old.sums.ghost_name }
+    ensures tabled { (result.read ≡ read.entry) × (scratch.new.sums.now ≡ replicate 65536 0 ++ drop 65536 scratch.old.sums.now) }
 {
-    let ClearedScratch { sums: lent, .. } = scratch;
+    let lent = &mut *scratch.sums;
     let mut sums = Sums::new(lent);
     sums.add_up(Freeds::of(&read), bucket_sectors);
     let alloc = AscendingKeys { keys: read.alloc };

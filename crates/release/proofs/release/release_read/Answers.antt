@@ -12,5 +12,5 @@ release_lists-requires-clause-requested c = read-requested c.requires.0
 pub returns : goal.returns
 returns c =
     let l = c.requires.1.long in
-    let e = c.release_lists.ensures in
-    (read-outcome c.requires.0 _ l c.args.out.now e.0, e.1 ∙ sym (scratch-long _ l))
+    let e = c.release_lists.ensures.answered in
+    (read-outcome c.requires.0 _ l c.args.out.now e.0, c.scratch-1.given.1.1 (sym c.release_lists.ensures.same_reference) ∙ e.1 ∙ sym (scratch-long _ l))

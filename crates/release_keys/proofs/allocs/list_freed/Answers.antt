@@ -31,12 +31,12 @@ invariant_of-scratch c =
     let name = t.0.0 ∙ c.add_up.ensures.same_reference ∙ c.new-sums.ensures.same_reference in
     let past = t.0.1 ∙ c.add_up.ensures.summed.1 ∙ ap (drop 65536) c.new-sums.ensures.same_sums in
     record {
-      cleared = cleared c.args.scratch.sums.now _ c.args.scratch.cleared.long (c.lent-1.given.1.1 (sym name) ∙ all-taken c.list_sums-buckets.new.sums.sums.now c.args.scratch.sums.now t.1 past);
+      cleared = cleared c.args.scratch.now.sums.now _ c.args.scratch.now.cleared.long (c.lent-2-1.given.1.1 (sym name) ∙ all-taken c.list_sums-buckets.new.sums.sums.now c.args.scratch.now.sums.now t.1 past);
     }
 
-pub returns : goal.returns
-returns c =
+pub returns-clause-tabled : goal.returns-clause-tabled
+returns-clause-tabled c =
     let t = c.list_sums-buckets.ensures.table in
     let name = t.0.0 ∙ c.add_up.ensures.same_reference ∙ c.new-sums.ensures.same_reference in
     let past = t.0.1 ∙ c.add_up.ensures.summed.1 ∙ ap (drop 65536) c.new-sums.ensures.same_sums in
-    (refl, c.lent-1.given.1.1 (sym name) ∙ all-taken c.list_sums-buckets.new.sums.sums.now c.args.scratch.sums.now t.1 past)
+    (refl, c.lent-2-1.given.1.1 (sym name) ∙ all-taken c.list_sums-buckets.new.sums.sums.now c.args.scratch.now.sums.now t.1 past)
