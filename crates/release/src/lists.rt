@@ -23,7 +23,7 @@ use release_sums::sums::ClearedScratch;
 use std::num::NonZero;
 use wire::kinds::Bucket;
 
-// The answer where the freed buckets are listed: refusals 15 to 19, and what follows.
+// The answer where the freed buckets are listed: refusals 15 to 19, then the change list, or 21.
 fn release_table(table: FreedTable, out: &mut [u8]) -> Result<usize, Refusal>
     ensures { made_by result out.new ≡ outcome (answer (bucket_tests (volume_in table.entry.read) (requests_in table.entry.read)) (change_of table.entry.read) (length out.old)) out.old }
 {

@@ -26,7 +26,7 @@ fn release_read(read: &ReadList, scratch: &mut [u32], out: &mut [u8]) -> Result<
 pub fn release(list: &[u8], scratch: &mut [u32], out: &mut [u8]) -> Result<usize, Refusal>
     ensures { (made_by result out.new ≡ outcome (release list.now (length scratch.old) (length out.old)) out.old) × (scratch.new ≡ scratch_after scratch.old) }
 {
-    if scratch.len() < 65536 {
+    if scratch.len() < sums::BUCKETS {
         return Err(Refusal::ShortScratch);
     }
     sums::clear(scratch);

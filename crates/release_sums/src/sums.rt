@@ -8,7 +8,7 @@ use wire::kinds;
 use wire::kinds::Bucket;
 
 // How many sums there are: one for each bucket that a device may have.
-const BUCKETS: usize = 65536;
+pub const BUCKETS: usize = 65536;
 
 // How many buckets have one mark.
 const GROUP: usize = 64;
