@@ -9,19 +9,19 @@ use format::data_types::DataType;
 use wire::output::Output;
 use wire::rows;
 
-// What a release tells: the buckets emptied, the sectors freed, those of them in buckets that stay, and the unused sectors of the buckets emptied.
+// What the rows of a release are made of: the buckets emptied, the sectors freed, the unused sectors that come to buckets that stay, and those that the buckets emptied had.
 #[derive(Clone, Copy, Drop)]
 pub struct Amounts {
     pub emptied: u64,
     pub total: u64,
-    pub kept: u64,
-    pub lost: u64,
+    pub added: u64,
+    pub removed: u64,
 }
 
 // User sectors, user buckets and buckets that wait for discard. What counts the amounts shows their bounds.
 pub fn put_rows(out: &mut Output, a: Amounts)
-    requires { (a.emptied < 2 ^ 62) × (a.total < 2 ^ 62) × (a.kept < 2 ^ 62) × (a.lost < 2 ^ 62) }
-    ensures { out.new ≡ with_bytes out.old (rows_bytes (sectors_row (neg_ℤ (pos a.total)) ∷ buckets_row 4 (neg_ℤ (pos a.emptied)) (neg_ℤ (pos a.total)) (pos a.kept +ℤ neg_ℤ (pos a.lost)) ∷ buckets_row 9 (pos a.emptied) (pos 0) (pos 0) ∷ [])) }
+    requires { (a.emptied < 2 ^ 62) × (a.total < 2 ^ 62) × (a.added < 2 ^ 62) × (a.removed < 2 ^ 62) }
+    ensures { out.new ≡ with_bytes out.old (rows_bytes (sectors_row (neg_ℤ (pos a.total)) ∷ buckets_row 4 (neg_ℤ (pos a.emptied)) (neg_ℤ (pos a.total)) (pos a.added +ℤ neg_ℤ (pos a.removed)) ∷ buckets_row 9 (pos a.emptied) (pos 0) (pos 0) ∷ [])) }
 {
     let freed = rows::minus(a.total);
     counters::put_sectors_row(out, freed);
@@ -30,7 +30,7 @@ pub fn put_rows(out: &mut Output, a: Amounts)
         DataType::User.number(),
         rows::minus(a.emptied),
         freed,
-        counters::difference(a.kept, a.lost),
+        counters::difference(a.added, a.removed),
     );
     counters::put_buckets_row(
         out,

@@ -43,7 +43,7 @@ fn read_freed(s: &[u8], at: usize) -> Freed
     }
 }
 
-// Refusal 14 at one piece. Two bytes of a field show the bound, here and below.
+// Refusal 14 at one piece. Two bytes of a field show the bound.
 #[tactic(auto, unfolding(calls::specs::Release::freed_ok))]
 fn freed_ok(r: Freed, sectors: NonZero<u64>) -> bool
     requires { non_zero_u64_get sectors < 65536 }
@@ -76,7 +76,7 @@ impl<'a> Freeds<'a> {
         FreedsLeft { freeds: self }
     }
 
-    // Refusal 14: whether every piece lies within its bucket.
+    // Refusal 14: whether every piece lies within its bucket. Two bytes of a field show the bound.
     pub fn all_ok(self, sectors: NonZero<u64>) -> bool
         requires { non_zero_u64_get sectors < 65536 }
         ensures { result ≡ all_of (freed_ok (non_zero_u64_get sectors)) (freeds_of self.entry) }

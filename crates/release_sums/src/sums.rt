@@ -8,7 +8,7 @@ use wire::kinds;
 use wire::kinds::Bucket;
 
 // How many sums there are: one for each bucket that a device may have.
-const BUCKETS: usize = 65536;
+pub const BUCKETS: usize = 65536;
 
 // How many buckets have one mark.
 const GROUP: usize = 64;
@@ -55,20 +55,21 @@ impl<'a> Sums<'a> {
     ghost use Rattle.release_sums.specs.FreedsOf.{freeds_of};
     ghost use Rattle.release_sums.specs.Summing.{Summed};
 
-    // The table with no group marked, and no sum taken out.
-    pub fn new(scratch: ClearedScratch<'a>) -> Sums<'a>
-        ensures same_reference { result.sums.ghost_name ≡ scratch.entry.sums.ghost_name }
-        ensures same_sums { result.sums.now ≡ scratch.entry.sums.now }
+    // The table with no group marked, and no sum taken out. `ClearedScratch` shows what is required.
+    pub fn new(sums: &'a mut [u32]) -> Sums<'a>
+        requires { Cleared sums.old }
+        ensures same_reference { result.sums.ghost_name ≡ sums.entry.ghost_name }
+        ensures same_sums { result.sums.now ≡ sums.old }
         ensures none_taken { result.next ≡ 0 }
     {
         Sums {
-            sums: scratch.sums,
+            sums,
             marks: [false; BUCKETS / GROUP],
             next: 0,
         }
     }
 
-    // Adds each piece's sectors to the sum of its bucket, and marks its group. Refusal 14, the limits and `clear` show what is required.
+    // Adds each piece's sectors to the sum of its bucket, and marks its group. Refusal 14, the limits and `ClearedScratch` show what is required.
     pub fn add_up(&mut self, freeds: Freeds, sectors: NonZero<u64>)
         requires { (length (freeds_of freeds) ≤ 1024) × (all_of (freed_ok (non_zero_u64_get sectors)) (freeds_of freeds) ≡ true) × Cleared self.old.sums.now × (self.old.next ≡ 0) }
         ensures same_reference { self.new.sums.ghost_name ≡ self.old.sums.ghost_name }
