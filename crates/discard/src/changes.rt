@@ -28,6 +28,7 @@ pub fn discard_freed(out: &mut Output, size: NonZero<u32>, d: &Discarded)
     ensures { out.new ≡ with_bytes out.old (changes_from d.now.waiting.now (non_zero_u32_get size) (keys_listed d.now.keys)) }
 {
     for places in d.keys.places.chunks(size.get() as usize) {
+        // Made here and not by an iterator over chunks of `Keys`: this is the one place that cuts keys, and the iterator would have these two facts stated and proved besides.
         let keys = Keys {
             list: d.keys.list,
             places,
