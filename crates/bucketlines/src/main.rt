@@ -11,7 +11,7 @@ use std::io;
 use std::io::Read;
 
 // Reads until the list is full or the input ends, and gives how many bytes stand at its start: those that the input had next. A read that fails ends
-// it with that error. The read alone tells how far a turn comes, so that the loop is a `while`.
+// it with that error. By `while`: `read_exact` fails at a shorter list, and `read_to_end` wants a `Vec`, where the project has no heap.
 fn read_list<R: Read>(input: &mut R, list: &mut [u8]) -> io::Result<usize>
     ensures within { IfOk result (λ n. IsPrefixLen n list.new) }
     ensures bytes { IfOk result (λ n. Consumes (R.remaining input.old) (R.remaining input.new) (take n list.new)) }

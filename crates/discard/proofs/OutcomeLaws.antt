@@ -2,7 +2,13 @@
 use Prim.Native.Nat.{ℕ, ◌≤◌, ◌<◌}
 use mathlib.Core.Path.{◌≡◌, refl, sym, ap, ◌∙◌, subst}
 use mathlib.Core.Bool.{true, not, ◌||◌}
-use Rattle.std.proofs.Common.{Some}
+use Rattle.std.specs.Int.NonZero.{non_zero_u32_get}
+use Rattle.std.specs.Option.{ok_or}
+use Rattle.std.specs.Result.{result_ok}
+use Rattle.std.specs.declared.num.NonZeroU32.{NonZeroU32}
+use Rattle.std.proofs.Common.{Some, Option, Result, Ok, Err, MatchOption}
+use Rattle.std.proofs.lemmas.Option.{MatchOption-at_some, MatchOption-at_none}
+use Rattle.reader.specs.declared.refusal.Refusal.{Refusal}
 use mathlib.Core.List.{List, [], ◌∷◌, map}
 use native.Mathlib.Omega.{arith}
 use lib.Dec.{eqb}
@@ -120,16 +126,29 @@ module _ (s : List ℕ) (room : ℕ) where
     pub discard-after : ((read_volume s).head.batch ≡ 0 → ⊥) → discard s room ≡ answer [] bytes room
     discard-after b = read_past ∙ answer-next batch20 [] bytes room (rw (ne_eqb (read_volume s).head.batch 0 b))
 
--- a list that was read, with a batch that is not 0
-pub read-ready : {r : ReadList} → ReadAs (Some 3) r → (r.head.batch ≡ 0 → ⊥) → DiscardGiven r
-read-ready {r} q b =
+-- how many keys a batch has, where that is some
+module _ {n : ℕ} {o : Option NonZeroU32} {r : Result NonZeroU32 Refusal} (made_of : MatchOption o (n ≡ 0) (λ x. non_zero_u32_get x ≡ n)) (is : o ≡ result_ok r) where
+  pub size-some : {x : NonZeroU32} → r ≡ Ok x → (non_zero_u32_get x ≡ n) × (n ≡ 0 → ⊥)
+  size-some {x} e =
+      let same = MatchOption-at_some (n ≡ 0) (λ y. non_zero_u32_get y ≡ n) x (is ∙ ap result_ok e) made_of in
+      (same, λ z. omega (arith, z, same, x.ok))
+
+  pub size-none : {x y : Refusal} → r ≡ ok_or o y → r ≡ Err x → (x ≡ y) × (n ≡ 0)
+  size-none {x} {y} v e =
+      let none = is ∙ ap result_ok e in
+      let same : Err x ≡ ok_or o y = sym e ∙ v in
+      let err : x ≡ y = cc in
+      (err, MatchOption-at_none (n ≡ 0) (λ a. non_zero_u32_get a ≡ n) none made_of)
+
+-- a list that was read
+pub read-ready : {r : ReadList} → ReadAs (Some 3) r → DiscardGiven r
+read-ready {r} q =
     let s = r.list.now in
     record {
       headed = q.read.head;
       allocs = q.read.alloc.are;
       needs = q.read.need_discard.are;
       within = (list-within (read_call s) (passed 3 s q.passed).within).0;
-      batched = b;
     }
 
 -- what is chosen is shown to be discarded

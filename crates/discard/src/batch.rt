@@ -31,7 +31,7 @@ pub struct Discarded<'a, 'w> {
     pub ghost shown: { DiscardShown (keys_listed keys) },
 }
 
-// An alloc key, its value discarded. `Discarded` shows what is required of the key, here and below.
+// An alloc key, its value discarded. `Discarded` shows what is required of the key.
 fn put_alloc_key(out: &mut Output, key: &ListedKey)
     requires { DiscardedKept (key_listed key.now) }
     ensures { out.new ≡ with_bytes out.old (encode_field (key_field 4 (discarded_key (key_listed key.now)))) }
@@ -41,7 +41,7 @@ fn put_alloc_key(out: &mut Output, key: &ListedKey)
     out.put_key(Tree::Alloc.tag(), &k);
 }
 
-// The deletion of the need-discard key that stands for the bucket of an alloc key.
+// The deletion of the need-discard key that stands for the bucket of an alloc key. `Discarded` shows what is required of the key.
 fn put_waiting(out: &mut Output, waiting: &Waiting, key: &ListedKey)
     requires { DiscardedKept (key_listed key.now) }
     ensures { out.new ≡ with_bytes out.old (keys_bytes 12 (waiting_deletions waiting.now (bucket_in (key_listed key.now).pos))) }

@@ -1,5 +1,6 @@
 // All batches of a discard (discard_freed), and its answer.
-ghost use Rattle.std.specs.Prelude.{◌≡◌, ◌≤◌, ◌<◌, [], length};
+ghost use Rattle.std.specs.Int.NonZero.{non_zero_u32_get};
+ghost use Rattle.std.specs.Prelude.{◌≡◌, ◌≤◌, [], length};
 ghost use Rattle.wire.specs.Output.{with_bytes};
 ghost use Rattle.calls.specs.ChangeList.{change_bytes};
 ghost use Rattle.calls.specs.Discard.{discard_batches};
@@ -19,14 +20,15 @@ use reader::listed_keys::Keys;
 use reader::read_list::ReadList;
 use reader::refusal::Refusal;
 use std::marker::Model;
+use std::num::NonZero;
 use wire::output::Output;
 
-// The batches, in alloc order. Refusal 20 shows that a batch has a key, here and below.
-pub fn discard_freed(out: &mut Output, size: u32, d: &Discarded)
-    requires { 0 < size }
-    ensures { out.new ≡ with_bytes out.old (changes_from d.now.waiting.now size (keys_listed d.now.keys)) }
+// The batches, in alloc order.
+pub fn discard_freed(out: &mut Output, size: NonZero<u32>, d: &Discarded)
+    ensures { out.new ≡ with_bytes out.old (changes_from d.now.waiting.now (non_zero_u32_get size) (keys_listed d.now.keys)) }
 {
-    for places in d.keys.places.chunks(size as usize) {
+    for places in d.keys.places.chunks(size.get() as usize) {
+        // Made here and not by an iterator over chunks of `Keys`: this is the one place that cuts keys, and the iterator would have these two facts stated and proved besides.
         let keys = Keys {
             list: d.keys.list,
             places,
@@ -42,7 +44,7 @@ pub fn discard_freed(out: &mut Output, size: u32, d: &Discarded)
 // The changes of a discard. A clause sees their bytes.
 #[derive(Drop)]
 pub struct Changes<'a, 'w> {
-    size: u32,
+    size: NonZero<u32>,
     discarded: Discarded<'a, 'w>,
 }
 
@@ -51,18 +53,15 @@ impl<'a, 'w> Model for Changes<'a, 'w> {
 
     ghost Value = { List ℕ };
 
-    ghost use Rattle.discard.specs.ChangesView.{changes_view, IsChanges};
+    ghost use Rattle.discard.specs.ChangesView.{changes_view};
 
     ghost view = { changes_view };
-
-    ghost invariant = { IsChanges };
 }
 
 impl<'a, 'w> Changes<'a, 'w> {
     // The changes in batches of a size.
-    pub fn new(size: u32, d: Discarded<'a, 'w>) -> Changes<'a, 'w>
-        requires { 0 < size }
-        ensures { result ≡ changes_from d.entry.waiting.now size (keys_listed d.entry.keys) }
+    pub fn new(size: NonZero<u32>, d: Discarded<'a, 'w>) -> Changes<'a, 'w>
+        ensures { result ≡ changes_from d.entry.waiting.now (non_zero_u32_get size) (keys_listed d.entry.keys) }
     {
         Changes { size, discarded: d }
     }
@@ -76,47 +75,53 @@ impl<'a, 'w> Emit for Changes<'a, 'w> {
     }
 }
 
-// The answer to a discard, with room for the places of N alloc keys. `discard_lists` shows what is required.
+// A list of a discard that was read, and how many keys a batch has, which refusal 20 shows to be some. The reader shows what is said of the list.
+#[derive(Clone, Copy, Drop)]
+pub struct DiscardList<'a> {
+    pub read: ReadList<'a>,
+    pub size: NonZero<u32>,
+    pub ghost given: { DiscardGiven read },
+    pub ghost same_size: { non_zero_u32_get size ≡ read.head.batch },
+}
+
+// The answer to a discard, with room for the places of N alloc keys. Who chooses N shows the bounds.
 fn discard_within<const N: usize>(
-    read: &ReadList,
+    list: &DiscardList,
     waiting: &Waiting,
     out: &mut [u8],
 ) -> Result<usize, Refusal>
-    requires { DiscardGiven read.now × (waiting.now ≡ keys_listed read.now.need_discard) × (length read.now.alloc.places.now ≤ N) × (N ≤ 4096) }
-    ensures { made_by result out.new ≡ outcome (answer [] (change_bytes (discard_batches (read_volume read.now.list.now))) (length out.old)) out.old }
+    requires { (waiting.now ≡ keys_listed list.now.read.need_discard) × (length list.now.read.alloc.places.now ≤ N) × (N ≤ 4096) }
+    ensures { made_by result out.new ≡ outcome (answer [] (change_bytes (discard_batches (read_volume list.now.read.list.now))) (length out.old)) out.old }
 {
     let mut room = [0u32; N];
     let d = Discarded {
-        keys: discarded::discarded_keys(&mut room, read.alloc, waiting),
+        keys: discarded::discarded_keys(&mut room, list.read.alloc, waiting),
         waiting,
     };
-    answer::written(&Changes::new(read.head.batch, d), out)
+    answer::written(&Changes::new(list.size, d), out)
 }
 
-// The answer with a table of the need-discard keys. `discard_lists` shows what is required.
+// The answer with a table of the need-discard keys, which is in no frame but this one: to a short list no call has its 128 KiB.
 #[inline(never)]
-fn discard_tabled(read: &ReadList, out: &mut [u8]) -> Result<usize, Refusal>
-    requires { DiscardGiven read.now }
-    ensures { made_by result out.new ≡ outcome (answer [] (change_bytes (discard_batches (read_volume read.now.list.now))) (length out.old)) out.old }
+fn discard_tabled(list: &DiscardList, out: &mut [u8]) -> Result<usize, Refusal>
+    ensures { made_by result out.new ≡ outcome (answer [] (change_bytes (discard_batches (read_volume list.now.read.list.now))) (length out.old)) out.old }
 {
     let mut table = [0u16; 65536];
-    let waiting = Waiting::tabled(read.need_discard, &mut table);
-    if read.alloc.len() <= 64 {
-        discard_within::<64>(read, &waiting, out)
+    let waiting = Waiting::tabled(list.read.need_discard, &mut table);
+    if list.read.alloc.len() <= 64 {
+        discard_within::<64>(list, &waiting, out)
     } else {
-        discard_within::<4096>(read, &waiting, out)
+        discard_within::<4096>(list, &waiting, out)
     }
 }
 
-// The answer to a discard whose list passed refusals 2, 22, 3 and 20, which the reader and its caller show. Few alloc keys have a small room, and with few
-// need-discard keys no table.
-pub fn discard_lists(read: &ReadList, out: &mut [u8]) -> Result<usize, Refusal>
-    requires { DiscardGiven read.now }
-    ensures { made_by result out.new ≡ outcome (answer [] (change_bytes (discard_batches (read_volume read.now.list.now))) (length out.old)) out.old }
+// The answer to a discard. Few alloc keys have a small room, and with few need-discard keys no table.
+pub fn discard_lists(list: &DiscardList, out: &mut [u8]) -> Result<usize, Refusal>
+    ensures { made_by result out.new ≡ outcome (answer [] (change_bytes (discard_batches (read_volume list.now.read.list.now))) (length out.old)) out.old }
 {
-    if read.alloc.len() <= 64 && read.need_discard.len() <= 16 {
-        let waiting = Waiting::searched(read.need_discard);
-        return discard_within::<64>(read, &waiting, out);
+    if list.read.alloc.len() <= 64 && list.read.need_discard.len() <= 16 {
+        let waiting = Waiting::searched(list.read.need_discard);
+        return discard_within::<64>(list, &waiting, out);
     }
-    discard_tabled(read, out)
+    discard_tabled(list, out)
 }

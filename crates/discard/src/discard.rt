@@ -5,20 +5,21 @@ ghost use Rattle.reader.specs.Readings.{ReadAs};
 ghost use Rattle.reader.specs.Refusals.{made_by};
 
 use crate::changes;
+use crate::changes::DiscardList;
 use reader::call;
 use reader::call_kinds::Call;
 use reader::read_list::ReadList;
 use reader::refusal::Refusal;
+use std::num::NonZero;
 
 // The answer to a list that was read: 20, or its changes.
 fn discard_read(read: &ReadList, out: &mut [u8]) -> Result<usize, Refusal>
     requires { ReadAs (Some 3) read.now }
     ensures { made_by result out.new ≡ outcome (discard read.now.list.now (length out.old)) out.old }
 {
-    if read.head.batch == 0 {
-        return Err(Refusal::NoBatch);
-    }
-    changes::discard_lists(read, out)
+    let size = NonZero::<u32>::new(read.head.batch).ok_or(Refusal::NoBatch)?;
+    let list = DiscardList { read: *read, size };
+    changes::discard_lists(&list, out)
 }
 
 // Discard: for any list and any output, how many bytes are written or the refusal, and the output, that the definition gives.

@@ -11,6 +11,12 @@ use Rattle.calls.proofs.lists.MapLaws.{drop-set}
 use borrow.Author.Tests.{lt-ltb, le-ltb}
 use Rattle.calls.proofs.lists.BoolLaws.{cond-most}
 use Rattle.std.specs.Prelude.{Option, Some, None, IfNone, IfSome, unwrap_or}
+use lib.IntN.{ℤ, pos, negsuc}
+use lib.Signed.{◌<ℤ◌, ◌≤ℤ◌}
+use mir.Syntax.{w64}
+use mir.Val.{SFits, of_z}
+use Rattle.std.specs.Int.RustNames.{unsigned_abs}
+use Rattle.std.proofs.lemmas.Int.{ints}
 use Rattle.lines.specs.Digits.{digit, last_digits, width, decimal, signed}
 
 -- digits that are stored from the last on: from index `from` on they stand, and `rest` has those before
@@ -86,11 +92,16 @@ unfolding width
 width-most zero n = omega arith
 width-most (suc k) n = cond-most (ltb n 10) (omega arith) (omega (arith, width-most k (n / 10)))
 
--- a two's complement from 0 on, and below 0
-pub signed-plus : (n : ℕ) → n < 2 ^ 63 → decimal n ≡ signed n
+-- a signed number from 0 on, and below 0
+pub signed-plus : (z : ℤ) → SFits w64 z → pos 0 ≤ℤ z → decimal (unsigned_abs z) ≡ signed (of_z w64 z)
 unfolding signed
-signed-plus n h = rw (lt-ltb n (2 ^ 63) h)
+signed-plus (pos n) f h = let l : n < 2 ^ 63 = omega (arith, f.sfits) in rw (lt-ltb n (2 ^ 63) l)
+signed-plus (negsuc n) f h = absurd (omega (arith, ints, h))
 
-pub signed-minus : (n m : ℕ) → 2 ^ 63 ≤ n → m ≡ 2 ^ 64 - n → 45 ∷ decimal m ≡ signed n
+pub signed-minus : (z : ℤ) → SFits w64 z → z <ℤ pos 0 → 45 ∷ decimal (unsigned_abs z) ≡ signed (of_z w64 z)
 unfolding signed
-signed-minus n m h e = rw (le-ltb n (2 ^ 63) h) (ap (λ (m : ℕ). 45 ∷ decimal m) e)
+signed-minus (pos n) f h = absurd (omega (arith, ints, h))
+signed-minus (negsuc n) f h =
+    let l : 2 ^ 63 ≤ 2 ^ 64 - suc n = omega (arith, f.sfits) in
+    let m : suc n ≡ 2 ^ 64 - (2 ^ 64 - suc n) = omega (arith, f.sfits) in
+    rw (le-ltb (2 ^ 64 - suc n) (2 ^ 63) l) (ap (λ (m : ℕ). 45 ∷ decimal m) m)

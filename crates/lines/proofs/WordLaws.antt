@@ -1,17 +1,21 @@
 -- Laws of words with a blank before each, and of the bytes that they are read from.
-use Prim.Native.Nat.{ℕ, zero, suc, ◌+◌, ◌-◌, ◌*◌, ◌/◌, ◌<◌, min}
+use Prim.Native.Nat.{ℕ, zero, suc, ◌+◌, ◌-◌, ◌*◌, ◌/◌, ◌^◌, ◌<◌, min}
 use mathlib.Core.Path.{◌≡◌, refl, sym, ap, ◌∙◌}
 use mathlib.Core.List.{List, [], ◌∷◌, ◌++◌, append_assoc, append-nil}
 use native.Mathlib.Omega.{arith}
-use lib.ListN.{length, length-append, take, drop, replicate}
+use lib.IntN.{ℤ}
+use lib.ListN.{length, get_or, length-append, take, drop, replicate}
+use mir.Val.{of_z, to_z}
 use Rattle.std.proofs.lemmas.List.{take_at, drop_at, drop-replicate}
+use Rattle.std.proofs.lemmas.Int.{of_z-to_z}
 use Rattle.std.specs.Int.{w64, from_le_bytes}
 use Rattle.std.specs.Simd.{first_chunks}
+use Rattle.wire.specs.Bytes.{Bytes, none}
 use Rattle.wire.specs.Numbers.{le, each}
 use Rattle.wire.specs.declared.output.Output.{Output}
 use Rattle.wire.specs.Output.{with_bytes}
 use Rattle.wire.proofs.AppendLaws.{with-with}
-use Rattle.wire.proofs.NumberLaws.{eight_bytes, le-take}
+use Rattle.wire.proofs.NumberLaws.{all_take, all_drop, eight_bytes, le-bound, le-take}
 use Rattle.lines.specs.Digits.{signed, hexadecimal}
 use Rattle.lines.specs.Lines.{line, blanked, words, numbers}
 
@@ -25,6 +29,19 @@ line-is w (v ∷ ws) =
 -- a number that is read from eight bytes
 pub from-le : (s : List ℕ) → from_le_bytes w64 s ≡ le 8 s
 from-le s = omega (arith, eight_bytes s 0)
+
+-- a signed number that is read from eight bytes: its bits are the number that they hold
+pub signed-read : (s : List ℕ) (z : ℤ) → Bytes s → z ≡ to_z w64 (from_le_bytes w64 s) → of_z w64 (to_z w64 (of_z w64 z)) ≡ le 8 s
+signed-read s z r e =
+    let l : from_le_bytes w64 s < 2 ^ 64 = omega (arith, from-le s, le-bound 8 r) in
+    let b = of_z-to_z w64 (from_le_bytes w64 s) l in
+    ap (λ (z : ℤ). of_z w64 (to_z w64 (of_z w64 z))) e ∙ ap (λ (k : ℕ). of_z w64 (to_z w64 k)) b ∙ b ∙ from-le s
+
+-- chunks of bytes are bytes
+pub chunk-bytes : (n : ℕ) (s : List ℕ) → Bytes s → (i : ℕ) → Bytes (get_or (first_chunks 8 n s) i [])
+chunk-bytes zero s r i = none
+chunk-bytes (suc n) s r zero = all_take 8 r
+chunk-bytes (suc n) s r (suc i) = chunk-bytes n (drop 8 s) (all_drop 8 r) i
 
 le-nil : (n : ℕ) → le n [] ≡ 0
 unfolding le

@@ -1,4 +1,5 @@
 // Words of a line after its first, with a blank before each.
+ghost use Rattle.std.specs.Int.{cast_unsigned, w64};
 ghost use Rattle.std.specs.Prelude.{◌≡◌, ◌+◌, ◌/◌, ◌≤◌, ◌∷◌, length};
 ghost use Rattle.wire.specs.Numbers.{le};
 ghost use Rattle.wire.specs.Output.{with_bytes};
@@ -8,7 +9,7 @@ ghost use Rattle.lines.specs.Lines.{words, numbers, blanked};
 use crate::digits;
 use wire::output::Output;
 
-// A blank and a number in decimal.
+// A blank and a number in decimal. A function for each kind of word: one that takes the word as a closure would leave each of them its contract and a body as long.
 pub fn put_next_decimal(out: &mut Output, n: u64)
     ensures { out.new ≡ with_bytes out.old (32 ∷ decimal n) }
 {
@@ -17,8 +18,8 @@ pub fn put_next_decimal(out: &mut Output, n: u64)
 }
 
 // A blank and a signed number.
-fn put_next_signed(out: &mut Output, n: u64)
-    ensures { out.new ≡ with_bytes out.old (32 ∷ signed n) }
+fn put_next_signed(out: &mut Output, n: i64)
+    ensures { out.new ≡ with_bytes out.old (32 ∷ signed (cast_unsigned w64 n)) }
 {
     out.put_u8(b' ');
     digits::put_signed(out, n);
@@ -48,7 +49,7 @@ pub fn put_numbers(out: &mut Output, s: &[u8])
 {
     let (parts, _) = s.as_chunks::<8>();
     for x in parts {
-        put_next_signed(out, u64::from_le_bytes(*x));
+        put_next_signed(out, i64::from_le_bytes(*x));
     }
 }
 

@@ -1,4 +1,5 @@
-// Numbers as text. Not by `write!`: a `fmt` ensures nothing that a proof can use, so that the bytes would be unknown.
+// Numbers as text. Not by `write!`: what it writes is known where it answers `Ok`, nothing ensures that it does, and these functions cannot fail.
+ghost use Rattle.std.specs.Int.{cast_unsigned, w64};
 ghost use Rattle.std.specs.Prelude.{◌≡◌, ◌<◌, ◌≤◌};
 ghost use Rattle.wire.specs.Output.{with_bytes};
 ghost use Rattle.lines.specs.Digits.{digit, last_digits, width, decimal, signed, hexadecimal};
@@ -10,11 +11,7 @@ fn digit_of(d: u64) -> u8
     requires { d < 16 }
     ensures { result ≡ digit d }
 {
-    if d < 10 {
-        b'0' + d as u8
-    } else {
-        b'a' + (d - 10) as u8
-    }
+    char::from_digit(d as u32, 16).unwrap() as u8
 }
 
 // The last so many digits of a number, the highest first.
@@ -24,7 +21,7 @@ fn put_digits(out: &mut Output, base: u64, count: usize, n: u64)
 {
     let mut text = [0u8; 20];
     let mut rest = n;
-    // By index: nothing is known of what an array holds after `iter_mut().rev()`.
+    // By index: after an adapter of iter_mut nothing is known of an array (Rattle's LIBRARY.md).
     for i in (20 - count..20).rev() {
         text[i] = digit_of(rest % base);
         rest /= base;
@@ -46,15 +43,14 @@ pub fn put_decimal(out: &mut Output, n: u64)
     put_digits(out, 10, width_of(n), n);
 }
 
-// The bits of a signed number, in decimal.
-pub fn put_signed(out: &mut Output, n: u64)
-    ensures { out.new ≡ with_bytes out.old (signed n) }
+// A signed number in decimal.
+pub fn put_signed(out: &mut Output, n: i64)
+    ensures { out.new ≡ with_bytes out.old (signed (cast_unsigned w64 n)) }
 {
-    if n < 0x8000_0000_0000_0000 {
-        return put_decimal(out, n);
+    if n < 0 {
+        out.put_u8(b'-');
     }
-    out.put_u8(b'-');
-    put_decimal(out, n.wrapping_neg());
+    put_decimal(out, n.unsigned_abs());
 }
 
 // A number in 16 hexadecimal digits.

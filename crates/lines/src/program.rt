@@ -29,7 +29,7 @@ fn answer_to(list: &[u8], change: &mut [u8; 65536]) -> Result<usize, Refusal>
     }
 }
 
-// The lines of an answer, whose bytes stand in a buffer. `answer_to` shows what is required.
+// The lines of an answer to a list, whose bytes stand at the front of a buffer. What `answer_to` ensures shows what is required.
 fn put_answer(out: &mut Output, list: &[u8], answer: Result<usize, Refusal>, change: &[u8; 65536])
     requires { AnsweredIn (answer_by_byte list.now) answer change.now }
     ensures { out.new ≡ with_bytes out.old (answer_lines (answer_by_byte list.now)) }
@@ -52,7 +52,7 @@ fn put_bucket_lines(out: &mut Output, list: &[u8])
     put_answer(out, list, answer, &change);
 }
 
-// What is printed for a list, and how many bytes of the text that is.
+// What is printed for a list, and how many bytes of the text that is. A length and not the slice: of what is lent to a result no clause says what it holds after the call, and the rest of the text stands.
 pub fn bucket_lines(list: &[u8], text: &mut [u8; 262144]) -> usize
     ensures { Shown (bucket_lines list.now) text.old text.new result }
 {

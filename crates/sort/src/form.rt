@@ -18,7 +18,7 @@ pub fn put_fields(out: &mut Output, list: &[u8], places: &[u32])
 {
     let mut from: usize = 0;
     let mut end: usize = 0;
-    // Not by `chunk_by`: its closure would have to be callable at any two places, and a field's length can be read only where a field stands.
+    // Not by `chunk_by`: its `can_next` asks for a closure that is callable at any two places, and a field's length can be read only where a field stands.
     for place in places {
         let o = *place as usize;
         if o != end + 3 {
@@ -51,7 +51,7 @@ impl<'a> Model for SortedForm<'a> {
 }
 
 impl<'a> SortedForm<'a> {
-    // The form of a list that was read. The reader's table shows that fields stand at its places.
+    // The form of a list that was read. The reader's table shows that fields stand at its places. By its parts: a `ReadList` would ask for the keys of each tree too, which the form has no need of.
     pub fn new(list: &'a [u8], head: Head, places: &'a [u32]) -> SortedForm<'a>
         requires { All (Placed list.now) places.now }
         ensures { result ≡ form_bytes list.now head places.now }

@@ -10,7 +10,7 @@ use reader::read_list::ReadList;
 use reader::refusal::Refusal;
 use reader::{answer, call, head};
 
-// The answer to a list that was read: 21, or its sorted form, which is as long as the list.
+// The answer to a list that was read: 21, or its sorted form. Not by `answer::written`: the form is as long as the list, so that no run has to count it.
 fn write_form(read: &ReadList, out: &mut [u8]) -> Result<usize, Refusal>
     requires { ReadAs (Some (call_byte read.now.list.now)) read.now }
     ensures { made_by result out.new ≡ outcome (sort read.now.list.now (length out.old)) out.old }

@@ -1,4 +1,4 @@
-// The C boundary: the exported functions, each with the promise of the call of crate zerglaz that it makes, of the number and the count that C is told.
+// The C interface: the exported functions. Each promises what the call of crate zerglaz that it makes promises, of a number and a count, since C has no `Result`.
 #![tactic(auto)]
 
 ghost use Rattle.std.specs.Prelude.{◌≡◌, List, ℕ, length};
@@ -8,7 +8,7 @@ ghost use Rattle.reader.specs.Refusals.{made_by, looked_up_by};
 
 use reader::refusal::Refusal;
 
-// What C is told of an answer: the refusal's number, or 0, and how many bytes were written or keys visited, or 0.
+// What C is told of an answer, since the C interface has no `Result`: the refusal's number, or 0, is answered, and `count` takes how many bytes were written or keys visited, or 0.
 fn told(answer: Result<usize, Refusal>, count: &mut usize) -> u32
     ensures made { (output : List ℕ) → made result count.new output ≡ made_by answer output }
     ensures looked_up { (output : List ℕ) → looked_up result count.new output ≡ looked_up_by answer output }

@@ -1,16 +1,19 @@
-use Rattle.std.proofs.Common.{arith, refl, sym, ap, ◌∙◌, ◌∷◌, [], ℕ, length, ◌/◌}
+use Rattle.std.proofs.Common.{arith, refl, get_or, sym, ap, ◌∙◌, [], length, ◌/◌}
 use Rattle.wire.specs.Numbers.{each}
 use Rattle.wire.specs.Output.{with_bytes}
 use Rattle.wire.proofs.AppendLaws.{loop-turn, loop-end}
-use Rattle.lines.specs.Digits.{signed}
-use Rattle.lines.proofs.WordLaws.{number_word, numbers-parts, from-le}
+use Rattle.wire.proofs.NumberLaws.{bytes-from}
+use Rattle.lines.proofs.WordLaws.{number_word, numbers-parts, chunk-bytes, signed-read}
 use Rattle.lines.proofs.blanks.put_numbers.Goals as goal
 
 pub loop-x-preserved : goal.loop-x-preserved
 unfolding each
 loop-x-preserved c =
     let parts = c.as_chunks.result.0.now in
-    let put = c.put_next_signed.ensures ∙ ap (λ (n : ℕ). with_bytes c.loop-x.out (32 ∷ signed n)) (c.from_le_bytes.ensures ∙ from-le _) in
+    let s = c.args.s.now in
+    let x = get_or parts c.loop-x.x-index [] in
+    let bytes = rw (sym c.as_chunks.ensures.front) at (chunk-bytes (length s / 8) s (bytes-from s (λ i. let h = c.type_inv.s i in omega arith)) c.loop-x.x-index) in
+    let put = rw (signed-read x c.from_le_bytes.result bytes c.from_le_bytes.ensures) at c.put_next_signed.ensures in
     loop-turn (each number_word) parts c.loop-x.x-index [] _ c.loop-x.out c.put_next_signed.new.out (omega arith) refl put ∙ c.loop-x.invariant
 
 pub returns : goal.returns
