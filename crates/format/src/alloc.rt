@@ -113,6 +113,7 @@ fn discarded_flags(x: u32) -> u32
 }
 
 // The value after discard. A discard takes no key whose value is shorter.
+#[tactic(auto, using(wire::proofs::AppendLaws::bytes_32), unfolding(crate::specs::AllocV4::discarded, crate::specs::Packing::store, crate::specs::Packing::get, wire::specs::Numbers::le_bytes))]
 pub fn discarded(v: &mut Value)
     requires { 56 ≤ length v.old }
     ensures { v.new ≡ discarded v.old }
