@@ -62,7 +62,7 @@ pub fn check_change(s: &[u8]) -> bool
 {
     let mut fields = Fields::of(s);
     let mut last = Tag::End.number();
-    // By `while let`: tried `for` over `by_ref`, and that what it gives back for `at_end` is what the loop left stays open.
+    // By `while let`: tried `for` over `by_ref`; that `fields` is then as the last step of the loop left it stays open.
     while let Some(field) = fields.next() {
         if !change_field_ok(field) || !tag_after(last, field.tag) {
             return false;

@@ -45,12 +45,12 @@ fn head_first(s: &[u8], asked: Option<u8>) -> Option<Field>
 
 // A field's place is noted, unless a limit is passed, by it or before it. The length that its tag asks shows the bound. Inlined, as a pass asks it of each field.
 #[inline(always)]
-fn note_field(table: &mut PlaceTable, field: NamedField)
-    requires { (least_of field.field.tag ≤ length field.field.body.now) × Free table.old (rank_of field.field.tag) }
-    ensures { FieldNoted (field_in field.entry.field) field.entry.field.start table.old table.new }
+fn note_field(table: &mut PlaceTable, named: NamedField)
+    requires { (least_of named.field.tag ≤ length named.field.body.now) × Free table.old (rank_of named.field.tag) }
+    ensures { FieldNoted (field_in named.entry.field) named.entry.field.start table.old table.new }
 {
-    if field.keeps_limits() {
-        table.note(table::rank(field.tag), field.field.start);
+    if named.keeps_limits() {
+        table.note(table::rank(named.tag), named.field.start);
     } else {
         table.counts = None;
     }
@@ -64,7 +64,7 @@ fn survey_any(s: &[u8], asked: Option<u8>, index: &mut [u32]) -> Option<Laid>
     let mut table = PlaceTable::new(index);
     let mut head = None;
     let mut fields = Fields::of(s);
-    // By `while let`: tried `for` over `by_ref`, and that what it gives back for `at_end` is what the loop left stays open.
+    // By `while let`: tried `for` over `by_ref`; that `fields` is then as the last step of the loop left it stays open.
     while let Some(field) = fields.next() {
         let named = NamedField::try_from(field).ok()?;
         if named.may_stand(asked) {
@@ -98,7 +98,7 @@ fn survey_ordered(s: &[u8], asked: Option<u8>, index: &mut [u32]) -> Option<Laid
     let mut table = PlaceTable::new(index);
     let mut last = head;
     let mut fields = Fields::from_place(s, head.start + head.body.len());
-    // By `while let`: tried `for` over `by_ref`, and that what it gives back for `at_end` is what the loop left stays open.
+    // By `while let`: tried `for` over `by_ref`; that `fields` is then as the last step of the loop left it stays open.
     while let Some(field) = fields.next() {
         let named = NamedField::try_from(field).ok()?;
         if !named.may_stand(asked) || !named.follows(last) {
@@ -117,11 +117,12 @@ fn survey_ordered(s: &[u8], asked: Option<u8>, index: &mut [u32]) -> Option<Laid
     })
 }
 
-// The pass over a list in order; where it is none, over it again in any order; none where the list breaks the layout. By `match`: tried `or_else`, and what the table holds that its closure borrows stays open.
+// The pass over a list in order; where it is none, over it again in any order; none where the list breaks the layout.
 pub fn survey(s: &[u8], asked: Option<u8>, index: &mut [u32]) -> Option<Laid>
     requires { Fits s.now index.old }
     ensures { Surveyed (unwrap_or asked 0) (is_none asked) s.now index.new result }
 {
+    // By `match`: tried `or_else`; what the table holds that its closure borrows stays open.
     match survey_ordered(s, asked, index) {
         Some(laid) => Some(laid),
         None => survey_any(s, asked, index),
