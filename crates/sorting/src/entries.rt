@@ -49,7 +49,7 @@ fn is_entry(section: u8, tag: u8, len: usize) -> bool
     }
 }
 
-// The type that a reserved bucket has as a key: the definition `entry_of` gives this number, which names no type of a key.
+// The type that a reserved bucket has as a key. The definition `entry_of` fixes the number: it only has to be another than that of a deletion.
 const RESERVED_TYPE: u8 = 1;
 
 // A key of a section: its body starts at a place of a list. Whoever makes one shows that a key of the section stands there.
