@@ -29,7 +29,7 @@ pub fn unused_in(table: &HeldTable) -> UnusedChange
         added: 0,
         removed: 0,
     };
-    // A loop: in a `fold` nothing is known that bounds the totals so far, and two chains would pass over the buckets twice.
+    // A loop: two chains with `sum` would ask of each bucket twice whether it is emptied, and the closure of a `fold` would need a `requires` that bounds the totals so far.
     for h in table.iter() {
         if h.is_emptied() {
             u.removed += h.bucket_sectors.get() - h.dirty() as u64;

@@ -69,7 +69,7 @@ impl<'a> Sums<'a> {
         }
     }
 
-    // Adds each piece's sectors to the sum of its bucket, and marks its group. Refusal 14, the limits and `ClearedScratch` show what is required.
+    // Adds each piece's sectors to the sum of its bucket, and marks its group. No part of `new`, where it was tried: an element of a struct with a ghost field is written only behind a `&mut`. Refusal 14, the limits and `ClearedScratch` show what is required.
     pub fn add_up(&mut self, freeds: Freeds, sectors: NonZero<u64>)
         requires { (length (freeds_of freeds) ≤ 1024) × (all_of (freed_ok (non_zero_u64_get sectors)) (freeds_of freeds) ≡ true) × Cleared self.old.sums.now × (self.old.next ≡ 0) }
         ensures same_reference { self.new.sums.ghost_name ≡ self.old.sums.ghost_name }
