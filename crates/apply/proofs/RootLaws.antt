@@ -2,17 +2,14 @@
 use mathlib.Core.Path.{◌≡◌, refl, ap, sym, ◌∙◌}
 use mathlib.Core.Bool.{Bool, true, false, cond}
 use mathlib.Core.List.{List, [], ◌∷◌, map}
-use Prim.Native.Nat.{ℕ, ◌+◌, ◌≤◌, ◌<◌}
-use native.Mathlib.Nat.{add-zero}
+use Prim.Native.Nat.{ℕ, ◌+◌, ◌<◌}
 use native.Mathlib.Omega.{arith}
 use lib.Dec.{eqb}
-use lib.ListN.{length, take, drop, get_or}
+use lib.ListN.{drop}
 use borrow.Author.Tests.{eqb-true, eq-eqb, ne_eqb}
-use Rattle.std.proofs.Common.{true≢false}
 use Rattle.wire.specs.Bytes.{All, none, more}
 use Rattle.wire.specs.Numbers.{le}
 use Rattle.wire.specs.Fields.{Field, fields, field_at, whole}
-use Rattle.wire.proofs.NumberLaws.{le-byte, body-le, body-length}
 use Rattle.calls.specs.Lists.{all_of, those}
 use Rattle.calls.specs.CallList.{bodies, shaped}
 use Rattle.calls.specs.ChangeList.{change_shapes, root_listed, field_ok, change_laid_out}
@@ -36,10 +33,6 @@ module _ (roots : ℕ) (f : Field) where
   pub root-field : {q id : ℕ} → f.tag ≡ 70 → le 1 f.body ≡ id → q ≡ with_root roots id → q ≡ after_field roots f
   unfolding after_field
   root-field e g h = rw (eq-eqb f.tag 70 e, g) h
-
-  -- a field 70 that names no root, which there is not
-  pub no-root : NamesRoot f → f.tag ≡ 70 → is_root (le 1 f.body) ≡ false → ⊥
-  no-root h e g = true≢false (sym (h e).1 ∙ g)
 
 -- the loop on its way
 

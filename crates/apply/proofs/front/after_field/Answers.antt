@@ -1,6 +1,6 @@
 -- A field 70, or another.
 use Rattle.std.proofs.Common.{sym, ◌∙◌}
-use Rattle.apply.proofs.RootLaws.{other-field, root-field, no-root}
+use Rattle.apply.proofs.RootLaws.{other-field, root-field}
 use Rattle.apply.proofs.front.after_field.Goals as goal
 
 pub returns-then-field-number : goal.returns-then-field-number
