@@ -11,7 +11,6 @@ use denote.Param.Members.{Mut}
 use Rattle.std.specs.Fn.{Called, Takes}
 use Rattle.std.specs.Iterator.{Yields, FoldTurn, CallableInFold, FoldsItems}
 use Rattle.std.specs.List.{FoldsTo}
-use Rattle.std.proofs.Common.{true≢false}
 use Rattle.wire.specs.Bytes.{All, none, more}
 use Rattle.wire.specs.Numbers.{le}
 use Rattle.wire.specs.Fields.{Field, fields, field_at, whole}
@@ -43,10 +42,6 @@ module _ (roots : ℕ) (f : Field) where
   pub root-field : {q id : ℕ} → f.tag ≡ 70 → le 1 f.body ≡ id → q ≡ with_root roots id → q ≡ after_field roots f
   unfolding after_field
   root-field e g h = rw (eq-eqb f.tag 70 e, g) h
-
-  -- a field 70 that names no root, which there is not
-  pub no-root : NamesRoot f → f.tag ≡ 70 → is_root (le 1 f.body) ≡ false → ⊥
-  no-root h e g = true≢false (sym (h e).1 ∙ g)
 
 -- the loop on its way
 
