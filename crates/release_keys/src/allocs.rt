@@ -59,7 +59,7 @@ fn list_sums<'a>(
 {
     let mut keys = alloc;
     let mut n: usize = 0;
-    // By index: nothing is known of what a slice holds after `iter_mut().zip(..)`.
+    // No heap: the table is the caller's, and `n` counts what is listed in its front.
     while let Some(sum) = sums.next() {
         let p = positions::alloc_at(sum.bucket);
         keys = skip_below(keys, p);

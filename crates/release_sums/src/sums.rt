@@ -7,13 +7,13 @@ use std::num::NonZero;
 use wire::kinds;
 use wire::kinds::Bucket;
 
-// How many sums there are: one for each bucket that a device may have.
+// How many sums there are: one for each bucket within FORMAT.md's limit.
 pub const BUCKETS: usize = 65536;
 
 // How many buckets have one mark.
 const GROUP: usize = 64;
 
-// The lent scratch, whose sums are 0. Whoever makes one shows it.
+// The lent scratch, its first 65,536 sums 0. Whoever makes one shows it.
 #[derive(Drop)]
 pub struct ClearedScratch<'a> {
     pub sums: &'a mut [u32],
@@ -69,7 +69,8 @@ impl<'a> Sums<'a> {
         }
     }
 
-    // Adds each piece's sectors to the sum of its bucket, and marks its group. No part of `new`, where it was tried: an element of a struct with a ghost field is written only behind a `&mut`. Refusal 14, the limits and `ClearedScratch` show what is required.
+    // Adds each piece's sectors to the sum of its bucket, and marks its group. Refusal 14, the limits and `ClearedScratch` show what is required.
+    // No part of `new`, as was tried: an element in a struct with a ghost field can be written only behind a `&mut`.
     pub fn add_up(&mut self, freeds: Freeds, sectors: NonZero<u64>)
         requires { (length (freeds_of freeds) ≤ 1024) × (all_of (freed_ok (non_zero_u64_get sectors)) (freeds_of freeds) ≡ true) × Cleared self.old.sums.now × (self.old.next ≡ 0) }
         ensures same_reference { self.new.sums.ghost_name ≡ self.old.sums.ghost_name }
