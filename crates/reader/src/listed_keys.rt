@@ -101,6 +101,17 @@ impl<'a> Keys<'a> {
             { test(ListedKey { list, at }) },
         )
     }
+
+    // Those from an index on. Who asks for them shows the bound.
+    pub fn from(&self, n: usize) -> Keys<'a>
+        requires { n ≤ length self.now.places.now }
+        ensures { (result.list.now ≡ self.now.list.now) × (result.places.now ≡ drop n self.now.places.now) }
+    {
+        Keys {
+            list: self.list,
+            places: &self.places[n..],
+        }
+    }
 }
 
 impl<'a> Iterator for KeysLeft<'a> {

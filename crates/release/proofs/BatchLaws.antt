@@ -32,8 +32,8 @@ use Rattle.calls.proofs.release.ReleaseFits.{named-few}
 use Rattle.calls.proofs.release.ReleaseLaws.{named-range}
 use Rattle.release_sums.proofs.FoundLaws.{freed-up}
 use Rattle.gens.specs.declared.records.Records.{Records}
-use Rattle.release_keys.specs.Counting.{kept_of, lost_of, Unused-of}
-use Rattle.release_keys.specs.declared.counts.Unused.{Unused}
+use Rattle.release_keys.specs.Counting.{added_of, removed_of, UnusedChangeOf}
+use Rattle.release_keys.specs.declared.counts.UnusedChange.{UnusedChange}
 use Rattle.change_fields.specs.FieldBytes.{keys_bytes, roots_bytes}
 use Rattle.release_keys.specs.Emptied.{emptied_row, emptied_buckets}
 use Rattle.release_keys.specs.declared.freed_buckets.EmptiedBucket.{EmptiedBucket}
@@ -72,19 +72,19 @@ module _ (v : Volume) (rs : List Freed) where
 
   -- its rows, by the sums that they are made of
   abbrev summed : ℕ → ℕ → ℕ → ℕ → List Counters
-  summed n freed kept lost =
-      counted_rows (sectors_row (neg_ℤ (pos freed)) ∷ buckets_row 4 (neg_ℤ (pos n)) (neg_ℤ (pos freed)) (pos kept +ℤ neg_ℤ (pos lost)) ∷ buckets_row 9 (pos n) (pos 0) (pos 0) ∷ [])
+  summed n freed added removed =
+      counted_rows (sectors_row (neg_ℤ (pos freed)) ∷ buckets_row 4 (neg_ℤ (pos n)) (neg_ℤ (pos freed)) (pos added +ℤ neg_ℤ (pos removed)) ∷ buckets_row 9 (pos n) (pos 0) (pos 0) ∷ [])
 
-  rows_are : (emptied : List Bucket) (n freed kept lost : ℕ) → n ≡ length emptied → freed ≡ total (λ (r : Freed). r.sectors) rs → kept ≡ total (kept_of v rs) all
-      → lost ≡ total (lost_of v rs) all → summed n freed kept lost ≡ release_rows v rs all emptied
+  rows_are : (emptied : List Bucket) (n freed added removed : ℕ) → n ≡ length emptied → freed ≡ total (λ (r : Freed). r.sectors) rs → added ≡ total (added_of v rs) all
+      → removed ≡ total (removed_of v rs) all → summed n freed added removed ≡ release_rows v rs all emptied
   unfolding release_rows unused_change
-  rows_are emptied n freed kept lost a b c d = rw (a, b, c, d)
+  rows_are emptied n freed added removed a b c d = rw (a, b, c, d)
 
   -- the change list that has it alone
-  pub parts-are : (emptied : List Bucket) (n freed kept lost : ℕ) → emptied ≡ those (is_emptied v rs) all → n ≡ length emptied → freed ≡ total (λ (r : Freed). r.sectors) rs
-      → kept ≡ total (kept_of v rs) all → lost ≡ total (lost_of v rs) all → parts emptied n (summed n freed kept lost) ≡ change_bytes (release_batch v rs ∷ [])
-  parts-are emptied n freed kept lost e a b c d =
-      ap (parts emptied n) (rows_are emptied n freed kept lost a b c d)
+  pub parts-are : (emptied : List Bucket) (n freed added removed : ℕ) → emptied ≡ those (is_emptied v rs) all → n ≡ length emptied → freed ≡ total (λ (r : Freed). r.sectors) rs
+      → added ≡ total (added_of v rs) all → removed ≡ total (removed_of v rs) all → parts emptied n (summed n freed added removed) ≡ change_bytes (release_batch v rs ∷ [])
+  parts-are emptied n freed added removed e a b c d =
+      ap (parts emptied n) (rows_are emptied n freed added removed a b c d)
       ∙ ap (λ (m : ℕ). parts emptied m (release_rows v rs all emptied)) a
       ∙ sym (one_batch (release_batch v rs) ∙ batch-bytes emptied e)
 
@@ -95,7 +95,7 @@ emptied-named generation (b ∷ bs) = λ x. b ∷ emptied-named generation bs x
 
 module _ {t : HeldTable} {records : Records} {emptied : List EmptiedBucket} (d : BatchTables t records emptied) where
   abbrev g : ReadList
-  g = t.table.read
+  g = t.freed.read
 
   abbrev v : Volume
   v = volume_in g
@@ -122,8 +122,8 @@ module _ {t : HeldTable} {records : Records} {emptied : List EmptiedBucket} (d :
         ap length emptied-are,
         those-length (is_emptied v rs) (freed_buckets g.head.bucket_sectors rs),
         named-few g.head.bucket_sectors rs,
-        t.table.checked.requested.count,
-        t.table.checked.few,
+        t.freed.checked.requested.count,
+        t.freed.checked.few,
       )
 
   pub emptied-up : in_order bucket_below (emptied_buckets emptied) ≡ true
@@ -138,9 +138,9 @@ module _ {t : HeldTable} {records : Records} {emptied : List EmptiedBucket} (d :
       all_in bucket_in_range (emptied_buckets emptied)
       (λ b i.
       let m = sym (is_in-those (is_emptied v rs) (freed_buckets n rs) b) ∙ sym (ap (λ (x : List Bucket). is_in x b) emptied-are) ∙ i in
-      lt-ltb b.0 65536 (named-range n rs t.table.checked.checked b (parts_of (is_emptied v rs b) (is_in (freed_buckets n rs) b) m).1))
+      lt-ltb b.0 65536 (named-range n rs t.freed.checked.checked b (parts_of (is_emptied v rs b) (is_in (freed_buckets n rs) b) m).1))
 
   -- the bytes of the batch, by the sums of its rows
-  pub batch-is : (freed : ℕ) (u : Unused) → freed ≡ total (λ (r : Freed). r.sectors) rs → Unused-of v rs (freed_buckets g.head.bucket_sectors rs) u
-      → parts v rs (emptied_buckets emptied) (length emptied) (summed v rs (length emptied) freed u.kept u.lost) ≡ change_of g
-  batch-is freed u f o = parts-are v rs (emptied_buckets emptied) (length emptied) freed u.kept u.lost emptied-are emptied-count f o.kept o.lost
+  pub batch-is : (freed : ℕ) (u : UnusedChange) → freed ≡ total (λ (r : Freed). r.sectors) rs → UnusedChangeOf v rs (freed_buckets g.head.bucket_sectors rs) u
+      → parts v rs (emptied_buckets emptied) (length emptied) (summed v rs (length emptied) freed u.added u.removed) ≡ change_of g
+  batch-is freed u f o = parts-are v rs (emptied_buckets emptied) (length emptied) freed u.added u.removed emptied-are emptied-count f o.added o.removed

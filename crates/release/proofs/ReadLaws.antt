@@ -5,9 +5,9 @@ use Rattle.std.proofs.Common.{Some}
 use mathlib.Core.List.{List, [], ◌∷◌, ◌++◌, map}
 use Prim.Native.Nat.{ℕ, suc, ◌≤◌, ◌<◌}
 use native.Mathlib.Omega.{arith}
-use lib.ListN.{length, get_or, take, drop, replicate, length-append, length-drop, length-replicate, get_or-append}
+use lib.ListN.{length, get_or, take, drop, replicate, length-replicate}
 use lib.Seq.{drop_at}
-use borrow.Author.Tests.{le-leb, lt-leb, lt-ltb, le-ltb, ltb-true}
+use borrow.Author.Tests.{le-leb, lt-leb, lt-ltb, le-ltb}
 use Rattle.wire.specs.Keys.{Key}
 use Rattle.calls.specs.CallList as calls
 use Rattle.calls.specs.CallList.{Volume, Freed, freed_of, keys_ok, keys_ascend, snapshots_ok, call_laid_out, none_twice}
@@ -29,9 +29,8 @@ use Rattle.reader.specs.declared.read_list.ReadList.{ReadList}
 use Rattle.reader.proofs.CheckedLaws.{checked}
 use Rattle.reader.proofs.PartsLaws.{passed, read-on, read-refused, freeds-read}
 use Rattle.release_sums.specs.Freeds.{freeds_in, Requested}
-use Rattle.release_sums.specs.Summing.{Cleared}
+use Rattle.release_sums.proofs.ClearLaws.{cleared}
 use Rattle.release_keys.specs.Given.{volume_of}
-use Rattle.release.proofs.TopLaws.{zeros-at}
 
 -- ---- what offsets find
 freeds-map : (s os : List ℕ) (rs : List Freed) → length os ≡ length rs → ((i : ℕ) → i < length os → FreedAt s (get_or os i 0) (get_or rs i no_freed))
@@ -119,23 +118,11 @@ pub scratch-long : (l : List ℕ) → 65536 ≤ length l → scratch_after l ≡
 unfolding scratch_after
 scratch-long l h = rw (le-ltb (length l) 65536 h)
 
-front_length : (n : ℕ) (l : List ℕ) → n ≤ length l → length (replicate n 0 ++ drop n l) ≡ length l
-front_length n l h = omega (arith, length-append (replicate n 0) (drop n l), length-replicate {A = ℕ} n 0, length-drop n l)
-
-front-zero : (n : ℕ) (l : List ℕ) (b : ℕ) → b < n → get_or (replicate n 0 ++ l) b 0 ≡ 0
-front-zero n l b h = get_or-append (replicate n 0) l 0 b (omega (arith, length-replicate {A = ℕ} n 0)) ∙ zeros-at n b
-
 -- a scratch that was cleared
 module _ (l m : List ℕ) (h : 65536 ≤ length l) (e : m ≡ replicate 65536 0 ++ drop 65536 l) where
-  pub cleared-length : length m ≡ length l
-  cleared-length = ap length e ∙ front_length 65536 l h
-
-  pub cleared : Cleared m
-  cleared = record { long = omega (arith, cleared-length); zero = λ b k. ap (λ (x : List ℕ). get_or x b.0 0) e ∙ front-zero 65536 (drop 65536 l) b.0 (ltb-true b.0 65536 k) }
-
   pub cleared-after : scratch_after m ≡ scratch_after l
   cleared-after =
-      scratch-long m cleared.long
+      scratch-long m (cleared l m h e).long
       ∙ ap (λ (x : List ℕ). replicate 65536 0 ++ x) (ap (drop 65536) e ∙ drop_at (replicate 65536 0) (drop 65536 l) 65536 (length-replicate {A = ℕ} 65536 0))
       ∙ sym (scratch-long l h)
 

@@ -83,11 +83,6 @@ module _ (v : Volume) (rs : List Freed) (bytes : List ℕ) (room : ℕ) (out : L
         (sym (past-4 ∙ ap (λ (t : Bool). answer (test 14 t ∷ bucket_tests v rs) bytes room) e ∙ answer-next 0 (bucket_tests v rs) bytes room refl))
 
 -- ---- zeros
-pub zeros-at : (n o : ℕ) → ◌≡◌ {A = ℕ} (get_or (replicate n 0) o 0) 0
-zeros-at zero o = refl
-zeros-at (suc n) zero = refl
-zeros-at (suc n) (suc o) = zeros-at n o
-
 zeros-first : (n : ℕ) (l : List ℕ) → n ≤ length l → ((b : ℕ) → b < n → get_or l b 0 ≡ 0) → l ≡ replicate n 0 ++ drop n l
 zeros-first zero l h z = refl
 zeros-first (suc n) [] h z = absurd (omega arith)

@@ -5,7 +5,7 @@ use Rattle.release.specs.Outcomes.{BatchTables}
 use Rattle.release.specs.declared.batch.ReleaseBatch.TheInside.{Inside}
 
 abbrev pub batch_view : Inside → List ℕ
-batch_view b = change_of b.held.table.read
+batch_view b = change_of b.held.freed.read
 
 -- its tables are filled
 abbrev pub IsBatch : Inside → Type 0

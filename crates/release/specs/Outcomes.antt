@@ -17,8 +17,8 @@ bucket_tests v rs = verdict (map (bucket_refusal v rs) (freed_buckets v.head.buc
 
 -- the volume's generation records, and the buckets that are emptied
 pub record BatchTables (t : HeldTable) (records : Records) (emptied : List EmptiedBucket) : Type 0 where
-  pub recorded : keys_listed records.gens ≡ keys_listed t.table.read.gens
+  pub recorded : keys_listed records.gens ≡ keys_listed t.freed.read.gens
   pub chosen :
       emptied
-      ≡ map (emptied_row (emptied_gen (volume_in t.table.read).trees))
-      (those (is_emptied (volume_in t.table.read) (requests_in t.table.read)) (freed_buckets t.table.read.head.bucket_sectors (requests_in t.table.read)))
+      ≡ map (emptied_row (emptied_gen (volume_in t.freed.read).trees))
+      (those (is_emptied (volume_in t.freed.read) (requests_in t.freed.read)) (freed_buckets t.freed.read.head.bucket_sectors (requests_in t.freed.read)))

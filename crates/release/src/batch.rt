@@ -42,7 +42,7 @@ impl<'a> ReleaseBatch<'a> {
         emptied: &'a [EmptiedBucket],
     ) -> ReleaseBatch<'a>
         requires { BatchTables held records.now emptied.now }
-        ensures { result ≡ change_of held.entry.table.read }
+        ensures { result ≡ change_of held.entry.freed.read }
     {
         ReleaseBatch {
             held,
@@ -57,18 +57,17 @@ impl<'a> Emit for ReleaseBatch<'a> {
 
     // The one batch, in the order of its tags.
     fn emit(&self, out: &mut Output) {
-        let table = &self.held.table;
-        let read = &table.read;
+        let read = self.held.read();
         let count = self.emptied.len();
-        let total = counts::total_freed(table);
+        let total = counts::total_freed(&self.held.freed);
         let unused = counts::unused_in(&self.held);
         alloc_keys::put_allocs(out, &self.held);
         lru_keys::put_lrus(out, &self.held);
         need_discards::put_need_discards(out, read.head.journal, self.emptied);
-        backpointers::put_deletions(out, table);
+        backpointers::put_deletions(out, &self.held.freed);
         gen_records::put_gens(out, self.records, self.emptied);
         roots::put_roots(out, count != 0, read.head.roots);
-        released::put_rows(out, count as u64, total, unused.kept, unused.lost);
+        released::put_rows(out, count as u64, total, unused.added, unused.removed);
         batch_end::put_end(out);
     }
 }

@@ -6,7 +6,6 @@ ghost use Rattle.calls.specs.Release.{release_tests};
 ghost use Rattle.reader.specs.ListedKeys.{keys_listed};
 ghost use Rattle.reader.specs.Refusals.{made_by};
 ghost use Rattle.release_sums.specs.Freeds.{Requested};
-ghost use Rattle.release_sums.specs.Summing.{Cleared};
 ghost use Rattle.release_keys.specs.Given.{volume_in, requests_in};
 ghost use Rattle.release.specs.Given.{change_of};
 ghost use Rattle.release.specs.Outcomes.{bucket_tests};
@@ -20,16 +19,17 @@ use release_keys::freed_buckets::EmptiedBucket;
 use release_keys::table::{FreedBucket, FreedTable, HeldTable};
 use release_keys::{allocs, freed_buckets, refusals};
 use release_sums::requests::Freeds;
+use release_sums::sums::ClearedScratch;
 use std::num::NonZero;
 use wire::kinds::Bucket;
 
-// The answer where the freed buckets are listed: refusals 15 to 19, and what follows.
+// The answer where the freed buckets are listed: refusals 15 to 19, then the change list, or 21.
 fn release_table(table: FreedTable, out: &mut [u8]) -> Result<usize, Refusal>
     ensures { made_by result out.new ≡ outcome (answer (bucket_tests (volume_in table.entry.read) (requests_in table.entry.read)) (change_of table.entry.read) (length out.old)) out.old }
 {
     let records = Records::of(table.read.gens);
     refusals::refuse(&table, &records)?;
-    let held = HeldTable { table };
+    let held = HeldTable { freed: table };
     let mut emptied = [EmptiedBucket {
         bucket: Bucket(0),
         generation: 0,
@@ -39,18 +39,19 @@ fn release_table(table: FreedTable, out: &mut [u8]) -> Result<usize, Refusal>
     answer::written(&batch, out)
 }
 
-// The answer after refusals 1, 2, 22 and 3, and the scratch, which comes cleared. The reader shows what is required.
-pub fn release_lists(read: &ReadList, scratch: &mut [u32], out: &mut [u8]) -> Result<usize, Refusal>
+// The answer after refusals 1, 2, 22 and 3, and the scratch, which is left cleared. The reader shows what is required.
+pub fn release_lists(
+    read: &ReadList,
+    scratch: &mut ClearedScratch,
+    out: &mut [u8],
+) -> Result<usize, Refusal>
     requires ascend { keys_ascend (keys_listed read.now.alloc) ≡ true }
-    requires requested { Requested read.now.list.now read.now.requests.now × (length read.now.requests.now ≤ 1024) × Cleared scratch.old }
-    ensures { (made_by result out.new ≡ outcome (answer (release_tests (volume_in read.now) (requests_in read.now)) (change_of read.now) (length out.old)) out.old) × (scratch.new ≡ replicate 65536 0 ++ drop 65536 scratch.old) }
+    requires requested { Requested read.now.list.now read.now.requests.now × (length read.now.requests.now ≤ 1024) }
+    ensures same_reference { scratch.new.sums.ghost_name ≡ scratch.old.sums.ghost_name }
+    ensures answered { (made_by result out.new ≡ outcome (answer (release_tests (volume_in read.now) (requests_in read.now)) (change_of read.now) (length out.old)) out.old) × (scratch.new.sums.now ≡ replicate 65536 0 ++ drop 65536 scratch.old.sums.now) }
 {
     let sectors = NonZero::<u64>::new(read.head.bucket_sectors as u64).ok_or(Refusal::NoSectors)?;
-    let freeds = Freeds {
-        list: read.list,
-        places: read.requests,
-    };
-    if !freeds.all_ok(sectors) {
+    if !Freeds::of(read).all_ok(sectors) {
         return Err(Refusal::OutsideBucket);
     }
     let mut buckets = [FreedBucket {

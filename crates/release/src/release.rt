@@ -11,13 +11,14 @@ use reader::call_kinds::Call;
 use reader::read_list::ReadList;
 use reader::refusal::Refusal;
 use release_sums::sums;
+use release_sums::sums::ClearedScratch;
 
 // The answer to a list that was read, after refusal 1. `clear` shows what is required of the scratch.
 fn release_read(read: &ReadList, scratch: &mut [u32], out: &mut [u8]) -> Result<usize, Refusal>
     requires { ReadAs (Some 2) read.now × Cleared scratch.old }
     ensures { (made_by result out.new ≡ outcome (release read.now.list.now (length scratch.old) (length out.old)) out.old) × (scratch.new ≡ scratch_after scratch.old) }
 {
-    lists::release_lists(read, scratch, out)
+    lists::release_lists(read, &mut ClearedScratch { sums: scratch }, out)
 }
 
 // Release: for any list, scratch and output, how many bytes are written or the refusal, the output and the scratch that the definition gives.
@@ -25,7 +26,7 @@ fn release_read(read: &ReadList, scratch: &mut [u32], out: &mut [u8]) -> Result<
 pub fn release(list: &[u8], scratch: &mut [u32], out: &mut [u8]) -> Result<usize, Refusal>
     ensures { (made_by result out.new ≡ outcome (release list.now (length scratch.old) (length out.old)) out.old) × (scratch.new ≡ scratch_after scratch.old) }
 {
-    if scratch.len() < 65536 {
+    if scratch.len() < sums::BUCKETS {
         return Err(Refusal::ShortScratch);
     }
     sums::clear(scratch);

@@ -2,7 +2,7 @@
 use mathlib.Core.Path.{◌≡◌, refl, sym, ap, ◌∙◌, subst}
 use mathlib.Core.Bool.{Bool, true, false, cond, ◌||◌}
 use mathlib.Core.Logic.{◌⊎◌, inl, inr, ⊎_elim}
-use Prim.Native.Nat.{ℕ, zero, suc, ◌+◌, ◌-◌, ◌≤◌, ◌<◌, Ordering}
+use Prim.Native.Nat.{ℕ, zero, suc, ◌+◌, ◌≤◌, ◌<◌, Ordering}
 use native.Mathlib.Omega.{arith}
 use mathlib.Core.List.{List, [], ◌∷◌, ◌++◌, map, append-nil, map-append}
 use mathlib.Core.Option.{none, some}
@@ -12,7 +12,7 @@ use lib.ListN.{length, get_or, set, take, drop, replicate, length-drop, length-m
 use lib.Seq.{get_or-set_same, get_or-set_other, get_or-take, append_snoc}
 use Rattle.std.specs.Bool.{then_some}
 use Rattle.std.specs.List.{prefix_len}
-use Rattle.std.proofs.lemmas.List.{drop-map, get_or-drop, take_all, take_more_set, length-take-le}
+use Rattle.std.proofs.lemmas.List.{drop-map, get_or-drop, take_more_set, length-take-le}
 use Rattle.wire.specs.Keys.{Key}
 use Rattle.wire.specs.Order.{cmp, is_less, pos_less, pos_same}
 use Rattle.wire.specs.Kinds.{same_bucket, bucket_in_range, no_bucket}
@@ -87,12 +87,11 @@ module _ (p : Bpos) where
   skip-within keys e = omega (arith, e, prefix-within key_below (keys_listed keys), length-map keys.places.now (key_here keys.list.now))
 
   -- the rest of some keys
-  pub skipped : (keys rest : Keys) (n : ℕ) → rest.list.now ≡ keys.list.now → rest.places.now ≡ take (length keys.places.now - n) (drop n keys.places.now)
+  pub skipped : (keys rest : Keys) (n : ℕ) → rest.list.now ≡ keys.list.now → rest.places.now ≡ drop n keys.places.now
       → n ≡ prefix_len key_below (keys_listed keys) → KeysSkipped keys p rest
-  skipped keys rest n f e m =
+  skipped keys rest n f d m =
       let s = keys.list.now in
       let ks = keys_listed keys in
-      let d : rest.places.now ≡ drop n keys.places.now = e ∙ take_all (length keys.places.now - n) (drop n keys.places.now) (omega (arith, length-drop n keys.places.now)) in
       let is : keys_listed rest ≡ drop n ks = rw (f, d) (sym (drop-map (key_here s) n keys.places.now)) in
       record {
         list = f;
@@ -174,7 +173,6 @@ alloc-above a b h =
 -- On its way: n rows are listed, each with the place of its key among `ks`, and `rest` are left, whose keys are among `keys`.
 pub record Listing (s : List ℕ) (ks : List Key) (all rest : List BucketSum) (keys : Keys) (rows : List FreedBucket) (n : ℕ) : Type 0 where
   pub list : keys.list.now ≡ s
-  pub ascend : keys_ascend (keys_listed keys) ≡ true
   pub up : Up 0 (sum_buckets rest)
   pub count : n + length rest ≡ length all
   pub listed : map row_sum (take n rows) ++ rest ≡ all
@@ -182,9 +180,9 @@ pub record Listing (s : List ℕ) (ks : List Key) (all rest : List BucketSum) (k
   pub ahead : (j : ℕ) → j < length rest → lookup (alloc_at (get_or rest j no_sum).bucket) (keys_listed keys) ≡ lookup (alloc_at (get_or rest j no_sum).bucket) ks
 
 -- none is listed
-pub listing-starts : {keys : Keys} {all : List BucketSum} (rows : List FreedBucket) → keys_ascend (keys_listed keys) ≡ true → SumsAscend all
+pub listing-starts : {keys : Keys} {all : List BucketSum} (rows : List FreedBucket) → SumsAscend all
     → Listing keys.list.now (keys_listed keys) all all keys rows 0
-listing-starts rows o u = record { list = refl; ascend = o; up = order-up _ u; count = omega arith; listed = refl; done = λ j h. absurd (omega arith); ahead = λ j h. refl }
+listing-starts rows u = record { list = refl; up = order-up _ u; count = omega arith; listed = refl; done = λ j h. absurd (omega arith); ahead = λ j h. refl }
 
 -- the keys that are left
 pub skipped-ascend : {keys rest : Keys} {p : Bpos} → KeysSkipped keys p rest → keys_ascend (keys_listed keys) ≡ true → keys_ascend (keys_listed rest) ≡ true
@@ -226,7 +224,6 @@ module _ {s : List ℕ} {ks : List Key} {all rest : List BucketSum} {keys : Keys
     listing-next =
         record {
           list = same-list;
-          ascend = skipped-ascend z w.ascend;
           up = up-weak 0 (suc x.bucket.0) (sum_buckets next) (omega arith) up-next.1;
           count = omega (arith, w.count, ap length e);
           listed =

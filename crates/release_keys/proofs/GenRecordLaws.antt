@@ -163,12 +163,12 @@ module _ {gens : List Key} {generation_of : Bucket → ℕ} {rows : List Emptied
   abbrev queued : Key
   queued = gen_queued q.records here (generation_of here)
 
-  queued-is : (generation : ℕ) (next : Bkey) → generation ≡ generation_of here → key_in next ≡ next_queued gens last here generation → key_in next ≡ queued
+  queued-is : (generation : ℕ) (next : Bkey) → generation ≡ generation_of here → key_in next ≡ next_queued gens last (record { bucket = here; generation = generation }) → key_in next ≡ queued
   unfolding gen_queued
   queued-is generation next e n = n ∙ rw (q.continues k (omega arith) h, e)
 
   pub queue-turn : (generation : ℕ) (next : Bkey) {after : Output} → generation ≡ generation_of here
-      → key_in next ≡ next_queued gens last here generation → after ≡ with_bytes out (encode_field (key_field 14 (key_in next)))
+      → key_in next ≡ next_queued gens last (record { bucket = here; generation = generation }) → after ≡ with_bytes out (encode_field (key_field 14 (key_in next)))
       → Queue gens generation_of rows before after (k + 1) (Some next)
   queue-turn generation next {after} e n w =
       let i = queued-is generation next e n in

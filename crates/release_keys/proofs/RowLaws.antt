@@ -22,9 +22,9 @@ use Rattle.calls.proofs.release.ReleaseLaws.{BucketHeld, held_of}
 use Rattle.reader.specs.declared.read_list.ReadList.{ReadList}
 use Rattle.release_keys.specs.Given.{volume_in, requests_in, RequestsChecked}
 use Rattle.release_keys.specs.declared.table.FreedBucket.{FreedBucket}
-use Rattle.release_keys.specs.Counting.{kept_of, lost_of, row_kept, row_lost}
+use Rattle.release_keys.specs.Counting.{added_of, removed_of, row_added, row_removed}
 use Rattle.release_keys.specs.Emptied.{emptied_row}
-use Rattle.release_keys.specs.Tables.{no_row, row_buckets, row_key, row_dirty, row_emptied, row_gen, freed_key, row_lru, FreedEntry, FreedTables, RowHeld, RowsHeld, RowsWithin}
+use Rattle.release_keys.specs.Tables.{no_row, row_buckets, row_key, row_dirty, row_emptied, row_gen, freed_key, row_lru, FreedEntry, FreedTables, RowHeld, RowsHeld}
 use Rattle.release_keys.proofs.PlaceLaws.{found-key, found-some, placed-value}
 use Rattle.release_keys.proofs.RefusalLaws.{dirty-is}
 
@@ -53,13 +53,13 @@ module _ {s : List ℕ} {v : Volume} {rs : List Freed} {f : FreedBucket} (e : Fr
   unfolding emptied_gen
   gen-row = ap (λ (l : List ℕ). record { bucket = f.bucket; generation = next_gen (get gen l) }) value-row
 
-  pub kept-row : row_kept s f ≡ kept_of v rs f.bucket
-  kept-row = rw (← emptied-row, ← e.freed) refl
+  pub added-row : row_added s f ≡ added_of v rs f.bucket
+  added-row = rw (← emptied-row, ← e.freed) refl
 
-  pub lost-row : row_lost s v.head.bucket_sectors f ≡ lost_of v rs f.bucket
-  lost-row = rw (← emptied-row, ← dirty-row) refl
+  pub removed-row : row_removed s v.head.bucket_sectors f ≡ removed_of v rs f.bucket
+  removed-row = rw (← emptied-row, ← dirty-row) refl
 
-  pub key-row : RowHeld s f → freed_key v.head.journal s f ≡ released_key v rs f.bucket
+  pub key-row : {sectors : ℕ} → RowHeld s sectors f → freed_key v.head.journal s f ≡ released_key v rs f.bucket
   unfolding released_key
   key-row r =
       let k = sym e.key.is ∙ found-some s f.place r.found in
@@ -70,22 +70,12 @@ module _ {s : List ℕ} {v : Volume} {rs : List Freed} {f : FreedBucket} (e : Fr
   lru-row = rw (← emptied-row, ← dirty-row, ← e.freed) refl
 
 -- ---- the first row, and the rest
-module _ {s : List ℕ} {rows : List FreedBucket} {f : FreedBucket} {rest : List FreedBucket} (e : rows ≡ f ∷ rest) where
-  pub held-first : RowsHeld s rows → RowHeld s f
-  held-first h = let g : RowsHeld s (f ∷ rest) = rw e at h in g 0 (omega arith)
+module _ {s : List ℕ} {sectors : ℕ} {rows : List FreedBucket} {f : FreedBucket} {rest : List FreedBucket} (e : rows ≡ f ∷ rest) where
+  pub held-first : RowsHeld s sectors rows → RowHeld s sectors f
+  held-first h = let g : RowsHeld s sectors (f ∷ rest) = rw e at h in g 0 (omega arith)
 
-  pub held-rest : RowsHeld s rows → RowsHeld s rest
-  held-rest h = let g : RowsHeld s (f ∷ rest) = rw e at h in λ i l. g (suc i) (omega (arith, l))
-
-module _ (s : List ℕ) (sectors : ℕ) {rows : List FreedBucket} {f : FreedBucket} {rest : List FreedBucket} (e : rows ≡ f ∷ rest) (h : RowsWithin s sectors rows) where
-  both : RowsWithin s sectors (f ∷ rest)
-  both = rw e at h
-
-  pub within-first : row_dirty s f ≤ sectors
-  within-first = both 0 (omega arith)
-
-  pub within-rest : RowsWithin s sectors rest
-  within-rest i l = both (suc i) (omega (arith, l))
+  pub held-rest : RowsHeld s sectors rows → RowsHeld s sectors rest
+  held-rest h = let g : RowsHeld s sectors (f ∷ rest) = rw e at h in λ i l. g (suc i) (omega (arith, l))
 
 -- ---- rows that are listed in the front of a table
 pub listed_more : {A : Type 0} (xs : List A) (n : ℕ) (x : A) (ys : List A) {all : List A} → n < length xs → take n xs ++ (x ∷ ys) ≡ all
@@ -130,7 +120,7 @@ module _ {s : List ℕ} {v : Volume} {rs : List Freed} {rows : List FreedBucket}
       let e = ap (drop i) (sym t.named) ∙ buckets-next rows i h in
       held_of v rs (get_or rows i no_row).bucket (verdict-map-first (bucket_refusal v rs) e (verdict-map-drop (bucket_refusal v rs) i _ none))
 
-  pub rows-held : RowsHeld s rows
+  pub rows-held : RowsHeld s v.head.bucket_sectors rows
   rows-held i h =
       let d = its i h in
       let e = t.at i h in
@@ -140,30 +130,25 @@ module _ {s : List ℕ} {v : Volume} {rs : List Freed} {rows : List FreedBucket}
         whole = e.key.whole;
         long = omega (arith, d.long, ap (λ (x : Key). length x.value) k.1);
         held = omega (arith, d.held, e.freed, dirty-row e, dirty-is v rs (get_or rows i no_row).bucket d.key d.found);
+        within = omega (arith, d.small, dirty-row e, dirty-is v rs (get_or rows i no_row).bucket d.key d.found);
       }
-
-  pub rows-within : RowsWithin s v.head.bucket_sectors rows
-  rows-within i h =
-      let d = its i h in
-      let e = t.at i h in
-      omega (arith, d.small, dirty-row e, dirty-is v rs (get_or rows i no_row).bucket d.key d.found)
 
 -- ---- sums, keys and choices over the rows of a table
 module _ {s : List ℕ} {v : Volume} {rs : List Freed} {rows : List FreedBucket} (t : FreedTables s v rs rows) where
   pub rows-verdict : verdict (map (bucket_refusal v rs) (row_buckets rows)) ≡ verdict (map (bucket_refusal v rs) (freed_buckets v.head.bucket_sectors rs))
   rows-verdict = ap (λ (l : List Bucket). verdict (map (bucket_refusal v rs) l)) t.named
 
-  pub keys-are : RowsHeld s rows → map (freed_key v.head.journal s) rows ≡ map (released_key v rs) (freed_buckets v.head.bucket_sectors rs)
+  pub keys-are : {sectors : ℕ} → RowsHeld s sectors rows → map (freed_key v.head.journal s) rows ≡ map (released_key v rs) (freed_buckets v.head.bucket_sectors rs)
   keys-are h = map-rows (freed_key v.head.journal s) (released_key v rs) rows (λ i l. key-row (t.at i l) (h i l)) ∙ ap (map (released_key v rs)) t.named
 
   pub lrus-are : flat_map (row_lru v.head.bucket_sectors s) rows ≡ flat_map (released_lru v rs) (freed_buckets v.head.bucket_sectors rs)
   lrus-are = flat-rows (row_lru v.head.bucket_sectors s) (released_lru v rs) rows (λ i l. lru-row (t.at i l)) ∙ ap (flat_map (released_lru v rs)) t.named
 
-  pub kept-are : total (row_kept s) rows ≡ total (kept_of v rs) (freed_buckets v.head.bucket_sectors rs)
-  kept-are = total-rows (row_kept s) (kept_of v rs) rows (λ i l. kept-row (t.at i l)) ∙ ap (total (kept_of v rs)) t.named
+  pub added-are : total (row_added s) rows ≡ total (added_of v rs) (freed_buckets v.head.bucket_sectors rs)
+  added-are = total-rows (row_added s) (added_of v rs) rows (λ i l. added-row (t.at i l)) ∙ ap (total (added_of v rs)) t.named
 
-  pub lost-are : total (row_lost s v.head.bucket_sectors) rows ≡ total (lost_of v rs) (freed_buckets v.head.bucket_sectors rs)
-  lost-are = total-rows (row_lost s v.head.bucket_sectors) (lost_of v rs) rows (λ i l. lost-row (t.at i l)) ∙ ap (total (lost_of v rs)) t.named
+  pub removed-are : total (row_removed s v.head.bucket_sectors) rows ≡ total (removed_of v rs) (freed_buckets v.head.bucket_sectors rs)
+  removed-are = total-rows (row_removed s v.head.bucket_sectors) (removed_of v rs) rows (λ i l. removed-row (t.at i l)) ∙ ap (total (removed_of v rs)) t.named
 
   pub emptied-are : map (row_gen s) (those (row_emptied s) rows) ≡ map (emptied_row (emptied_gen v.trees)) (those (is_emptied v rs) (freed_buckets v.head.bucket_sectors rs))
   emptied-are =

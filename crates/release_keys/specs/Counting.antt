@@ -6,23 +6,23 @@ use Rattle.calls.specs.Lists.{total}
 use Rattle.calls.specs.Release.{freed_in, dirty_at, is_emptied}
 use Rattle.release_keys.specs.declared.table.FreedBucket.{FreedBucket}
 use Rattle.release_keys.specs.Tables.{row_dirty, row_emptied}
-use Rattle.release_keys.specs.declared.counts.Unused.{Unused}
+use Rattle.release_keys.specs.declared.counts.UnusedChange.{UnusedChange}
 
 -- of a bucket: the sectors freed of it if it stays, and its unused ones if it is emptied
-abbrev pub kept_of : Volume → List Freed → Bucket → ℕ
-kept_of v rs b = cond (is_emptied v rs b) 0 (freed_in v.head.bucket_sectors rs b)
+abbrev pub added_of : Volume → List Freed → Bucket → ℕ
+added_of v rs b = cond (is_emptied v rs b) 0 (freed_in v.head.bucket_sectors rs b)
 
-abbrev pub lost_of : Volume → List Freed → Bucket → ℕ
-lost_of v rs b = cond (is_emptied v rs b) (v.head.bucket_sectors - dirty_at v.trees b) 0
+abbrev pub removed_of : Volume → List Freed → Bucket → ℕ
+removed_of v rs b = cond (is_emptied v rs b) (v.head.bucket_sectors - dirty_at v.trees b) 0
 
 -- the same of a row
-abbrev pub row_kept : List ℕ → FreedBucket → ℕ
-row_kept s f = cond (row_emptied s f) 0 f.sectors
+abbrev pub row_added : List ℕ → FreedBucket → ℕ
+row_added s f = cond (row_emptied s f) 0 f.sectors
 
-abbrev pub row_lost : List ℕ → ℕ → FreedBucket → ℕ
-row_lost s sectors f = cond (row_emptied s f) (sectors - row_dirty s f) 0
+abbrev pub row_removed : List ℕ → ℕ → FreedBucket → ℕ
+row_removed s sectors f = cond (row_emptied s f) (sectors - row_dirty s f) 0
 
 -- the two sums over a list of buckets
-pub record Unused-of (v : Volume) (rs : List Freed) (bs : List Bucket) (u : Unused) : Type 0 where
-  pub kept : u.kept ≡ total (kept_of v rs) bs
-  pub lost : u.lost ≡ total (lost_of v rs) bs
+pub record UnusedChangeOf (v : Volume) (rs : List Freed) (bs : List Bucket) (u : UnusedChange) : Type 0 where
+  pub added : u.added ≡ total (added_of v rs) bs
+  pub removed : u.removed ≡ total (removed_of v rs) bs

@@ -1,6 +1,10 @@
 -- The freed buckets that are left of a table which refusals 15 to 19 passed, and a step over them.
 use Rattle.std.specs.Prelude.{◌≡◌, List, [], ◌∷◌, Option, Some, None}
 use Rattle.std.specs.Int.NonZero.{non_zero_u64_get}
+use Rattle.wire.specs.declared.kinds.Bucket.{Bucket}
+use Rattle.calls.specs.CallList.{Volume, Freed}
+use Rattle.calls.specs.Release.{freed_buckets}
+use Rattle.release_keys.specs.Given.{volume_in, requests_in}
 use Rattle.release_keys.specs.declared.table.FreedBucket.{FreedBucket}
 use Rattle.release_keys.specs.declared.table.HeldBucket.{HeldBucket}
 use Rattle.release_keys.specs.declared.table.HeldLeft.{HeldLeft}
@@ -23,4 +27,14 @@ HeldStepped before None after = held_left before ≡ []
 
 -- some that are left of a table
 abbrev pub LeftOf : HeldTable → HeldLeft → Type 0
-LeftOf t l = (l.list.now ≡ t.table.read.alloc.list.now) × (non_zero_u64_get l.bucket_sectors ≡ t.table.read.head.bucket_sectors)
+LeftOf t l = (l.list.now ≡ t.freed.read.alloc.list.now) × (non_zero_u64_get l.bucket_sectors ≡ t.freed.read.head.bucket_sectors)
+
+-- the volume and the requests of a table, and the buckets that they free
+abbrev pub held_volume : HeldTable → Volume
+held_volume t = volume_in t.freed.read
+
+abbrev pub held_requests : HeldTable → List Freed
+held_requests t = requests_in t.freed.read
+
+abbrev pub held_buckets : HeldTable → List Bucket
+held_buckets t = freed_buckets t.freed.read.head.bucket_sectors (requests_in t.freed.read)

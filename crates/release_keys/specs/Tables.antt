@@ -63,17 +63,14 @@ pub record FreedTables (s : List ℕ) (v : Volume) (rs : List Freed) (rows : Lis
   pub named : row_buckets rows ≡ freed_buckets v.head.bucket_sectors rs
   pub at : (i : ℕ) → i < length rows → FreedEntry s v rs (get_or rows i no_row)
 
--- a row that refusals 15, 16 and 18 passed: its alloc key is there, and the bucket holds what is freed of it
-pub record RowHeld (s : List ℕ) (f : FreedBucket) : Type 0 where
+-- a row that refusals 15 to 18 passed, where a bucket has so many sectors: its alloc key is there, and the bucket holds what is freed of it and no more than it has
+pub record RowHeld (s : List ℕ) (sectors : ℕ) (f : FreedBucket) : Type 0 where
   pub found : f.place ≡ None → ⊥
   pub whole : (at : ℕ) → f.place ≡ Some at → Whole s at
   pub long : 56 ≤ length (row_key s f).value
   pub held : f.sectors ≤ row_dirty s f
+  pub within : row_dirty s f ≤ sectors
 
 -- such rows
-abbrev pub RowsHeld : List ℕ → List FreedBucket → Type 0
-RowsHeld s rows = (i : ℕ) → i < length rows → RowHeld s (get_or rows i no_row)
-
--- refusal 17 passed them: no bucket holds more than it has
-abbrev pub RowsWithin : List ℕ → ℕ → List FreedBucket → Type 0
-RowsWithin s sectors rows = (i : ℕ) → i < length rows → row_dirty s (get_or rows i no_row) ≤ sectors
+abbrev pub RowsHeld : List ℕ → ℕ → List FreedBucket → Type 0
+RowsHeld s sectors rows = (i : ℕ) → i < length rows → RowHeld s sectors (get_or rows i no_row)

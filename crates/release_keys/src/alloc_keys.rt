@@ -2,9 +2,9 @@
 ghost use Rattle.std.specs.Prelude.{◌≡◌, map, ◌≤◌};
 ghost use Rattle.wire.specs.Held.{key_in};
 ghost use Rattle.wire.specs.Output.{with_bytes};
-ghost use Rattle.calls.specs.Release.{freed_buckets, released_key};
+ghost use Rattle.calls.specs.Release.{released_key};
 ghost use Rattle.change_fields.specs.FieldBytes.{keys_bytes};
-ghost use Rattle.release_keys.specs.Given.{volume_in, requests_in};
+ghost use Rattle.release_keys.specs.HeldOf.{held_volume, held_requests, held_buckets};
 ghost use Rattle.release_keys.specs.Tables.{freed_key};
 
 use crate::table::{HeldBucket, HeldTable};
@@ -28,12 +28,9 @@ fn freed_key(h: HeldBucket, journal: u64) -> Bkey
 
 // The keys of all freed buckets.
 pub fn put_allocs(out: &mut Output, table: &HeldTable)
-    ensures { out.new ≡ with_bytes out.old (keys_bytes 4 (map (released_key (volume_in table.now.table.read) (requests_in table.now.table.read)) (freed_buckets table.now.table.read.head.bucket_sectors (requests_in table.now.table.read)))) }
+    ensures { out.new ≡ with_bytes out.old (keys_bytes 4 (map (released_key (held_volume table.now) (held_requests table.now)) (held_buckets table.now))) }
 {
     for h in table.iter() {
-        out.put_key(
-            Tree::Alloc.tag(),
-            &freed_key(h, table.table.read.head.journal),
-        );
+        out.put_key(Tree::Alloc.tag(), &freed_key(h, table.read().head.journal));
     }
 }

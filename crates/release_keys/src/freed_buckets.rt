@@ -1,8 +1,8 @@
 // The freed buckets that are emptied.
 ghost use Rattle.std.specs.Prelude.{◌≡◌, ◌≤◌, length, map};
 ghost use Rattle.calls.specs.Lists.{those};
-ghost use Rattle.calls.specs.Release.{is_emptied, emptied_gen, freed_buckets};
-ghost use Rattle.release_keys.specs.Given.{volume_in, requests_in};
+ghost use Rattle.calls.specs.Release.{is_emptied, emptied_gen};
+ghost use Rattle.release_keys.specs.HeldOf.{held_volume, held_requests, held_buckets};
 ghost use Rattle.release_keys.specs.Emptied.{emptied_row};
 
 use crate::table::HeldTable;
@@ -20,7 +20,7 @@ pub fn find_emptied<'r>(
     table: &HeldTable,
     emptied: &'r mut [EmptiedBucket; 1024],
 ) -> &'r [EmptiedBucket]
-    ensures { result.now ≡ map (emptied_row (emptied_gen (volume_in table.now.table.read).trees)) (those (is_emptied (volume_in table.now.table.read) (requests_in table.now.table.read)) (freed_buckets table.now.table.read.head.bucket_sectors (requests_in table.now.table.read))) }
+    ensures { result.now ≡ map (emptied_row (emptied_gen (held_volume table.now).trees)) (those (is_emptied (held_volume table.now) (held_requests table.now)) (held_buckets table.now)) }
 {
     let mut n: usize = 0;
     // By index: nothing is known of what a slice holds after `iter_mut().zip(..)`.

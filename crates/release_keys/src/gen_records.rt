@@ -34,7 +34,7 @@ fn new_record(b: Bucket) -> Bkey
     }
 }
 
-// A bucket's record before this release. The limits show the bound, here and below.
+// A bucket's record before this release. The limits show the bound.
 fn old_record(records: &Records, b: Bucket) -> Bkey
     requires { bucket_in_range b ≡ true }
     ensures { key_in result ≡ gen_key (keys_listed records.now.gens) b }
@@ -45,27 +45,27 @@ fn old_record(records: &Records, b: Bucket) -> Bkey
     }
 }
 
-// A record with a bucket's generation. A byte past its end, which refusal 19 rules out, changes nothing.
-fn with_generation(k: Bkey, b: Bucket, generation: u8) -> Bkey
-    ensures { key_in result ≡ with_value (key_in k) (with_gen b generation k.value) }
+// A record with the generation of an emptied bucket. A byte past its end, which refusal 19 rules out, changes nothing.
+fn with_generation(k: Bkey, e: EmptiedBucket) -> Bkey
+    ensures { key_in result ≡ with_value (key_in k) (with_gen e.bucket e.generation k.value) }
 {
     let mut r = k;
-    if positions::gens_byte(b) < r.value.as_slice().len() {
-        format::gens::with_gen(&mut r.value, b, generation);
+    if positions::gens_byte(e.bucket) < r.value.as_slice().len() {
+        format::gens::with_gen(&mut r.value, e.bucket, e.generation);
     }
     r
 }
 
-// The record of the next emptied bucket: the last one queued is continued where it is the bucket's, and else the one before this release.
-fn next_record(records: &Records, last: Option<Bkey>, b: Bucket, generation: u8) -> Bkey
-    requires { bucket_in_range b ≡ true }
-    ensures { key_in result ≡ next_queued (keys_listed records.now.gens) last b generation }
+// The record of the next emptied bucket: the last one queued is continued where it is the bucket's, and else the one before this release. The limits show the bound.
+fn next_record(records: &Records, last: Option<Bkey>, e: EmptiedBucket) -> Bkey
+    requires { bucket_in_range e.bucket ≡ true }
+    ensures { key_in result ≡ next_queued (keys_listed records.now.gens) last e }
 {
     let key = match last {
-        Some(key) if bpos::pos_same(key.head.pos, positions::gens_at(b)) => key,
-        _ => old_record(records, b),
+        Some(key) if bpos::pos_same(key.head.pos, positions::gens_at(e.bucket)) => key,
+        _ => old_record(records, e.bucket),
     };
-    with_generation(key, b, generation)
+    with_generation(key, e)
 }
 
 // The records of all emptied buckets, which ascend. `find_emptied` shows what is required.
@@ -74,8 +74,8 @@ pub fn put_gens(out: &mut Output, records: &Records, emptied: &[EmptiedBucket])
     ensures { (generation_of : kinds.Bucket → ℕ) → emptied.now ≡ map (emptied_row generation_of) (emptied_buckets emptied.now) → out.new ≡ with_bytes out.old (keys_bytes 14 (gens_queued generation_of (keys_listed records.now.gens) (emptied_buckets emptied.now))) }
 {
     let mut last = None;
-    for e in emptied {
-        let key = next_record(records, last, e.bucket, e.generation);
+    for &e in emptied {
+        let key = next_record(records, last, e);
         out.put_key(Tree::BucketGens.tag(), &key);
         last = Some(key);
     }

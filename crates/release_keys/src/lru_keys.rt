@@ -3,9 +3,9 @@ ghost use Rattle.std.specs.Prelude.{◌≡◌};
 ghost use Rattle.std.specs.Int.NonZero.{non_zero_u64_get};
 ghost use mathlib.Core.List.{flat_map};
 ghost use Rattle.wire.specs.Output.{with_bytes};
-ghost use Rattle.calls.specs.Release.{freed_buckets, released_lru};
+ghost use Rattle.calls.specs.Release.{released_lru};
 ghost use Rattle.change_fields.specs.FieldBytes.{keys_bytes};
-ghost use Rattle.release_keys.specs.Given.{volume_in, requests_in};
+ghost use Rattle.release_keys.specs.HeldOf.{held_volume, held_requests, held_buckets};
 ghost use Rattle.release_keys.specs.Tables.{row_lru};
 
 use crate::table::{HeldBucket, HeldTable};
@@ -26,7 +26,7 @@ fn put_bucket_lru(out: &mut Output, h: HeldBucket)
 
 // The keys of all freed buckets.
 pub fn put_lrus(out: &mut Output, table: &HeldTable)
-    ensures { out.new ≡ with_bytes out.old (keys_bytes 10 (flat_map (released_lru (volume_in table.now.table.read) (requests_in table.now.table.read)) (freed_buckets table.now.table.read.head.bucket_sectors (requests_in table.now.table.read)))) }
+    ensures { out.new ≡ with_bytes out.old (keys_bytes 10 (flat_map (released_lru (held_volume table.now) (held_requests table.now)) (held_buckets table.now))) }
 {
     for h in table.iter() {
         put_bucket_lru(out, h);

@@ -10,7 +10,6 @@ ghost use Rattle.release_keys.specs.Tables.{FreedEntry};
 use crate::table::{FreedBucket, FreedTable};
 use format::alloc;
 use gens::records::Records;
-use reader::key::ListedKey;
 use reader::read_list::ReadList;
 use reader::refusal::Refusal;
 
@@ -19,14 +18,10 @@ fn bucket_refusal(read: &ReadList, records: &Records, f: FreedBucket) -> Result<
     requires { FreedEntry read.now.alloc.list.now (volume_in read.now) (requests_in read.now) f × (keys_listed records.now.gens ≡ keys_listed read.now.gens) }
     ensures { number_in result ≡ bucket_refusal (volume_in read.now) (requests_in read.now) f.bucket }
 {
-    let Some(at) = f.place else {
+    let Some(key) = f.key(read.alloc.list) else {
         return Err(Refusal::NoAlloc);
     };
-    let value = ListedKey {
-        list: read.alloc.list,
-        at,
-    }
-    .value();
+    let value = key.value();
     if value.len() < 56 {
         return Err(Refusal::ShortAlloc);
     }

@@ -1,10 +1,10 @@
 // The table of a release: the freed buckets, before refusals 15 to 19 and after them.
-ghost use Rattle.std.specs.Prelude.{◌≡◌, ◌≤◌, map};
+ghost use Rattle.std.specs.Prelude.{◌≡◌, map};
 ghost use Rattle.std.specs.Int.NonZero.{non_zero_u64_get};
 ghost use Rattle.calls.specs.Refusals.{verdict};
 ghost use Rattle.calls.specs.Release.{bucket_refusal, freed_buckets};
 ghost use Rattle.release_keys.specs.Given.{volume_in, requests_in, RequestsChecked};
-ghost use Rattle.release_keys.specs.Tables.{FreedTables, RowHeld, RowsHeld, RowsWithin, row_dirty};
+ghost use Rattle.release_keys.specs.Tables.{FreedTables, RowHeld, RowsHeld};
 
 use format::alloc;
 use reader::key::ListedKey;
@@ -13,7 +13,7 @@ use release_sums::requests::Freeds;
 use std::num::NonZero;
 use wire::kinds::Bucket;
 
-// A bucket of which something is freed, how many sectors of it, and the place of its alloc key, or none where it has none. A place takes four bytes, where a `ListedKey` would take 24 in each of the 1,024.
+// A bucket of which something is freed, how many sectors of it, and the place of its alloc key, or none where it has none. The place takes eight bytes, where a `ListedKey` would name the list in each of the 1,024 and take 24 at least.
 #[derive(Clone, Copy, Drop)]
 pub struct FreedBucket {
     pub bucket: Bucket,
@@ -35,8 +35,8 @@ pub struct FreedTable<'a> {
 // A table that refusals 15 to 19 passed.
 #[derive(Clone, Copy, Drop)]
 pub struct HeldTable<'a> {
-    pub table: FreedTable<'a>,
-    pub ghost none_refuses: { verdict (map (bucket_refusal (volume_in table.read) (requests_in table.read)) (freed_buckets table.read.head.bucket_sectors (requests_in table.read))) ≡ 0 },
+    pub freed: FreedTable<'a>,
+    pub ghost none_refuses: { verdict (map (bucket_refusal (volume_in freed.read) (requests_in freed.read)) (freed_buckets freed.read.head.bucket_sectors (requests_in freed.read))) ≡ 0 },
 }
 
 // A freed bucket of it: its alloc key is there, and it holds what is freed of it and no more than fits.
@@ -45,8 +45,7 @@ pub struct HeldBucket<'a> {
     pub list: &'a [u8],
     pub bucket_sectors: NonZero<u64>,
     pub freed: FreedBucket,
-    pub ghost held: { RowHeld list.now freed },
-    pub ghost within: { row_dirty list.now freed ≤ non_zero_u64_get bucket_sectors },
+    pub ghost held: { RowHeld list.now (non_zero_u64_get bucket_sectors) freed },
 }
 
 // Those of them that are left.
@@ -55,8 +54,21 @@ pub struct HeldLeft<'a> {
     pub list: &'a [u8],
     pub bucket_sectors: NonZero<u64>,
     pub buckets: &'a [FreedBucket],
-    pub ghost held: { RowsHeld list.now buckets.now },
-    pub ghost within: { RowsWithin list.now (non_zero_u64_get bucket_sectors) buckets.now },
+    pub ghost held: { RowsHeld list.now (non_zero_u64_get bucket_sectors) buckets.now },
+}
+
+impl FreedBucket {
+    ghost use Rattle.std.specs.Prelude.{ℕ, Some, None, MatchOption};
+    ghost use Rattle.reader.specs.KeyHere.{Whole};
+
+    // Its alloc key in a list, if it has one. The table shows that a whole key stands at its place.
+    pub fn key<'a>(&self, list: &'a [u8]) -> Option<ListedKey<'a>>
+        requires { (at : ℕ) → self.now.place ≡ Some at → Whole list.now at }
+        ensures { MatchOption result (self.now.place ≡ None) (λ k. (k.list.now ≡ list.now) × (self.now.place ≡ Some k.at)) }
+    {
+        let at = self.place?;
+        Some(ListedKey { list, at })
+    }
 }
 
 impl<'a> FreedTable<'a> {
@@ -66,25 +78,28 @@ impl<'a> FreedTable<'a> {
     pub fn freeds(&self) -> Freeds<'a>
         ensures { freeds_of result ≡ requests_in self.now.read }
     {
-        Freeds {
-            list: self.read.list,
-            places: self.read.requests,
-        }
+        Freeds::of(&self.read)
     }
 }
 
 impl<'a> HeldTable<'a> {
     ghost use Rattle.release_keys.specs.HeldOf.{held_left, LeftOf};
 
+    // The list that was read.
+    pub fn read(&self) -> &ReadList<'a>
+        ensures { result.now ≡ self.now.freed.read }
+    {
+        &self.freed.read
+    }
+
     // The freed buckets, from the first on.
     pub fn iter(&self) -> HeldLeft<'a>
-        ensures { (held_left result ≡ self.now.table.buckets.now) × LeftOf self.now result }
+        ensures { (held_left result ≡ self.now.freed.buckets.now) × LeftOf self.now result }
     {
-        let table = &self.table;
         HeldLeft {
-            list: table.read.alloc.list,
-            bucket_sectors: table.bucket_sectors,
-            buckets: table.buckets,
+            list: self.read().alloc.list,
+            bucket_sectors: self.freed.bucket_sectors,
+            buckets: self.freed.buckets,
         }
     }
 }
@@ -93,16 +108,13 @@ impl<'a> HeldBucket<'a> {
     ghost use Rattle.reader.specs.ListedKeys.{key_listed};
     ghost use Rattle.format.specs.Packing.{get};
     ghost use Rattle.format.specs.AllocV4.{gen, next_gen};
-    ghost use Rattle.release_keys.specs.Tables.{row_key, row_emptied};
+    ghost use Rattle.release_keys.specs.Tables.{row_key, row_dirty, row_emptied};
 
     // Its alloc key.
     pub fn key(&self) -> ListedKey<'a>
         ensures { key_listed result ≡ row_key self.now.list.now self.now.freed }
     {
-        ListedKey {
-            list: self.list,
-            at: self.freed.place.unwrap(),
-        }
+        self.freed.key(self.list).unwrap()
     }
 
     // How many sectors it holds.

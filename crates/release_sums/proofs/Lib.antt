@@ -1,3 +1,4 @@
+pub mod ClearLaws
 pub mod FreedLaws
 pub mod SumLaws
 pub mod FoundLaws

@@ -3,12 +3,14 @@ ghost use Rattle.std.specs.Prelude.{◌≡◌, ◌+◌, ◌<◌, ◌≤◌, leng
 ghost use Rattle.std.specs.Int.NonZero.{non_zero_u64_get};
 ghost use Rattle.calls.specs.CallList.{freed_of};
 ghost use Rattle.calls.specs.Release.{freed_ok};
-ghost use Rattle.release_sums.specs.Freeds.{freed_held, Requested};
+ghost use Rattle.release_sums.specs.Freeds.{freed_held, freeds_in, Requested};
 
+use reader::read_list::ReadList;
 use std::num::NonZero;
 use wire::kinds::DeviceSector;
 use wire::{kinds, le};
 
+// A released piece: its first sector, and how many sectors it has.
 #[derive(Clone, Copy, Drop)]
 pub struct Freed {
     pub first: DeviceSector,
@@ -41,7 +43,7 @@ fn read_freed(s: &[u8], at: usize) -> Freed
     }
 }
 
-// Refusal 14 at one piece. Two bytes of a field show the bound, here and below.
+// Refusal 14 at one piece. Two bytes of a field show the bound.
 #[tactic(auto, unfolding(calls::specs::Release::freed_ok))]
 fn freed_ok(r: Freed, sectors: NonZero<u64>) -> bool
     requires { non_zero_u64_get sectors < 65536 }
@@ -56,6 +58,17 @@ impl<'a> Freeds<'a> {
     ghost use Rattle.calls.specs.Lists.{all_of};
     ghost use Rattle.release_sums.specs.FreedsOf.{freeds_of, freeds_left};
 
+    // Those that a list requests. The reader shows that they are.
+    pub fn of(read: &ReadList<'a>) -> Freeds<'a>
+        requires { Requested read.now.list.now read.now.requests.now }
+        ensures { freeds_of result ≡ freeds_in read.now.list.now read.now.requests.now }
+    {
+        Freeds {
+            list: read.list,
+            places: read.requests,
+        }
+    }
+
     // The pieces, from the first on.
     pub fn iter(self) -> FreedsLeft<'a>
         ensures { freeds_left result ≡ freeds_of self.entry }
@@ -63,7 +76,7 @@ impl<'a> Freeds<'a> {
         FreedsLeft { freeds: self }
     }
 
-    // Refusal 14: whether every piece lies within its bucket.
+    // Refusal 14: whether every piece lies within its bucket. Two bytes of a field show the bound.
     pub fn all_ok(self, sectors: NonZero<u64>) -> bool
         requires { non_zero_u64_get sectors < 65536 }
         ensures { result ≡ all_of (freed_ok (non_zero_u64_get sectors)) (freeds_of self.entry) }

@@ -7,6 +7,19 @@ use std::num::NonZero;
 use wire::kinds;
 use wire::kinds::Bucket;
 
+// How many sums there are: one for each bucket that a device may have.
+pub const BUCKETS: usize = 65536;
+
+// How many buckets have one mark.
+const GROUP: usize = 64;
+
+// The lent scratch, whose sums are 0. Whoever makes one shows it.
+#[derive(Drop)]
+pub struct ClearedScratch<'a> {
+    pub sums: &'a mut [u32],
+    pub ghost cleared: { Cleared sums.now },
+}
+
 // A bucket of which something is freed, and how many sectors of it.
 #[derive(Clone, Copy, Drop)]
 pub struct BucketSum {
@@ -18,7 +31,7 @@ pub struct BucketSum {
 #[derive(Drop)]
 pub struct Sums<'a> {
     pub sums: &'a mut [u32],
-    pub marks: [bool; 1024],
+    pub marks: [bool; BUCKETS / GROUP],
     pub next: usize,
     pub ghost long: { 65536 ≤ length sums.now },
     pub ghost marked: { Marked sums.now marks },
@@ -31,7 +44,7 @@ pub fn clear(sums: &mut [u32])
     requires { 65536 ≤ length sums.old }
     ensures { sums.new ≡ replicate 65536 0 ++ drop 65536 sums.old }
 {
-    sums[..65536].fill(0);
+    sums[..BUCKETS].fill(0);
 }
 
 impl<'a> Sums<'a> {
@@ -42,7 +55,7 @@ impl<'a> Sums<'a> {
     ghost use Rattle.release_sums.specs.FreedsOf.{freeds_of};
     ghost use Rattle.release_sums.specs.Summing.{Summed};
 
-    // The table with no group marked, and no sum taken out. `clear` shows what is required.
+    // The table with no group marked, and no sum taken out. `ClearedScratch` shows what is required.
     pub fn new(sums: &'a mut [u32]) -> Sums<'a>
         requires { Cleared sums.old }
         ensures same_reference { result.sums.ghost_name ≡ sums.entry.ghost_name }
@@ -51,12 +64,12 @@ impl<'a> Sums<'a> {
     {
         Sums {
             sums,
-            marks: [false; 1024],
+            marks: [false; BUCKETS / GROUP],
             next: 0,
         }
     }
 
-    // Adds each piece's sectors to the sum of its bucket, and marks its group. Refusal 14, the limits and `clear` show what is required.
+    // Adds each piece's sectors to the sum of its bucket, and marks its group. Refusal 14, the limits and `ClearedScratch` show what is required.
     pub fn add_up(&mut self, freeds: Freeds, sectors: NonZero<u64>)
         requires { (length (freeds_of freeds) ≤ 1024) × (all_of (freed_ok (non_zero_u64_get sectors)) (freeds_of freeds) ≡ true) × Cleared self.old.sums.now × (self.old.next ≡ 0) }
         ensures same_reference { self.new.sums.ghost_name ≡ self.old.sums.ghost_name }
@@ -64,7 +77,7 @@ impl<'a> Sums<'a> {
     {
         for r in freeds.iter() {
             let b = kinds::bucket_of(r.first, sectors).0 as usize;
-            self.marks[b / 64] = true;
+            self.marks[b / GROUP] = true;
             self.sums[b] += r.sectors as u32;
         }
     }
@@ -82,21 +95,21 @@ impl<'a> Iterator for Sums<'a> {
 
     // Takes out the next sum that is not 0, if one is left.
     fn next(&mut self) -> Option<BucketSum> {
-        // A `while`, which goes on where the last call ended and passes a group that is not marked as a whole.
-        while self.next < 65536 {
+        // A `while` and no range, which would visit each bucket: a group that is not marked is passed as a whole.
+        while self.next < BUCKETS {
             let b = self.next;
-            if !self.marks[b / 64] {
-                self.next = (b / 64 + 1) * 64;
-                continue;
-            }
-            let sectors = self.sums[b];
-            self.sums[b] = 0;
-            self.next = b + 1;
-            if sectors != 0 {
-                return Some(BucketSum {
-                    bucket: Bucket(b as u64),
-                    sectors,
-                });
+            if self.marks[b / GROUP] {
+                let sectors = self.sums[b];
+                self.sums[b] = 0;
+                self.next = b + 1;
+                if sectors != 0 {
+                    return Some(BucketSum {
+                        bucket: Bucket(b as u64),
+                        sectors,
+                    });
+                }
+            } else {
+                self.next = (b / GROUP + 1) * GROUP;
             }
         }
         None

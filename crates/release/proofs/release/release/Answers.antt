@@ -5,7 +5,8 @@ use Rattle.reader.specs.Refusals.{made_by}
 use Rattle.reader.specs.Readings.{refusal_of}
 use Rattle.reader.proofs.LendingLaws.{refused-or-read, moved, list-answered}
 use Rattle.release_sums.specs.Summing.{Cleared}
-use Rattle.release.proofs.ReadLaws.{release-refused, cleared, cleared-length, cleared-after, scratch-long}
+use Rattle.release_sums.proofs.ClearLaws.{cleared, cleared-length}
+use Rattle.release.proofs.ReadLaws.{release-refused, cleared-after, scratch-long}
 use Rattle.release.proofs.release.release.Goals as goal
 
 pub with_list-requires : goal.with_list-requires

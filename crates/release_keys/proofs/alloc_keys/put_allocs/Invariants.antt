@@ -9,5 +9,5 @@ use Rattle.release_keys.proofs.alloc_keys.put_allocs.Given as goal
 abbrev pub invariant-loop-h : goal.invariant-loop-h
 invariant-loop-h l =
     LeftOf l.table l.h-iterator
-    × (with_bytes l.out (keys_bytes 4 (map (freed_key l.table.table.read.head.journal l.table.table.read.alloc.list.now) (held_left l.h-iterator)))
-    ≡ with_bytes l.fn.out (keys_bytes 4 (map (freed_key l.table.table.read.head.journal l.table.table.read.alloc.list.now) l.table.table.buckets.now)))
+    × (with_bytes l.out (keys_bytes 4 (map (freed_key l.table.freed.read.head.journal l.table.freed.read.alloc.list.now) (held_left l.h-iterator)))
+    ≡ with_bytes l.fn.out (keys_bytes 4 (map (freed_key l.table.freed.read.head.journal l.table.freed.read.alloc.list.now) l.table.freed.buckets.now)))

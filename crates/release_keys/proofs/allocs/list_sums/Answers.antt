@@ -1,16 +1,10 @@
 -- A sum is taken out, and listed with the place of its alloc key.
 use Rattle.std.proofs.Common.{arith, refl, ◌∙◌, length-set}
-use Rattle.release_keys.proofs.AllocLaws.{skipped-ascend, listing-starts, listing-room, listing-next, listing-ends, listing-places}
+use Rattle.release_keys.proofs.AllocLaws.{listing-starts, listing-room, listing-next, listing-ends, listing-places}
 use Rattle.release_keys.proofs.allocs.list_sums.Goals as goal
 
 pub loop-sum-init : goal.loop-sum-init
-loop-sum-init c = ((refl, refl), omega arith, listing-starts c.args.buckets.now c.requires.2 c.requires.1)
-
-pub place_here-requires-clause-ascend : goal.place_here-requires-clause-ascend
-place_here-requires-clause-ascend c = skipped-ascend c.skip_below-keys.ensures c.loop-sum.invariant.2.ascend
-
-pub place_here-requires-clause-none_before : goal.place_here-requires-clause-none_before
-place_here-requires-clause-none_before c = c.skip_below-keys.ensures.stops
+loop-sum-init c = ((refl, refl), omega arith, listing-starts c.args.buckets.now c.requires.1)
 
 pub offset_bounds-buckets-n : goal.offset_bounds-buckets-n
 offset_bounds-buckets-n c = omega (arith, listing-room c.loop-sum.invariant.2 c.in-Some.ensures.steps.0, c.requires.0)

@@ -9,24 +9,24 @@ use Rattle.release_keys.proofs.freed_buckets.find_emptied.Goals as goal
 
 pub loop-h-init : goal.loop-h-init
 loop-h-init c =
-    let s = c.args.table.now.table.read.alloc.list.now in
+    let s = c.args.table.now.freed.read.alloc.list.now in
     let i = c.into_iter-h-iterator.ensures.into_iter_gives in
     let e = ap held_left i ∙ c.iter-h-items.ensures.0 in
     (rw i c.iter-h-items.ensures.1, omega arith, omega (arith, ap length e), ap (λ l. map (row_gen s) (those (row_emptied s) l)) e)
 
 pub offset_bounds-emptied-n : goal.offset_bounds-emptied-n
 offset_bounds-emptied-n c =
-    let t = c.args.table.now.table in
+    let t = c.args.table.now.freed in
     omega (arith, c.loop-h.invariant.2, table-few t.checked t.tabled, ap length c.in-Some.ensures.steps.0)
 
 pub bounds-emptied-n : goal.bounds-emptied-n
 bounds-emptied-n c =
-    let t = c.args.table.now.table in
+    let t = c.args.table.now.freed in
     omega (arith, c.loop-h.invariant.2, table-few t.checked t.tabled, ap length c.in-Some.ensures.steps.0)
 
 pub loop-h-preserved-then-is_emptied : goal.loop-h-preserved-then-is_emptied
 loop-h-preserved-then-is_emptied c =
-    let t = c.args.table.now.table in
+    let t = c.args.table.now.freed in
     let s = t.read.alloc.list.now in
     let v = c.loop-h.invariant in
     let w = c.in-Some.ensures.steps in
@@ -42,7 +42,7 @@ loop-h-preserved-then-is_emptied c =
 
 pub loop-h-preserved : goal.loop-h-preserved
 loop-h-preserved c =
-    let s = c.args.table.now.table.read.alloc.list.now in
+    let s = c.args.table.now.freed.read.alloc.list.now in
     let v = c.loop-h.invariant in
     let w = c.in-Some.ensures.steps in
     let miss = those-miss (row_emptied s) w.0 (rw (w.1.0 ∙ v.0.0) at (sym c.if-is_emptied.ensures)) in
@@ -50,12 +50,12 @@ loop-h-preserved c =
 
 pub shared_ref_as_front-result : goal.shared_ref_as_front-result
 shared_ref_as_front-result c =
-    let t = c.args.table.now.table in
+    let t = c.args.table.now.freed in
     omega (arith, c.loop-h.invariant.2, table-few t.checked t.tabled)
 
 pub returns : goal.returns
 returns c =
-    let t = c.args.table.now.table in
+    let t = c.args.table.now.freed in
     let s = t.read.alloc.list.now in
     let none = those-none (row_emptied s) c.in-None.ensures.steps in
     sym (append-nil (take c.loop-h.n c.loop-h.emptied)) ∙ sym (ap (λ l. take c.loop-h.n c.loop-h.emptied ++ map (row_gen s) l) none) ∙ c.loop-h.invariant.3 ∙ emptied-are t.tabled

@@ -9,6 +9,6 @@ abbrev pub invariant-loop-h : goal.invariant-loop-h
 invariant-loop-h l =
     LeftOf l.table l.h-iterator
     × (length l.emptied ≡ 1024)
-    × (l.n + length (held_left l.h-iterator) ≤ length l.table.table.buckets.now)
-    × (take l.n l.emptied ++ map (row_gen l.table.table.read.alloc.list.now) (those (row_emptied l.table.table.read.alloc.list.now) (held_left l.h-iterator))
-    ≡ map (row_gen l.table.table.read.alloc.list.now) (those (row_emptied l.table.table.read.alloc.list.now) l.table.table.buckets.now))
+    × (l.n + length (held_left l.h-iterator) ≤ length l.table.freed.buckets.now)
+    × (take l.n l.emptied ++ map (row_gen l.table.freed.read.alloc.list.now) (those (row_emptied l.table.freed.read.alloc.list.now) (held_left l.h-iterator))
+    ≡ map (row_gen l.table.freed.read.alloc.list.now) (those (row_emptied l.table.freed.read.alloc.list.now) l.table.freed.buckets.now))

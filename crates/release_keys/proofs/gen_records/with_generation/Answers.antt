@@ -8,4 +8,4 @@ use Rattle.release_keys.proofs.gen_records.with_generation.Goals as goal
 pub returns-else-gens_byte-as_slice : goal.returns-else-gens_byte-as_slice
 returns-else-gens_byte-as_slice c =
     let k = c.args.k in
-    ap (λ (l : List ℕ). with_value (key_in k) l) (sym (generation-past c.args.b c.args.generation k.value (omega (arith, c.gens_byte.ensures, ap (λ (l : List ℕ). length l) c.as_slice.ensures.gives))))
+    ap (λ (l : List ℕ). with_value (key_in k) l) (sym (generation-past c.args.e.bucket c.args.e.generation k.value (omega (arith, c.gens_byte.ensures, ap (λ (l : List ℕ). length l) c.as_slice.ensures.gives))))

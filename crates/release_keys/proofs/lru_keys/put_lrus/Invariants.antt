@@ -10,5 +10,5 @@ use Rattle.release_keys.proofs.lru_keys.put_lrus.Given as goal
 abbrev pub invariant-loop-h : goal.invariant-loop-h
 invariant-loop-h l =
     LeftOf l.table l.h-iterator
-    × (with_bytes l.out (keys_bytes 10 (flat_map (row_lru l.table.table.read.head.bucket_sectors l.table.table.read.alloc.list.now) (held_left l.h-iterator)))
-    ≡ with_bytes l.fn.out (keys_bytes 10 (flat_map (row_lru l.table.table.read.head.bucket_sectors l.table.table.read.alloc.list.now) l.table.table.buckets.now)))
+    × (with_bytes l.out (keys_bytes 10 (flat_map (row_lru l.table.freed.read.head.bucket_sectors l.table.freed.read.alloc.list.now) (held_left l.h-iterator)))
+    ≡ with_bytes l.fn.out (keys_bytes 10 (flat_map (row_lru l.table.freed.read.head.bucket_sectors l.table.freed.read.alloc.list.now) l.table.freed.buckets.now)))

@@ -15,12 +15,12 @@ put_rows-requires c =
 pub returns : goal.returns
 returns c =
     let d = c.self.invariant in
-    let g = c.self.inside.held.table.read in
+    let g = c.self.inside.held.freed.read in
     let u = c.unused_in-unused in
     let lrus = then _ _ _ c.put_allocs.ensures c.put_lrus.ensures in
-    let waits = then _ _ _ lrus c.put_need_discards.ensures in
+    let waits = then _ _ _ lrus (rw c.read-read.ensures at c.put_need_discards.ensures) in
     let gone = then _ _ _ waits c.put_deletions.ensures in
     let records = then _ _ _ gone (rw d.recorded at c.put_gens.ensures _ (generations-are d)) in
-    let rooted = then _ _ _ records c.put_roots.ensures in
+    let rooted = then _ _ _ records (rw c.read-read.ensures at c.put_roots.ensures) in
     then _ _ _ (then _ _ _ rooted c.put_rows.ensures) c.put_end.ensures
     ∙ ap (with_bytes c.args.out.now) (batch-is d c.total_freed-total.result u.result c.total_freed-total.ensures.1 u.ensures.2 ∙ c.self.view_is)
