@@ -9,7 +9,7 @@ use Rattle.reader.specs.declared.listed.ListedLeft.{ListedLeft}
 
 -- a bucket as a body: its number, of four bytes
 abbrev pub bucket_body : Ghosts Bucket
-bucket_body = record { Seen = Bucket; seen = λ b. b; width = 4; begun = bucket_read }
+bucket_body = record { Seen = Bucket; seen = λ b. b; width = 4; read = bucket_read }
 
 abbrev pub ReservedBuckets : Type 0
 ReservedBuckets = Listed Bucket bucket_body

@@ -10,7 +10,7 @@ use Rattle.reader.specs.declared.listed.ListedLeft.{ListedLeft}
 
 -- a piece as a body, of 13 bytes
 abbrev pub piece_body : Ghosts Piece
-piece_body = record { Seen = calls.Piece; seen = λ p. piece_in p; width = 13; begun = λ s. piece_of (take 13 s) }
+piece_body = record { Seen = calls.Piece; seen = λ p. piece_in p; width = 13; read = λ s. piece_of (take 13 s) }
 
 abbrev pub Pieces : Type 0
 Pieces = Listed Piece piece_body

@@ -15,14 +15,15 @@ pub trait FixedBody: Drop {
 
     ghost seen: { Self → Seen };
 
-    // How many bytes it has, and what bytes that begin with it hold.
+    // How many bytes it has, and what is read of bytes that begin with it.
     ghost width: { ℕ };
 
-    ghost begun: { List ℕ → Seen };
+    ghost read: { List ℕ → Seen };
 
+    // The one at a place. The length of its field shows the bound.
     fn read_at(list: &[u8], at: usize) -> Self
         requires { at + width ≤ length list.now }
-        ensures { seen result ≡ begun (drop at list.now) };
+        ensures { seen result ≡ read (drop at list.now) };
 }
 
 // A list, and the places of some bodies. Whoever makes one shows that each is within the list.
@@ -34,6 +35,7 @@ pub struct Listed<'a, T: FixedBody> {
     pub ghost whole: { WholeBodies T.width list.now places.now },
 }
 
+// By hand, since neither is derived for a generic struct with a ghost field.
 impl<'a, T: FixedBody> Copy for Listed<'a, T> {}
 
 impl<'a, T: FixedBody> Clone for Listed<'a, T> {
@@ -67,15 +69,15 @@ impl<'a, T: FixedBody> Listed<'a, T> {
 
     // How many they are.
     pub fn len(&self) -> usize
-        ensures { result ≡ length (values_at T.begun self.now.list.now self.now.places.now) }
+        ensures { result ≡ length (values_at T.read self.now.list.now self.now.places.now) }
     {
         self.places.len()
     }
 
     // The one at an index. Who asks for it shows the bound.
     pub fn get(&self, i: usize) -> T
-        requires { i < length (values_at T.begun self.now.list.now self.now.places.now) }
-        ensures { (none : T.Seen) → T.seen result ≡ get_or (values_at T.begun self.now.list.now self.now.places.now) i none }
+        requires { i < length (values_at T.read self.now.list.now self.now.places.now) }
+        ensures { (none : T.Seen) → T.seen result ≡ get_or (values_at T.read self.now.list.now self.now.places.now) i none }
     {
         T::read_at(self.list, self.places[i] as usize)
     }
@@ -90,7 +92,7 @@ impl<'a, T: FixedBody> Listed<'a, T> {
     // Whether a test holds of each.
     pub fn all<F: Fn(T) -> bool>(&self, test: F) -> bool
         requires { F.IsAlwaysCallable test }
-        ensures { (t : T.Seen → Bool) → ((x : _) (r : Bool) → F.post test x r → r ≡ t (T.seen x)) → result ≡ all_of t (values_at T.begun self.now.list.now self.now.places.now) }
+        ensures { (t : T.Seen → Bool) → ((x : _) (r : Bool) → F.post test x r → r ≡ t (T.seen x)) → result ≡ all_of t (values_at T.read self.now.list.now self.now.places.now) }
     {
         self.iter().all(|x| test(x))
     }
@@ -99,7 +101,7 @@ impl<'a, T: FixedBody> Listed<'a, T> {
     pub fn skip_while<F: Fn(T) -> bool>(&self, from: usize, test: F) -> usize
         requires from_within { from ≤ length self.now.places.now }
         requires callable { (x : T) → F.pre test x }
-        ensures { (t : T.Seen → Bool) → ((x : T) (r : Bool) → F.post test x r → r ≡ t (T.seen x)) → result ≡ from + prefix_len t (drop from (values_at T.begun self.now.list.now self.now.places.now)) }
+        ensures { (t : T.Seen → Bool) → ((x : T) (r : Bool) → F.post test x r → r ≡ t (T.seen x)) → result ≡ from + prefix_len t (drop from (values_at T.read self.now.list.now self.now.places.now)) }
     {
         let list = self.list;
         skip::skip_while(
@@ -117,9 +119,9 @@ impl<'a, T: FixedBody> Iterator for ListedLeft<'a, T> {
 
     type Item = T;
 
-    ghost next_gives = { YieldsFirstBy T.seen (λ l. values_at T.begun l.listed.list.now l.listed.places.now) };
+    ghost next_gives = { YieldsFirstBy T.seen (λ l. values_at T.read l.listed.list.now l.listed.places.now) };
 
-    ghost remaining = { item_count (λ l. values_at T.begun l.listed.list.now l.listed.places.now) };
+    ghost remaining = { item_count (λ l. values_at T.read l.listed.list.now l.listed.places.now) };
 
     // The next one, if one is left.
     fn next(&mut self) -> Option<T> {

@@ -24,7 +24,7 @@ impl FixedBody for Piece {
 
     ghost width = { 13 };
 
-    ghost begun = { λ s. calls.piece_of (take 13 s) };
+    ghost read = { λ s. calls.piece_of (take 13 s) };
 
     fn read_at(list: &[u8], at: usize) -> Piece {
         piece::read_piece(list, at)

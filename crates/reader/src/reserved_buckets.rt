@@ -20,7 +20,7 @@ impl FixedBody for Bucket {
 
     ghost width = { 4 };
 
-    ghost begun = { bucket_read };
+    ghost read = { bucket_read };
 
     fn read_at(list: &[u8], at: usize) -> Bucket {
         kinds::read_bucket(list, at)

@@ -8,6 +8,6 @@ use Rattle.reader.proofs.listed.Listed.all.Goals as goal
 pub returns : goal.returns
 returns g c = λ t h.
     let b = g.T.FixedBody in
-    let xs = values_at b.begun c.args.self.now.list.now c.args.self.now.places.now in
+    let xs = values_at b.read c.args.self.now.list.now c.args.self.now.places.now in
     all_from_yields_List t c.all.new.self _ _ c.all.ensures.ran (YieldsList-from_first b.seen _ xs (search rules)) (λ x r q k. search (rules, of_calls, h))
     ∙ all-listed t xs

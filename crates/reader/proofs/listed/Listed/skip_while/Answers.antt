@@ -12,7 +12,7 @@ skip_while-requires-clause-callable g c = all-imp (λ at w. search rules) (bodie
 
 pub returns : goal.returns
 returns g c = λ t acts.
-    let here : ℕ → g.T.FixedBody.Seen = λ at. g.T.FixedBody.begun (drop at c.args.self.now.list.now) in
+    let here : ℕ → g.T.FixedBody.Seen = λ at. g.T.FixedBody.read (drop at c.args.self.now.list.now) in
     let ps = c.args.self.now.places.now in
     c.skip_while.ensures (λ at. t (here at)) (λ at r k. search (rules, tests))
     ∙ ap (λ n. c.args.from + n) (prefix-map t here (drop c.args.from ps) ∙ ap (prefix_len t) (sym (map-drop here c.args.from ps)))
