@@ -10,7 +10,7 @@ use Rattle.release_sums.specs.declared.requests.Freeds.{Freeds}
 
 -- a released piece as a body, of 10 bytes
 abbrev pub freed_body : Ghosts Freed
-freed_body = record { Seen = calls.Freed; seen = λ r. freed_held r; width = 10; begun = λ s. freed_of (take 10 s) }
+freed_body = record { Seen = calls.Freed; seen = λ r. freed_held r; width = 10; read = λ s. freed_of (take 10 s) }
 
 abbrev pub freeds_of : Freeds → List calls.Freed
 freeds_of f = freeds_in f.pieces.list.now f.pieces.places.now

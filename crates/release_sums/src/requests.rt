@@ -35,7 +35,7 @@ impl FixedBody for Freed {
 
     ghost width = { 10 };
 
-    ghost begun = { λ s. calls.freed_of (take 10 s) };
+    ghost read = { λ s. calls.freed_of (take 10 s) };
 
     #[tactic(auto, using(crate::proofs::FreedLaws::freed_read))]
     fn read_at(list: &[u8], at: usize) -> Freed {
