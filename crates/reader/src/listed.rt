@@ -1,4 +1,4 @@
-// The values at some places of a list, whose bodies have a fixed length: the reserved buckets, the pieces.
+// The values at some places of a list, whose bodies have a fixed length: the reserved buckets, the pieces, and the released ones.
 ghost use Rattle.std.specs.Prelude.{◌≡◌, ⊤, ℕ, List, Bool, ◌+◌, ◌<◌, ◌≤◌, length, drop, get_or};
 ghost use Rattle.std.specs.List.{prefix_len};
 ghost use Rattle.calls.specs.Lists.{all_of};

@@ -42,7 +42,6 @@ freeds-map s (o ∷ os) (r ∷ rs) e h = λ x. (h 0 (omega arith)).is x ∷ free
 
 module _ {s os : List ℕ} {rs : List Freed} (q : FreedsAt s os rs) where
   freeds-found : freeds_in s os ≡ rs
-  unfolding freeds_in
   freeds-found = freeds-map s os rs q.count q.at
 
   pub requested : Requested s os

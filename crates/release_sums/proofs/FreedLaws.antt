@@ -1,7 +1,7 @@
 -- Reading released pieces, and tests over all of them.
-use mathlib.Core.Path.{◌≡◌, refl, ap}
+use mathlib.Core.Path.{◌≡◌, ap}
 use mathlib.Core.Bool.{true, ◌&&◌}
-use Prim.Native.Nat.{ℕ, suc, ◌+◌, ◌≤◌, ◌<◌}
+use Prim.Native.Nat.{ℕ, ◌+◌, ◌≤◌, ◌<◌}
 use native.Mathlib.Nat.{add-zero}
 use native.Mathlib.Omega.{arith}
 use mathlib.Core.List.{List, ◌∷◌}
@@ -16,7 +16,6 @@ use Rattle.calls.specs.CallList.{Freed, freed_of}
 use Rattle.calls.specs.Lists.{all_of}
 use Rattle.calls.specs.Release.{freed_ok}
 use Rattle.calls.proofs.lists.BoolLaws.{parts}
-use Rattle.release_sums.specs.Freeds.{freeds_in, Requested}
 
 -- a piece, each part read at its own place
 pub freed_read : (s : List ℕ) (at d n : ℕ) → d ≡ le 8 (drop at s) → n ≡ le 2 (drop (at + 8) s)
@@ -25,18 +24,6 @@ unfolding freed_of
 freed_read s at d n p q =
     let a : le 8 (take 10 (drop at s)) ≡ le 8 (drop at s) = rw add-zero at (body-le s at 10 8 0 (omega arith)) in
     rw (p, q, a, body-le s at 10 2 8 (omega arith))
-
--- the first piece, and the rest
-pub freeds_first : (s : List ℕ) {os : List ℕ} {o : ℕ} {rest : List ℕ} {r : Freed} → os ≡ o ∷ rest → r ≡ freed_of (take 10 (drop o s)) → freeds_in s os ≡ r ∷ freeds_in s rest
-unfolding freeds_in
-freeds_first s e f = rw (e, f) refl
-
--- the rest of the places find pieces too
-pub requested-rest : {s os : List ℕ} {o : ℕ} {rest : List ℕ} → Requested s os → os ≡ o ∷ rest → Requested s rest
-unfolding freeds_in
-requested-rest {s} {os} {o} {rest} q e =
-    let w : Requested s (o ∷ rest) = rw e at q in
-    record { count = omega (arith, w.count); at = λ i h. w.at (suc i) (omega (arith, h)) }
 
 -- what refusal 14 shows of a piece
 pub record FreedWithin (sectors : ℕ) (r : Freed) : Type 0 where

@@ -10,7 +10,7 @@ abbrev pub freed_held : Freed → calls.Freed
 freed_held r = record { first = r.first; sectors = r.sectors }
 
 -- the pieces that offsets find
-unfoldable pub freeds_in : List ℕ → List ℕ → List calls.Freed
+abbrev pub freeds_in : List ℕ → List ℕ → List calls.Freed
 freeds_in s offsets = map (λ at. freed_of (take 10 (drop at s))) offsets
 
 -- each offset finds a piece

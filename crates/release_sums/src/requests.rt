@@ -1,10 +1,10 @@
 // The released pieces: field 66.
-ghost use Rattle.std.specs.Prelude.{◌≡◌, ◌+◌, ◌<◌, ◌≤◌, length, take, drop};
+ghost use Rattle.std.specs.Prelude.{◌≡◌, ◌<◌};
 ghost use Rattle.std.specs.Int.NonZero.{non_zero_u64_get};
-ghost use Rattle.calls.specs.CallList.{freed_of};
 ghost use Rattle.calls.specs.Release.{freed_ok};
-ghost use Rattle.release_sums.specs.Freeds.{freed_held, freeds_in, Requested};
+ghost use Rattle.release_sums.specs.Freeds.{freed_held};
 
+use reader::listed::{FixedBody, Listed, ListedLeft};
 use reader::read_list::ReadList;
 use std::num::NonZero;
 use wire::kinds::DeviceSector;
@@ -17,29 +17,32 @@ pub struct Freed {
     pub sectors: u16,
 }
 
-// The released pieces of a list, by their places in it.
+// The released pieces of a list. A struct of its own, since a type of another crate may have no methods here.
 #[derive(Clone, Copy, Drop)]
 pub struct Freeds<'a> {
-    pub list: &'a [u8],
-    pub places: &'a [u32],
-    pub ghost requested: { Requested list.now places.now },
+    pub pieces: Listed<'a, Freed>,
 }
 
-// Those of them that are left.
-#[derive(Drop)]
-pub struct FreedsLeft<'a> {
-    pub freeds: Freeds<'a>,
-}
+// A released piece has 10 bytes.
+impl FixedBody for Freed {
+    ghost use Rattle.std.specs.Prelude.{take};
+    ghost use Rattle.calls.specs.CallList as calls;
+    ghost use Rattle.release_sums.specs.Freeds.{freed_held};
 
-// The piece at a place of a list. The length of a field 66 shows the bound.
-#[tactic(auto, using(crate::proofs::FreedLaws::freed_read))]
-fn read_freed(s: &[u8], at: usize) -> Freed
-    requires { at + 10 ≤ length s.now }
-    ensures { freed_held result ≡ freed_of (take 10 (drop at s.now)) }
-{
-    Freed {
-        first: DeviceSector(le::le64(s, at)),
-        sectors: le::le16(s, at + 8),
+    ghost Seen = { calls.Freed };
+
+    ghost seen = { λ r. freed_held r };
+
+    ghost width = { 10 };
+
+    ghost read = { λ s. calls.freed_of (take 10 s) };
+
+    #[tactic(auto, using(crate::proofs::FreedLaws::freed_read))]
+    fn read_at(list: &[u8], at: usize) -> Freed {
+        Freed {
+            first: DeviceSector(le::le64(list, at)),
+            sectors: le::le16(list, at + 8),
+        }
     }
 }
 
@@ -56,6 +59,7 @@ fn freed_ok(r: Freed, sectors: NonZero<u64>) -> bool
 
 impl<'a> Freeds<'a> {
     ghost use Rattle.calls.specs.Lists.{all_of};
+    ghost use Rattle.release_sums.specs.Freeds.{freeds_in, Requested};
     ghost use Rattle.release_sums.specs.FreedsOf.{freeds_of, freeds_left};
 
     // Those that a list requests. The reader shows that they are.
@@ -64,16 +68,15 @@ impl<'a> Freeds<'a> {
         ensures { freeds_of result ≡ freeds_in read.now.list.now read.now.requests.now }
     {
         Freeds {
-            list: read.list,
-            places: read.requests,
+            pieces: Listed::new(read.list, read.requests),
         }
     }
 
     // The pieces, from the first on.
-    pub fn iter(self) -> FreedsLeft<'a>
+    pub fn iter(self) -> ListedLeft<'a, Freed>
         ensures { freeds_left result ≡ freeds_of self.entry }
     {
-        FreedsLeft { freeds: self }
+        self.pieces.iter()
     }
 
     // Refusal 14: whether every piece lies within its bucket. Two bytes of a field show the bound.
@@ -81,25 +84,6 @@ impl<'a> Freeds<'a> {
         requires { non_zero_u64_get sectors < 65536 }
         ensures { result ≡ all_of (freed_ok (non_zero_u64_get sectors)) (freeds_of self.entry) }
     {
-        self.iter().all(|r| freed_ok(r, sectors))
-    }
-}
-
-impl<'a> Iterator for FreedsLeft<'a> {
-    ghost use Rattle.std.specs.Iterator.{item_count, YieldsFirstBy};
-    ghost use Rattle.release_sums.specs.FreedsOf.{freeds_left};
-
-    type Item = Freed;
-
-    ghost next_gives = { YieldsFirstBy (λ r. freed_held r) freeds_left };
-
-    ghost remaining = { item_count freeds_left };
-
-    // The next piece, if one is left.
-    fn next(&mut self) -> Option<Freed> {
-        let (place, others) = self.freeds.places.split_first()?;
-        let r = read_freed(self.freeds.list, *place as usize);
-        self.freeds.places = others;
-        Some(r)
+        self.pieces.all(|r| freed_ok(r, sectors))
     }
 }
