@@ -13,8 +13,7 @@ use Rattle.format.specs.declared.checksums.ChecksumOption.{ChecksumOption}
 use Rattle.format.specs.declared.checksums.UnknownOption.{UnknownOption}
 use Rattle.reader.specs.declared.refusal.Refusal.{Refusal}
 use Rattle.reader.specs.declared.refusal.Refusal.TheVariants as variants
-use Rattle.reader.specs.PieceLists.{pieces_of}
-use Rattle.reader.specs.declared.pieces.Pieces.{Pieces}
+use Rattle.reader.specs.PieceLists.{Pieces, pieces_of}
 use Rattle.reader.specs.declared.read_list.ReadList.{ReadList}
 use Rattle.place_tests.specs.Called.{Called}
 use Rattle.place_tests.proofs.RefusalLaws.{first_refusal, first_tests}
