@@ -34,14 +34,22 @@ pub fn put_into<E: Emit>(e: &E, out: &mut [u8])
     e.emit(&mut front);
 }
 
-// Refusal 21, with nothing written, or the bytes, and how many they are.
-pub fn written<E: Emit>(e: &E, out: &mut [u8]) -> Result<usize, Refusal>
+// Refusal 21, with nothing written, or the bytes, and how many they are. Whoever counted them shows the bound.
+pub fn written_of_length<E: Emit>(e: &E, n: usize, out: &mut [u8]) -> Result<usize, Refusal>
+    requires { n ≡ min (length (E.bytes e.now)) cap }
     ensures { made_by result out.new ≡ outcome (answer [] (E.bytes e.now) (length out.old)) out.old }
 {
-    let n = emitted_length(e);
     if out.len() < n {
         return Err(Refusal::ShortOutput);
     }
     put_into(e, out);
     Ok(n)
+}
+
+// The same, with a run into no room that counts them.
+pub fn written<E: Emit>(e: &E, out: &mut [u8]) -> Result<usize, Refusal>
+    ensures { made_by result out.new ≡ outcome (answer [] (E.bytes e.now) (length out.old)) out.old }
+{
+    let n = emitted_length(e);
+    written_of_length(e, n, out)
 }

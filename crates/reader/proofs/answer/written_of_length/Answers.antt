@@ -1,6 +1,6 @@
 use Rattle.std.proofs.Common.{arith, refl, ◌≤◌, length}
 use Rattle.calls.proofs.answers.OutcomeLaws.{answer-short, answer-fits, refused, accepted}
-use Rattle.reader.proofs.answer.written.Goals as goal
+use Rattle.reader.proofs.answer.written_of_length.Goals as goal
 
 pub returns-then-out-n : goal.returns-then-out-n
 returns-then-out-n g c =
