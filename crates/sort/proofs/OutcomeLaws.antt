@@ -3,18 +3,18 @@ use mathlib.Core.Path.{◌≡◌, refl, ap, sym, subst, ◌∙◌}
 use mathlib.Core.Bool.{Bool, and-true}
 use Rattle.std.proofs.Common.{Some}
 use mathlib.Core.List.{List, [], ◌∷◌, ◌++◌}
-use Prim.Native.Nat.{ℕ, ◌≤◌, ◌<◌}
+use Prim.Native.Nat.{ℕ, ◌≤◌, ◌<◌, min}
 use native.Mathlib.Omega.{arith}
-use lib.ListN.{length, drop}
+use lib.ListN.{length}
 use borrow.Author.Tests.{eq-eqb}
 use Rattle.wire.specs.Bytes.{All, Bytes}
 use Rattle.wire.specs.Encode.{encode_field}
 use Rattle.calls.specs.CallList.{head_body, volume_shapes, request_shapes, laid_out, call_laid_out, list_laid_out, none_twice}
 use Rattle.calls.specs.Limits.{list_within}
 use Rattle.calls.specs.Refusals.{test}
-use Rattle.calls.specs.Answers.{answer, read_call, read_volume, sorted_form, sort, made, outcome}
+use Rattle.wire.specs.Output.{cap}
+use Rattle.calls.specs.Answers.{Answer, answer, read_call, read_volume, sorted_form, sort, outcome}
 use Rattle.calls.proofs.answers.AnswerLaws.{sort-is}
-use Rattle.calls.proofs.answers.OutcomeLaws.{answer-short, answer-fits, refused, accepted}
 use Rattle.calls.proofs.answers.SortedForm.{form-length}
 use Rattle.calls.proofs.encoding.Blocks.{field}
 use Rattle.calls.proofs.encoding.VolumeTrip.{list-laid}
@@ -64,9 +64,6 @@ module _ {s : List ℕ} (r : Bytes s) (z : 0 ≡ call_refusal (call_byte s) s) w
   left : (room : ℕ) → sort s room ≡ answer [] (sorted_form s) room
   left room = answers s room ∙ read-on (call_byte s) s [] (sorted_form s) room z
 
-  pub gives-21 : (xs : List ℕ) → length xs < length s → made 21 0 xs ≡ outcome (sort s (length xs)) xs
-  gives-21 xs l = refused 21 xs (left (length xs) ∙ answer-short (sorted_form s) (length xs) (omega (arith, form-long))) refl
-
 -- and its parts
 module _ {r : ReadList} (q : ReadAs (Some (call_byte r.list.now)) r) where
   -- fields stand at its places
@@ -83,15 +80,12 @@ module _ {r : ReadList} (q : ReadAs (Some (call_byte r.list.now)) r) where
       (λ i. encode_field (field 1 (head_body (q.read.head i))) ++ e i)
       ∙ sym (form-is (call_byte s) s (sym (called s) ∙ p.laid) (list-laid q.read.bytes (sym (listed s) ∙ p.laid)))
 
-  -- which has room where the list has
-  pub form-fits : (xs : List ℕ) → length r.list.now ≤ length xs → length (form_bytes r.list.now r.head r.places.now) ≤ length xs
-  form-fits xs l = rw form-at (omega (arith, form-long q.read.bytes q.passed))
+  -- which is as long as the list
+  pub form-counted : length r.list.now ≤ cap → length r.list.now ≡ min (length (form_bytes r.list.now r.head r.places.now)) cap
+  form-counted l = rw form-at (omega (arith, form-long q.read.bytes q.passed))
 
-  pub gives-0 : (xs : List ℕ) {ys : List ℕ} → length r.list.now ≤ length xs
-      → ys ≡ form_bytes r.list.now r.head r.places.now ++ drop (length (form_bytes r.list.now r.head r.places.now)) xs
-      → made 0 (length r.list.now) ys ≡ outcome (sort r.list.now (length xs)) xs
-  gives-0 xs l e =
-      let s = r.list.now in
-      let n = form-long q.read.bytes q.passed in
-      let k : length (sorted_form s) ≤ length xs = omega arith in
-      accepted (sorted_form s) xs (left q.read.bytes q.passed (length xs) ∙ answer-fits (sorted_form s) (length xs) k) (sym n) (rw form-at at e)
+  -- and its answer is that of a sort
+  pub form-answered : (xs : List ℕ) → outcome (answer [] (form_bytes r.list.now r.head r.places.now) (length xs)) xs ≡ outcome (sort r.list.now (length xs)) xs
+  form-answered xs =
+      ap (λ (bs : List ℕ). outcome (answer [] bs (length xs)) xs) form-at
+      ∙ ap (λ (a : Answer). outcome a xs) (sym (left q.read.bytes q.passed (length xs)))

@@ -1,7 +1,7 @@
 -- Fields that a table has the places of: their bytes are those of the list at its places.
 use mathlib.Core.Path.{◌≡◌, refl, sym, subst, ◌∙◌}
 use mathlib.Core.List.{List, ◌++◌, map}
-use Prim.Native.Nat.{ℕ, ◌+◌}
+use Prim.Native.Nat.{ℕ}
 use Rattle.wire.specs.Bytes.{All, none, more, Bytes}
 use Rattle.wire.specs.Fields.{Field}
 use Rattle.wire.specs.Encode.{encode_field, encode}

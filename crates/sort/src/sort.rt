@@ -10,16 +10,13 @@ use reader::read_list::ReadList;
 use reader::refusal::Refusal;
 use reader::{answer, call, head};
 
-// The answer to a list that was read: 21, or its sorted form. Not by `answer::written`: the form is as long as the list, so that no run has to count it.
+// The answer to a list that was read: 21, or its sorted form, which is as long as the list.
 fn write_form(read: &ReadList, out: &mut [u8]) -> Result<usize, Refusal>
     requires { ReadAs (Some (call_byte read.now.list.now)) read.now }
     ensures { made_by result out.new ≡ outcome (sort read.now.list.now (length out.old)) out.old }
 {
-    if out.len() < read.list.len() {
-        return Err(Refusal::ShortOutput);
-    }
-    answer::put_into(&SortedForm::new(read.list, read.head, read.places), out);
-    Ok(read.list.len())
+    let form = SortedForm::new(read.list, read.head, read.places);
+    answer::written_of_length(&form, read.list.len(), out)
 }
 
 // Sort: for any list and any output, how many bytes are written or the refusal, and the output, that the definition gives.

@@ -1,14 +1,12 @@
-use Rattle.sort.proofs.OutcomeLaws.{gives-21, all_placed, form-fits, gives-0}
+use Rattle.std.proofs.Common.{arith, ◌∙◌}
+use Rattle.sort.proofs.OutcomeLaws.{all_placed, form-counted, form-answered}
 use Rattle.sort.proofs.sort.write_form.Goals as goal
 
-pub returns-then-out-read : goal.returns-then-out-read
-returns-then-out-read c = gives-21 c.requires.read.bytes c.requires.passed c.args.out.now c.if-out-read.true
+pub new-form-requires : goal.new-form-requires
+new-form-requires c = all_placed c.requires
 
-pub new-requires : goal.new-requires
-new-requires c = all_placed c.requires
-
-pub put_into-requires : goal.put_into-requires
-put_into-requires c = rw c.new.ensures (form-fits c.requires c.args.out.now c.if-out-read.false)
+pub written_of_length-requires : goal.written_of_length-requires
+written_of_length-requires c = rw c.new-form.ensures (form-counted c.requires (omega arith))
 
 pub returns : goal.returns
-returns c = gives-0 c.requires c.args.out.now c.if-out-read.false (rw c.new.ensures at c.put_into.ensures)
+returns c = rw c.new-form.ensures at c.written_of_length.ensures ∙ form-answered c.requires c.args.out.now
