@@ -1,4 +1,6 @@
 // The alloc value: how a new one is made, and what freeing, emptying and discarding make of one that was read.
+#![tactic(auto, using(crate::proofs::ValueLaws::get_at))]
+
 ghost use Rattle.std.specs.Prelude.{◌≡◌, ◌+◌, ◌≤◌, length, drop};
 ghost use Rattle.wire.specs.Numbers.{words_bytes};
 ghost use Rattle.format.specs.Packing.{get};
@@ -9,7 +11,6 @@ use wire::keys::Value;
 use wire::le;
 
 // The generation of the alloc value at a place of a list. The value's length shows the bound. Each of the four readers asks for no more of a value than its own member's end, as values that end sooner are read too.
-#[tactic(auto, using(crate::proofs::ValueLaws::get_at))]
 pub fn generation(s: &[u8], at: usize) -> u8
     requires { at + 13 ≤ length s.now }
     ensures { result ≡ get gen (drop at s.now) }
@@ -18,7 +19,6 @@ pub fn generation(s: &[u8], at: usize) -> u8
 }
 
 // The data type of the value at a place. The value's length shows the bound. A byte and no `DataType`: a value that is read may have any of the header's types, or none.
-#[tactic(auto, using(crate::proofs::ValueLaws::get_at))]
 pub fn data_type(s: &[u8], at: usize) -> u8
     requires { at + 15 ≤ length s.now }
     ensures { result ≡ get data_type (drop at s.now) }
@@ -27,7 +27,6 @@ pub fn data_type(s: &[u8], at: usize) -> u8
 }
 
 // The dirty sectors of the value at a place. The value's length shows the bound.
-#[tactic(auto, using(crate::proofs::ValueLaws::get_at))]
 pub fn dirty_sectors(s: &[u8], at: usize) -> u32
     requires { at + 20 ≤ length s.now }
     ensures { result ≡ get dirty_sectors (drop at s.now) }
@@ -36,7 +35,6 @@ pub fn dirty_sectors(s: &[u8], at: usize) -> u32
 }
 
 // The write clock of the value at a place. The value's length shows the bound.
-#[tactic(auto, using(crate::proofs::ValueLaws::get_at))]
 pub fn write_time(s: &[u8], at: usize) -> u64
     requires { at + 40 ≤ length s.now }
     ensures { result ≡ get io_time_write (drop at s.now) }

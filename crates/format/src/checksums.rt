@@ -25,7 +25,7 @@ impl TryFrom<u8> for ChecksumOption {
 
     ghost try_from_gives = { Names };
 
-    // The option that a byte names, if it names one.
+    // The option that a byte names, if it names one. In numbers: no pattern may be a cast.
     fn try_from(byte: u8) -> Result<ChecksumOption, UnknownOption> {
         match byte {
             0 => Ok(ChecksumOption::Off),

@@ -1,4 +1,4 @@
-// The kinds of compression that a piece may have, and their bytes: those of the Linux header's BCH_COMPRESSION_TYPE, and of the Rust's extent.rs (its module `compression`).
+// The kinds of compression that a piece may have, and their bytes: those of the Linux header's BCH_COMPRESSION_TYPE, and of extent.rs in the Rust code (its module `compression`).
 ghost use Rattle.format.specs.Compressions.{NamesKind};
 
 // How a piece is compressed. The header's type 1, lz4_old, is none of them.
@@ -25,7 +25,7 @@ impl TryFrom<u8> for Compression {
 
     ghost try_from_gives = { NamesKind };
 
-    // The kind that a byte names, if it names one.
+    // The kind that a byte names, if it names one. In numbers: no pattern may be a cast.
     fn try_from(byte: u8) -> Result<Compression, UnknownCompression> {
         match byte {
             0 => Ok(Compression::Off),

@@ -24,7 +24,7 @@ pub fn read_pos(s: &[u8], at: usize) -> Bpos
     }
 }
 
-// Whether a stands before b. It has a name, as each function where `<` stands has to cite the law of the derived order (`parts_compared`; with it, sorting's `bound` proves): here that is once, for all crates above.
+// Whether a stands before b. A function and no `<` at each place: each function with `<` on positions has to cite `parts_compared`, the law of the derived order; here that is once.
 #[tactic(auto, using(crate::proofs::OrderLaws::parts_compared))]
 pub fn pos_less(a: Bpos, b: Bpos) -> bool
     ensures { result ≡ pos_less a b }
@@ -32,7 +32,7 @@ pub fn pos_less(a: Bpos, b: Bpos) -> bool
     a < b
 }
 
-// Whether two positions are the same. It has a name, as each function where `==` stands has to cite `parts_same`: here that is once, for all crates above.
+// Whether two positions are the same. A function and no `==` at each place: each function with `==` on positions has to cite `parts_same`; here that is once.
 #[tactic(auto, using(crate::proofs::OrderLaws::parts_same))]
 pub fn pos_same(a: Bpos, b: Bpos) -> bool
     ensures { result ≡ pos_same a b }

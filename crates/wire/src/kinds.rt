@@ -6,7 +6,7 @@ ghost use Rattle.wire.specs.Kinds.{sector_at, bucket_of, offset_in, extent_end, 
 use crate::le;
 use std::num::NonZero;
 
-#[derive(Clone, Copy, PartialEq, Eq, PartialOrd, Ord, Drop)]
+#[derive(Clone, Copy, Default, PartialEq, Eq, PartialOrd, Ord, Drop)]
 pub struct Bucket(pub u64);
 
 #[derive(Clone, Copy, PartialEq, Eq, PartialOrd, Ord, Drop)]
@@ -74,7 +74,7 @@ pub fn began_before(end: Bucket, size: u32) -> bool
     end.0 < size as u64
 }
 
-// Where it starts, from bucket 0 on.
+// The first bucket of such a run; 0 where it began before that.
 pub fn run_start(end: Bucket, size: u32) -> Bucket
     ensures { result ≡ run_start end size }
 {

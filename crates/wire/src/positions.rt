@@ -71,7 +71,7 @@ pub fn gens_at(b: Bucket) -> Bpos
     position(0, b.0 / 256)
 }
 
-// The byte of that record.
+// The index of the bucket's byte in that record.
 pub fn gens_byte(b: Bucket) -> usize
     ensures { result ≡ gens_byte b }
 {
