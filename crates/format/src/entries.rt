@@ -77,16 +77,18 @@ pub fn crc64(storage: Storage, ctype: u64) -> u64
         + (storage.kind << 44)
 }
 
-// The checksum type of an option. A function and not `From`: its name is that of the member that it makes.
-#[tactic(auto, unfolding(crate::specs::Entries::csum_type_of))]
-pub fn csum_type(option: ChecksumOption) -> ChecksumType
-    ensures { csum_number result ≡ csum_type_of (option_byte option) }
-{
-    match option {
-        ChecksumOption::Off => ChecksumType::None,
-        ChecksumOption::Crc32c => ChecksumType::Crc32c,
-        ChecksumOption::Crc64 => ChecksumType::Crc64,
-        ChecksumOption::Xxhash => ChecksumType::Xxhash,
+// The checksum type of an option.
+impl From<ChecksumOption> for ChecksumType {
+    ghost from_gives = { λ option ctype. csum_number ctype ≡ csum_type_of (option_byte option) };
+
+    #[tactic(auto, unfolding(crate::specs::Entries::csum_type_of))]
+    fn from(option: ChecksumOption) -> ChecksumType {
+        match option {
+            ChecksumOption::Off => ChecksumType::None,
+            ChecksumOption::Crc32c => ChecksumType::Crc32c,
+            ChecksumOption::Crc64 => ChecksumType::Crc64,
+            ChecksumOption::Xxhash => ChecksumType::Xxhash,
+        }
     }
 }
 
@@ -95,7 +97,7 @@ pub fn csum_type(option: ChecksumOption) -> ChecksumType
 pub fn extent_words(option: ChecksumOption, storage: Storage, checksum: u64, word: u64) -> Words
     ensures { result ≡ extent_words (option_byte option) storage.kind storage.stored storage.file checksum word }
 {
-    let t = csum_type(option).number() as u64;
+    let t = ChecksumType::from(option).number() as u64;
     let words = match option {
         ChecksumOption::Off => [word, 0, 0],
         ChecksumOption::Crc32c => [crc32(storage, t, checksum), word, 0],
