@@ -8,7 +8,7 @@ use crate::checksums::{ChecksumOption, ChecksumType};
 use std::marker::Model;
 use wire::kinds::DeviceSector;
 
-// The words of an extent's value: at most three. No heap: the words and how many there are stand beside one another.
+// The words of an extent's value: at most three. No heap: the words and how many there are stand beside one another. No `ArrayVec`: a clause would see a record with `items` in place of the words. No generic with `wire::keys::Value`: they share their view and `as_slice` alone.
 #[derive(Drop)]
 pub struct Words {
     words: [u64; 3],
@@ -52,7 +52,7 @@ pub struct Storage {
     pub ghost within: { ((1 ≤ stored) × (stored ≤ 128)) × ((1 ≤ file) × (file ≤ 128)) × (kind < 16) },
 }
 
-// The crc32 entry. A checksum type's number shows the bound. No `ChecksumType`: for C an entry of each of the sixteen numbers is made.
+// The crc32 entry. It and the crc64 entry have a function each, as the header has a struct for each: one for both would take the places of four parts as numbers. A checksum type's number shows the bound. No `ChecksumType`: for C an entry of each of the sixteen numbers is made.
 #[tactic(auto, using(crate::proofs::EntryLaws::entries_packed))]
 pub fn crc32(storage: Storage, ctype: u64, checksum: u64) -> u64
     requires { ctype < 16 }

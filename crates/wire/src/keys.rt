@@ -9,7 +9,7 @@ use crate::bpos::Bpos;
 use crate::{bpos, le};
 use std::marker::Model;
 
-// A key's value: at most 256 bytes. No heap: the bytes and how many there are stand beside one another.
+// A key's value: at most 256 bytes. No heap: the bytes and how many there are stand beside one another. No `ArrayVec`: a clause would see a record with `items` in place of the bytes.
 #[derive(Drop)]
 pub struct Value {
     bytes: [u8; 256],

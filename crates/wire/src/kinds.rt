@@ -37,12 +37,12 @@ pub fn offset_in(d: DeviceSector, sectors: NonZero<u64>) -> u64
     d.0 % sectors
 }
 
-// Where an extent ends. The limit on the base shows its bound, and 1,024 pieces of at most 128 sectors the other.
-pub fn extent_end(from: FileSector, sectors: u64) -> FileSector
-    requires { (from.0 < 2 ^ 63) × (sectors < 2 ^ 63) }
-    ensures { result ≡ extent_end from sectors }
+// Where an extent of so many sectors ends. The limit on the base shows its bound, and 1,024 pieces of at most 128 sectors the other.
+pub fn extent_end(from: FileSector, len: u64) -> FileSector
+    requires { (from.0 < 2 ^ 63) × (len < 2 ^ 63) }
+    ensures { result ≡ extent_end from len }
 {
-    FileSector(from.0 + sectors)
+    FileSector(from.0 + len)
 }
 
 // The next bucket. The limits show the bound.

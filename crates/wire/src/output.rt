@@ -174,7 +174,7 @@ impl<'a> Output<'a> {
         self.put_slice(value);
     }
 
-    // A key of a tree whose value is words: an alloc value has eight, a backpointer four, an extent's value at most three.
+    // A key of a tree whose value is words: an alloc value has eight, a backpointer four, an extent's value at most three. The two lines before the value stand in `put_key` too: a function for them would have more lines than it saves, and its clause would tell of a field that is not whole.
     pub fn put_words_key(&mut self, tree: u8, h: KeyHead, words: &[u64])
         requires { length words.now ≤ 8 }
         ensures { self.new ≡ with_bytes self.old (encode_field (key_field tree (key_with h (words_bytes words.now)))) }
