@@ -16,7 +16,7 @@ pub struct EmptiedBucket {
     pub generation: u8,
 }
 
-// The blank that a vector's unused places hold.
+// What a vector's unused places hold. By hand: a bucket has no default, since 0 is one like the others.
 impl Default for EmptiedBucket {
     fn default() -> EmptiedBucket {
         EmptiedBucket {
