@@ -22,6 +22,7 @@ use release_keys::{allocs, freed_buckets, refusals};
 use release_sums::requests::Freeds;
 use release_sums::sums::ClearedScratch;
 use std::num::NonZero;
+use wire::kinds::Bucket;
 
 // The answer where the freed buckets are listed: refusals 15 to 19, then the change list, or 21.
 fn release_table(table: FreedTable, out: &mut [u8]) -> Result<usize, Refusal>
@@ -51,7 +52,11 @@ pub fn release_lists(
     if !Freeds::of(read).all_ok(sectors) {
         return Err(Refusal::OutsideBucket);
     }
-    let mut buckets = ArrayVec::<FreedBucket, 1024>::new();
+    let mut buckets = [FreedBucket {
+        bucket: Bucket(0),
+        sectors: 0,
+        place: None,
+    }; 1024];
     let table = allocs::list_freed(*read, sectors, scratch, &mut buckets);
     release_table(table, out)
 }

@@ -8,11 +8,11 @@ use mathlib.Core.List.{List, [], ◌∷◌, ◌++◌, map, append-nil, map-appen
 use mathlib.Core.Option.{none, some}
 use Rattle.std.proofs.Common.{Some, None, take-append-drop}
 use Rattle.std.proofs.Common as std
-use lib.ListN.{length, get_or, take, drop, replicate, length-append, length-drop, length-map, get_or-append}
-use lib.Seq.{get_or-append-add, append_snoc}
+use lib.ListN.{length, get_or, set, take, drop, replicate, length-drop, length-map}
+use lib.Seq.{get_or-set_same, get_or-set_other, get_or-take, append_snoc}
 use Rattle.std.specs.Bool.{then_some}
 use Rattle.std.specs.List.{prefix_len}
-use Rattle.std.proofs.lemmas.List.{drop-map, get_or-drop}
+use Rattle.std.proofs.lemmas.List.{drop-map, get_or-drop, take_more_set, length-take-le}
 use Rattle.wire.specs.Keys.{Key}
 use Rattle.wire.specs.Order.{cmp, is_less, pos_less, pos_same}
 use Rattle.wire.specs.Kinds.{same_bucket, bucket_in_range, no_bucket}
@@ -170,31 +170,32 @@ alloc-above a b h =
     (less-or a.0 b.0 h)
 
 -- ---- the walk over the sums
--- On its way: rows are listed, each with the place of its key among `ks`, and `rest` are left, whose keys are among `keys`.
-pub record Listing (s : List ℕ) (ks : List Key) (all rest : List BucketSum) (keys : Keys) (rows : List FreedBucket) : Type 0 where
+-- On its way: n rows are listed, each with the place of its key among `ks`, and `rest` are left, whose keys are among `keys`.
+pub record Listing (s : List ℕ) (ks : List Key) (all rest : List BucketSum) (keys : Keys) (rows : List FreedBucket) (n : ℕ) : Type 0 where
   pub list : keys.list.now ≡ s
   pub up : Up 0 (sum_buckets rest)
-  pub count : length rows + length rest ≡ length all
-  pub listed : map row_sum rows ++ rest ≡ all
-  pub places : PlacesOf s ks rows
+  pub count : n + length rest ≡ length all
+  pub listed : map row_sum (take n rows) ++ rest ≡ all
+  pub done : (j : ℕ) → j < n → PlaceOf s (get_or rows j no_row).place (lookup (alloc_at (get_or rows j no_row).bucket) ks)
   pub ahead : (j : ℕ) → j < length rest → lookup (alloc_at (get_or rest j no_sum).bucket) (keys_listed keys) ≡ lookup (alloc_at (get_or rest j no_sum).bucket) ks
 
 -- none is listed
-pub listing-starts : {keys : Keys} {all : List BucketSum} {rows : List FreedBucket} → rows ≡ [] → SumsAscend all → Listing keys.list.now (keys_listed keys) all all keys rows
-listing-starts e u =
-    rw e (record { list = refl; up = order-up _ u; count = omega arith; listed = refl; places = record { at = λ j h. absurd (omega arith) }; ahead = λ j h. refl })
+pub listing-starts : {keys : Keys} {all : List BucketSum} (rows : List FreedBucket) → SumsAscend all
+    → Listing keys.list.now (keys_listed keys) all all keys rows 0
+listing-starts rows u = record { list = refl; up = order-up _ u; count = omega arith; listed = refl; done = λ j h. absurd (omega arith); ahead = λ j h. refl }
 
 -- the keys that are left
 pub skipped-ascend : {keys rest : Keys} {p : Bpos} → KeysSkipped keys p rest → keys_ascend (keys_listed keys) ≡ true → keys_ascend (keys_listed rest) ≡ true
 skipped-ascend {keys} z o = rw z.is (sorted-order _ (sorted-drop z.passed (keys_listed keys) (order-sorted (keys_listed keys) o)))
 
-module _ {s : List ℕ} {ks : List Key} {all rest : List BucketSum} {keys : Keys} {rows : List FreedBucket} (w : Listing s ks all rest keys rows)
+module _ {s : List ℕ} {ks : List Key} {all rest : List BucketSum} {keys : Keys} {rows : List FreedBucket} {n : ℕ} (w : Listing s ks all rest keys rows n)
     {x : BucketSum} {next : List BucketSum} (e : rest ≡ x ∷ next) where
   -- there is room for one more
-  pub listing-room : length rows < length all
+  pub listing-room : n < length all
   listing-room = omega (arith, w.count, ap length e)
 
-  module _ {others : Keys} (z : KeysSkipped keys (alloc_at x.bucket) others) {at : std.Option ℕ} (f₀ : PlaceOf others.list.now at (lookup (alloc_at x.bucket) (keys_listed others))) where
+  module _ {others : Keys} (z : KeysSkipped keys (alloc_at x.bucket) others) {at : std.Option ℕ} (f₀ : PlaceOf others.list.now at (lookup (alloc_at x.bucket) (keys_listed others)))
+      (l : n < length rows) where
     abbrev new : FreedBucket
     new = record { bucket = x.bucket; sectors = x.sectors; place = at }
 
@@ -219,26 +220,23 @@ module _ {s : List ℕ} {ks : List Key} {all rest : List BucketSum} {keys : Keys
         same_key (get_or next j no_sum).bucket (omega (arith, up-at (suc x.bucket.0) next up-next.1 j h))
         ∙ (rw e at w.ahead (suc j)) (omega (arith, ap length e))
 
-    pub listing-next : Listing s ks all next others (rows ++ new ∷ [])
+    pub listing-next : Listing s ks all next others (set rows n new) (n + 1)
     listing-next =
         record {
           list = same-list;
           up = up-weak 0 (suc x.bucket.0) (sum_buckets next) (omega arith) up-next.1;
-          count = omega (arith, w.count, ap length e, length-append rows (new ∷ []));
+          count = omega (arith, w.count, ap length e);
           listed =
-              ap (λ (r : List BucketSum). r ++ next) (map-append row_sum rows (new ∷ []))
-              ∙ append_snoc (map row_sum rows) x next
-              ∙ ap (λ (r : List BucketSum). map row_sum rows ++ r) (sym e)
+              ap (λ (r : List FreedBucket). map row_sum r ++ next) (take_more_set rows n new l)
+              ∙ ap (λ (r : List BucketSum). r ++ next) (map-append row_sum (take n rows) (new ∷ []))
+              ∙ append_snoc (map row_sum (take n rows)) x next
+              ∙ ap (λ (r : List BucketSum). map row_sum (take n rows) ++ r) (sym e)
               ∙ w.listed;
-          places = record {
-            at = λ j h.
-                ⊎_elim
-                (λ (m : j < length rows). rw (get_or-append rows (new ∷ []) no_row j m) (w.places.at j m))
-                (λ (d : j ≡ length rows).
-                let last : j ≡ length rows + 0 = omega (arith, d) in
-                rw (last, get_or-append-add rows (new ∷ []) 0 no_row) (subst (PlaceOf s at) (same_key x.bucket (omega arith) ∙ its-key) f))
-                (less-or j (length rows) (omega (arith, h, length-append rows (new ∷ []))));
-          };
+          done = λ j h.
+              ⊎_elim
+              (λ (m : j < n). rw (get_or-set_other rows n j new no_row (λ d. omega arith)) (w.done j m))
+              (λ (d : j ≡ n). rw (d, get_or-set_same rows n new no_row l) (subst (PlaceOf s at) (same_key x.bucket (omega arith) ∙ its-key) f))
+              (less-or j n (omega arith));
           ahead = after;
         }
 
@@ -247,8 +245,18 @@ module _ {s : List ℕ} {ks : List Key} {all rest : List BucketSum} {keys : Keys
 pub all-taken : (l s : List ℕ) → take 65536 l ≡ replicate 65536 0 → drop 65536 l ≡ drop 65536 s → l ≡ replicate 65536 0 ++ drop 65536 s
 all-taken l s e f = sym (take-append-drop 65536 l) ∙ ap (λ (x : List ℕ). x ++ drop 65536 l) e ∙ ap (λ (x : List ℕ). replicate 65536 0 ++ x) f
 
-pub listing-ends : {s : List ℕ} {ks : List Key} {all rest : List BucketSum} {keys : Keys} {rows : List FreedBucket} → Listing s ks all rest keys rows → rest ≡ [] → map row_sum rows ≡ all
-listing-ends {rows = rows} w e = sym (append-nil (map row_sum rows)) ∙ (rw e at w.listed)
+pub listing-ends : {s : List ℕ} {ks : List Key} {all rest : List BucketSum} {keys : Keys} {rows : List FreedBucket} {n : ℕ} → Listing s ks all rest keys rows n → rest ≡ []
+    → map row_sum (take n rows) ≡ all
+listing-ends {rows = rows} {n} w e = sym (append-nil (map row_sum (take n rows))) ∙ (rw e at w.listed)
+
+pub listing-places : {s : List ℕ} {ks : List Key} {all rest : List BucketSum} {keys : Keys} {rows : List FreedBucket} {n : ℕ} → Listing s ks all rest keys rows n → n ≤ length rows
+    → PlacesOf s ks (take n rows)
+listing-places {s} {ks} {rows = rows} {n} w l =
+    record {
+      at = λ j h.
+          let m : j < n = omega (arith, h, length-take-le n rows l) in
+          subst (λ (f : FreedBucket). PlaceOf s f.place (lookup (alloc_at f.bucket) ks)) (sym (get_or-take n rows j no_row m)) (w.done j m);
+    }
 
 module _ (value : Bucket → ℕ) where
   sums-named : (rows : List FreedBucket) (bs : List Bucket) → map row_sum rows ≡ map (bucket_sum value) bs → row_buckets rows ≡ bs

@@ -27,6 +27,7 @@ impl Default for EmptiedBucket {
 }
 
 // Lists the emptied buckets with their new generations in a vector, which is cleared first. There are at most as many as requests, which the limits bound.
+// The vector is lent: given by value it is copied, 341,000 instructions for 324,400 in a release of one piece.
 pub fn find_emptied(table: &HeldTable, emptied: &mut ArrayVec<EmptiedBucket, 1024>)
     ensures { emptied.new.items ≡ map (emptied_row (emptied_gen (held_volume table.now).trees)) (those (is_emptied (held_volume table.now) (held_requests table.now)) (held_buckets table.now)) }
 {

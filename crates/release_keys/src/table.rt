@@ -21,17 +21,6 @@ pub struct FreedBucket {
     pub place: Option<u32>,
 }
 
-// What a vector's unused places hold. By hand: a bucket has no default, since 0 is one like the others.
-impl Default for FreedBucket {
-    fn default() -> FreedBucket {
-        FreedBucket {
-            bucket: Bucket(0),
-            sectors: 0,
-            place: None,
-        }
-    }
-}
-
 // The freed buckets of a list that was read, whose requests refusals 4 and 14 passed, and how many sectors a bucket has.
 #[derive(Clone, Copy, Drop)]
 pub struct FreedTable<'a> {
