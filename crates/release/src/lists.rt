@@ -11,6 +11,7 @@ ghost use Rattle.release.specs.Given.{change_of};
 ghost use Rattle.release.specs.Outcomes.{bucket_tests};
 
 use crate::batch::ReleaseBatch;
+use arrayvec::ArrayVec;
 use gens::records::Records;
 use reader::answer;
 use reader::read_list::ReadList;
@@ -30,12 +31,9 @@ fn release_table(table: FreedTable, out: &mut [u8]) -> Result<usize, Refusal>
     let records = Records::of(table.read.gens);
     refusals::refuse(&table, &records)?;
     let held = HeldTable { freed: table };
-    let mut emptied = [EmptiedBucket {
-        bucket: Bucket(0),
-        generation: 0,
-    }; 1024];
-    let emptied = freed_buckets::find_emptied(&held, &mut emptied);
-    let batch = ReleaseBatch::new(held, &records, emptied);
+    let mut emptied = ArrayVec::<EmptiedBucket, 1024>::new();
+    freed_buckets::find_emptied(&held, &mut emptied);
+    let batch = ReleaseBatch::new(held, &records, emptied.as_slice());
     answer::written(&batch, out)
 }
 

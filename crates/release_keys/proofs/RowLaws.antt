@@ -1,12 +1,11 @@
 -- What the rows of the table say of the freed buckets.
 use mathlib.Core.Path.{◌≡◌, refl, sym, ap, ◌∙◌}
 use mathlib.Core.Bool.{Bool, true, false, cond}
-use mathlib.Core.List.{List, [], ◌∷◌, ◌++◌, map, flat_map}
+use mathlib.Core.List.{List, [], ◌∷◌, map, flat_map}
 use Prim.Native.Nat.{ℕ, suc, ◌+◌, ◌≤◌, ◌<◌}
 use native.Mathlib.Omega.{arith}
-use lib.ListN.{length, get_or, set, take, drop, length-map}
-use lib.Seq.{append_snoc}
-use Rattle.std.proofs.lemmas.List.{drop-map, take_more_set}
+use lib.ListN.{length, get_or, drop, length-map}
+use Rattle.std.proofs.lemmas.List.{drop-map}
 use Rattle.wire.specs.Keys.{Key}
 use Rattle.wire.specs.declared.kinds.Bucket.{Bucket}
 use Rattle.wire.proofs.OutputLaws.{drop-next}
@@ -76,11 +75,6 @@ module _ {s : List ℕ} {sectors : ℕ} {rows : List FreedBucket} {f : FreedBuck
 
   pub held-rest : RowsHeld s sectors rows → RowsHeld s sectors rest
   held-rest h = let g : RowsHeld s sectors (f ∷ rest) = rw e at h in λ i l. g (suc i) (omega (arith, l))
-
--- ---- rows that are listed in the front of a table
-pub listed_more : {A : Type 0} (xs : List A) (n : ℕ) (x : A) (ys : List A) {all : List A} → n < length xs → take n xs ++ (x ∷ ys) ≡ all
-    → take (n + 1) (set xs n x) ++ ys ≡ all
-listed_more xs n x ys h e = ap (λ l. l ++ ys) (take_more_set xs n x h) ∙ append_snoc (take n xs) x ys ∙ e
 
 -- ---- all rows
 module _ {A : Type 0} (g : FreedBucket → A) (h : Bucket → A) where

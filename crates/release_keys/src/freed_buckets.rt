@@ -6,6 +6,7 @@ ghost use Rattle.release_keys.specs.HeldOf.{held_volume, held_requests, held_buc
 ghost use Rattle.release_keys.specs.Emptied.{emptied_row};
 
 use crate::table::HeldTable;
+use arrayvec::ArrayVec;
 use wire::kinds::Bucket;
 
 // A bucket that is emptied, with its generation afterwards.
@@ -15,23 +16,28 @@ pub struct EmptiedBucket {
     pub generation: u8,
 }
 
-// Lists the emptied buckets with their new generations in the front of a slice, which is answered. There are at most as many as requests, which the limits bound.
-pub fn find_emptied<'r>(
-    table: &HeldTable,
-    emptied: &'r mut [EmptiedBucket; 1024],
-) -> &'r [EmptiedBucket]
-    ensures { result.now ≡ map (emptied_row (emptied_gen (held_volume table.now).trees)) (those (is_emptied (held_volume table.now) (held_requests table.now)) (held_buckets table.now)) }
-{
-    let mut n: usize = 0;
-    // No heap: the table is the caller's, and `n` counts its front. An `ArrayVec` was tried, and proves: to give it copies the table, 16,000 of 341,000 instructions in a release of one piece.
-    for h in table.iter() {
-        if h.is_emptied() {
-            emptied[n] = EmptiedBucket {
-                bucket: h.freed.bucket,
-                generation: h.emptied_gen(),
-            };
-            n += 1;
+// What a vector's unused places hold. By hand: a bucket has no default, since 0 is one like the others.
+impl Default for EmptiedBucket {
+    fn default() -> EmptiedBucket {
+        EmptiedBucket {
+            bucket: Bucket(0),
+            generation: 0,
         }
     }
-    &emptied[..n]
+}
+
+// Lists the emptied buckets with their new generations in a vector, which is cleared first. There are at most as many as requests, which the limits bound.
+// The vector is lent: given by value it is copied, 341,000 instructions for 324,400 in a release of one piece.
+pub fn find_emptied(table: &HeldTable, emptied: &mut ArrayVec<EmptiedBucket, 1024>)
+    ensures { emptied.new.items ≡ map (emptied_row (emptied_gen (held_volume table.now).trees)) (those (is_emptied (held_volume table.now) (held_requests table.now)) (held_buckets table.now)) }
+{
+    emptied.clear();
+    for h in table.iter() {
+        if h.is_emptied() {
+            emptied.push(EmptiedBucket {
+                bucket: h.freed.bucket,
+                generation: h.emptied_gen(),
+            });
+        }
+    }
 }
