@@ -81,7 +81,7 @@ body-rest k b = take_all (length b - k) (drop k b) (omega (arith, length-drop k 
 
 -- the number of a tag that has a name
 pub tag_is : {n : ℕ} {t u : Tag} {r : Result Tag UnknownTag} → TagNamed n r → r ≡ Ok t → t ≡ u → n ≡ tag_number u
-tag_is {n = n} h e f = (rw e at h) ∙ ap tag_number f
+tag_is h e f = (rw e at h) ∙ ap tag_number f
 
 -- a tree's tag is below those that only a change list has
 tree_below : (tree : Tree) → tree_tag tree < 70
