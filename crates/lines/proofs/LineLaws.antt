@@ -25,6 +25,15 @@ use Rattle.calls.proofs.lists.AllLaws.{all_join, test-all, first, all_tail}
 use Rattle.calls.proofs.lists.BoolLaws.{both, parts, clash}
 use Rattle.reader.specs.Bodies.{key_ok, root_ok, change_field_ok}
 use Rattle.reader.proofs.ShapeLaws.{KeyTag, key-tag, same_or, change-key, change-extent, change-root, change-row, change-72, change-74, change-bucket, change-none}
+use Rattle.reader.proofs.TagLaws.{change-unnamed}
+use Rattle.std.specs.Prelude.{Result, Ok, Err, IsOk}
+use Rattle.wire.specs.TreeTags.{tree_tag}
+use Rattle.wire.specs.Tags.{tag_number, TagNamed}
+use Rattle.wire.specs.declared.trees.Tree.{Tree}
+use Rattle.wire.specs.declared.tags.Tag.{Tag}
+use Rattle.wire.specs.declared.tags.Tag.TheVariants.{Head, Key as KeyTagged, Reserved, Piece, Freed, Root, Taken, Spot, Row, Sectors, Unreserved, End}
+use Rattle.wire.specs.declared.trees.Tree.TheVariants.{Extents, Alloc, Lru, Freespace, NeedDiscard, Backpointers, BucketGens}
+use Rattle.wire.specs.declared.tags.UnknownTag.{UnknownTag}
 use Rattle.lines.specs.Digits.{decimal, hexadecimal}
 use Rattle.lines.specs.Lines.{line, blanked, numbers, key_words, root_words, taken_words, placed_words, row_words, sectors_words, unreserved_words, end_words, field_words, change_lines}
 use Rattle.lines.proofs.WordLaws.{line-is, value_words}
@@ -69,6 +78,20 @@ row_line b = rw (length-drop 16 b) (sym (simp (line-is, blanked-next)))
 -- a body from a place on
 pub body-rest : (k : ℕ) (b : List ℕ) → take (length b - k) (drop k b) ≡ drop k b
 body-rest k b = take_all (length b - k) (drop k b) (omega (arith, length-drop k b))
+
+-- the number of a tag that has a name
+pub tag_is : {n : ℕ} {t u : Tag} {r : Result Tag UnknownTag} → TagNamed n r → r ≡ Ok t → t ≡ u → n ≡ tag_number u
+tag_is h e f = (rw e at h) ∙ ap tag_number f
+
+-- a tree's tag is below those that only a change list has
+tree_below : (tree : Tree) → tree_tag tree < 70
+tree_below Extents = omega arith
+tree_below Alloc = omega arith
+tree_below Lru = omega arith
+tree_below Freespace = omega arith
+tree_below NeedDiscard = omega arith
+tree_below Backpointers = omega arith
+tree_below BucketGens = omega arith
 
 -- the words of a field, by its tag
 
@@ -117,6 +140,11 @@ fields-ok s h =
     all_join (λ f p q. both p q) (test-all (shaped change_shapes) fs b.0) (test-all field_ok fs c.0)
 
 module _ (t : ℕ) (b : List ℕ) (h : change_field_ok (record { tag = t; body = b }) ≡ true) where
+  -- its tag has a name
+  pub tag_named : (r : Result Tag UnknownTag) → TagNamed t r → IsOk r
+  tag_named (Ok u) e = refl
+  tag_named (Err u) e = absurd (clash h (sym (change-unnamed e.1 b)))
+
   pub root-size : t ≡ 70 → length b ≡ 1
   unfolding root_ok
   root-size e =
@@ -163,6 +191,28 @@ module _ (t : ℕ) (b : List ℕ) (h : change_field_ok (record { tag = t; body =
 
       other : (t ≡ 0 → ⊥) → (t ≡ 4 → ⊥) → (10 ≤ t → t < 15 → ⊥) → ⊥
       other n0 n4 keys = clash h (change-none t b n0 n4 keys n70 n71 n75 n72 n73 n74 n76)
+
+  -- the same of a number below these
+  below : t < 70 → (t ≤ 14) × (37 ≤ length b)
+  below l =
+      key-size (λ x. omega (arith, l, x)) (λ x. omega (arith, l, x)) (λ x. omega (arith, l, x)) (λ x. omega (arith, l, x)) (λ x. omega (arith, l, x)) (λ x. omega (arith, l, x)) (λ x. omega (arith, l, x))
+
+  -- the same of a tag's name
+  pub key_named :
+      (u : Tag) → t ≡ tag_number u → (u ≡ Root → ⊥) → (u ≡ Taken → ⊥) → (u ≡ Spot → ⊥) → (u ≡ Row → ⊥) → (u ≡ Sectors → ⊥) → (u ≡ Unreserved → ⊥) → (u ≡ End → ⊥)
+      → (t ≤ 14) × (37 ≤ length b)
+  key_named (KeyTagged tree) e n70 n71 n72 n73 n74 n75 n76 = below (omega (arith, e, tree_below tree))
+  key_named Head e n70 n71 n72 n73 n74 n75 n76 = below (omega (arith, e))
+  key_named Reserved e n70 n71 n72 n73 n74 n75 n76 = below (omega (arith, e))
+  key_named Piece e n70 n71 n72 n73 n74 n75 n76 = below (omega (arith, e))
+  key_named Freed e n70 n71 n72 n73 n74 n75 n76 = below (omega (arith, e))
+  key_named Root e n70 n71 n72 n73 n74 n75 n76 = absurd (n70 refl)
+  key_named Taken e n70 n71 n72 n73 n74 n75 n76 = absurd (n71 refl)
+  key_named Spot e n70 n71 n72 n73 n74 n75 n76 = absurd (n72 refl)
+  key_named Row e n70 n71 n72 n73 n74 n75 n76 = absurd (n73 refl)
+  key_named Sectors e n70 n71 n72 n73 n74 n75 n76 = absurd (n74 refl)
+  key_named Unreserved e n70 n71 n72 n73 n74 n75 n76 = absurd (n75 refl)
+  key_named End e n70 n71 n72 n73 n74 n75 n76 = absurd (n76 refl)
 
 -- the loop over a change list: what is put, and what is left are the lines of the fields from place `at` on
 pub record LinesLeft (s : List ℕ) (o : Output) (at : ℕ) (p : Output) : Type 0 where

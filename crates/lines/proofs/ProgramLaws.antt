@@ -13,6 +13,11 @@ use Rattle.reader.specs.Heads.{call_byte}
 use Rattle.calls.specs.Answers.{Answer, Outcome, made, outcome, output_after, place, release, discard}
 use Rattle.lines.specs.Lines.{change_lines, refused_line}
 use Rattle.std.specs.Prelude.{Result, Ok, Err}
+use Rattle.std.specs.Result.{result_unwrap_or}
+use Rattle.reader.specs.CallKinds.{call_number, CallNamed}
+use Rattle.reader.specs.declared.call_kinds.Call.{Call}
+use Rattle.reader.specs.declared.call_kinds.UnknownCall.{UnknownCall}
+use Rattle.reader.specs.declared.call_kinds.Call.TheVariants.{Place, Release, Discard}
 use Rattle.reader.specs.Refusals.{made_by}
 use Rattle.reader.specs.declared.refusal.Refusal.{Refusal}
 use Rattle.lines.specs.Program.{answer_by_byte, AnswerIn, AnsweredIn, answer_lines, bucket_lines, Shown}
@@ -35,6 +40,15 @@ answer-in {a = a} {written = written} {after = after} before e h =
 pub answered-in : {a b : Answer} (r : Result ℕ Refusal) (before after : List ℕ) → a ≡ b → made_by r after ≡ outcome a before → AnsweredIn b r after
 answered-in (Ok n) before after e h = answer-in before e h
 answered-in (Err x) before after e h = answer-in before e h
+
+-- the call that a number names, or discard where it names none
+pub named_call : {n : ℕ} {x : Call} (r : Result Call UnknownCall) → CallNamed n r → result_unwrap_or r Discard ≡ x → (call_number x ≡ 3 → ⊥) → n ≡ call_number x
+named_call (Ok c) h e d = h ∙ ap call_number e
+named_call (Err u) h e d = absurd (d (sym (ap call_number e)))
+
+pub else_discard : {n : ℕ} (r : Result Call UnknownCall) → CallNamed n r → result_unwrap_or r Discard ≡ Discard → (n ≡ 1 → ⊥) × (n ≡ 2 → ⊥)
+else_discard (Ok c) h e = (λ p. omega (arith, h, p, ap call_number e), λ p. omega (arith, h, p, ap call_number e))
+else_discard (Err u) h e = (λ p. h.1 Place p, λ p. h.1 Release p)
 
 -- the call that a list's call byte names
 module _ (s : List ℕ) where

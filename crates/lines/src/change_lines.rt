@@ -9,20 +9,21 @@ use crate::{key_lines, other_lines};
 use wire::fields::Fields;
 use wire::le;
 use wire::output::Output;
+use wire::tags::Tag;
 
-// The line of a field, by its tag. The layout of a change list shows the shape. By number and not by name: each other tag is a tree's, and the line of a key prints it.
+// The line of a field, by its tag. The layout of a change list shows the shape, and that the tag has a name; each that is not named here is a tree's.
 fn put_line(out: &mut Output, tag: u8, body: &[u8])
     requires { change_field_ok (record { tag = tag; body = body.now }) ≡ true }
     ensures { out.new ≡ with_bytes out.old (line (field_words (record { tag = tag; body = body.now }))) }
 {
-    match tag {
-        70 => other_lines::put_named(out, b"root", le::le8(body, 0) as u64),
-        71 => other_lines::put_named(out, b"taken", le::le32(body, 0) as u64),
-        72 => other_lines::put_placed(out, body),
-        73 => other_lines::put_row(out, body),
-        74 => other_lines::put_named(out, b"sectors", le::le64(body, 0)),
-        75 => other_lines::put_named(out, b"unreserved", le::le32(body, 0) as u64),
-        76 => out.put_slice(b"end\n"),
+    match Tag::try_from(tag).unwrap() {
+        Tag::Root => other_lines::put_named(out, b"root", le::le8(body, 0) as u64),
+        Tag::Taken => other_lines::put_named(out, b"taken", le::le32(body, 0) as u64),
+        Tag::Spot => other_lines::put_placed(out, body),
+        Tag::Row => other_lines::put_row(out, body),
+        Tag::Sectors => other_lines::put_named(out, b"sectors", le::le64(body, 0)),
+        Tag::Unreserved => other_lines::put_named(out, b"unreserved", le::le32(body, 0) as u64),
+        Tag::End => out.put_slice(b"end\n"),
         _ => key_lines::put_key_line(out, tag, body),
     }
 }

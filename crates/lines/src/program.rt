@@ -15,14 +15,11 @@ use wire::output::Output;
 // A longer list is refused.
 const LONGEST_LIST: usize = 32768;
 
-// The answer of the call that a list names, in 65,536 bytes. A list that names none is refused by each call.
+// The answer of the call that a list names, in 65,536 bytes. A list that names none is refused by each call, and here by discard.
 fn answer_to(list: &[u8], change: &mut [u8; 65536]) -> Result<usize, Refusal>
     ensures { AnsweredIn (answer_by_byte list.now) result change.new }
 {
-    let Ok(call) = Call::try_from(head::call_byte(list)) else {
-        return discard_call::discard(list, change);
-    };
-    match call {
+    match Call::try_from(head::call_byte(list)).unwrap_or(Call::Discard) {
         Call::Place => place_call::place(list, change),
         Call::Release => release_call::release(list, &mut [0u32; 65536], change),
         Call::Discard => discard_call::discard(list, change),

@@ -8,7 +8,7 @@ use Rattle.std.proofs.Common.{Option as Maybe, Some, None}
 use native.Mathlib.Omega.{arith}
 use native.Mathlib.Nat.{add-zero}
 use native.Mathlib.Numerals.{add-one}
-use lib.ListN.{length, get_or, set, take, drop, replicate, length-set, length-drop, get_or-replicate}
+use lib.ListN.{length, get_or, set, take, drop, replicate, length-drop, get_or-replicate}
 use lib.Seq.{get_or-set_same, get_or-set_other, take-suc, take_all, get_or-drop, drop-drop}
 use borrow.Author.Tests.{eqb-true, eqb-false, ne_eqb, ltb-true}
 use Rattle.wire.specs.Keys.{Key}
@@ -62,14 +62,6 @@ unfolding waiting_key
 empty-entries all b h =
     let e : ◌≡◌ {A = ℕ} (get_or (replicate 65536 0) b.0 0) 0 = get_or-replicate 65536 b.0 0 0 (ltb-true b.0 65536 h) in
     rw e refl
-
-pub noted-length : (table : List ℕ) (k : Key) (i : ℕ) → length (wait_noted table k i) ≡ length table
-unfolding wait_noted
-noted-length table k i = go (is_set k)
-  where
-    go : (q : Bool) → length (cond q (set table (bucket_in k.pos).0 (i + 1)) table) ≡ length table
-    go true = length-set table (bucket_in k.pos).0 (i + 1)
-    go false = refl
 
 -- the key at place i is noted
 module _ (all : List Key) (table : List ℕ) (ks : List Key) (i : ℕ) (h : i < length all) (l : length table ≡ 65536)
