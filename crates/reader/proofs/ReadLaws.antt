@@ -49,7 +49,7 @@ ended-in n l =
 
 module _
     {call : ℕ} {any : Bool} {s index : List ℕ} {p : Laid} (found : LaidFound call any s index p) (first : Head)
-    (e : head_in first ≡ head_of (take 39 (drop p.head s))) where
+    (e : head_in first ≡ head_of (take 39 (drop p.head_at s))) where
   head-is : head_in first ≡ (read_volume s).head
   head-is = e ∙ found.first
 

@@ -266,7 +266,7 @@ module _
             }
 
     pub ends_found : (ordered : Bool) → (ordered ≡ true → last.tag ≡ 255 → ⊥)
-        → LaidFound call any s table.index.now (record { head = b; ordered = ordered; counts = table.counts })
+        → LaidFound call any s table.index.now (record { head_at = b; ordered = ordered; counts = table.counts })
     ends_found ordered told =
         record {
           laid = ends-laid;

@@ -17,12 +17,12 @@ pub record Counted (call : ℕ) (s counts index : List ℕ) : Type 0 where
   pub fits : rank_end counts 8 ≤ 29696
   pub short : length s ≤ 0xffff_ffff
 
--- a list that is laid out: the body of field 1 starts at `head`; there are no `counts` where a limit beside the head's is passed, and `ordered` tells
+-- a list that is laid out: the body of field 1 starts at `head_at`; there are no `counts` where a limit beside the head's is passed, and `ordered` tells
 -- that the fields beside field 1 ascend
 pub record LaidFound (call : ℕ) (any : Bool) (s index : List ℕ) (p : Laid) : Type 0 where
   pub laid : laid_as call any s ≡ true
-  pub inside : p.head + 39 ≤ length s
-  pub first : head_of (take 39 (drop p.head s)) ≡ (read_volume s).head
+  pub inside : p.head_at + 39 ≤ length s
+  pub first : head_of (take 39 (drop p.head_at s)) ≡ (read_volume s).head
   pub past : p.counts ≡ None → list_within (read_call s) ≡ false
   pub counted : (c : List ℕ) → p.counts ≡ Some c → Counted call s c index
   pub once : p.ordered ≡ true → none_twice (read_volume s) ≡ true

@@ -20,9 +20,9 @@ fn emitted_length<E: Emit>(e: &E) -> usize
     ensures { result ≡ min (length (E.bytes e.now)) cap }
 {
     let mut none = [0u8; 0];
-    let mut dry = Output::new(&mut none);
-    e.emit(&mut dry);
-    dry.at
+    let mut counted = Output::new(&mut none);
+    e.emit(&mut counted);
+    counted.at
 }
 
 // The bytes are put at the front of a slice that has room for them.

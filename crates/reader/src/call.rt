@@ -38,14 +38,14 @@ fn past_refusal(s: &[u8], ordered: bool) -> Refusal
     Refusal::Limit
 }
 
-// A list of the call that is asked for, or of whatever call its head names: its head, and where the places of each tag end in the table. The table that is lent shows the bound. A byte and
-// no `Call`: sort asks for whatever byte a list has. `Fits` stands in each contract: a struct of a list and its table would have to say beside it that its table is the one that was lent.
+// A list of the call that is asked for, or of whatever call its head names: its head, and where the places of each tag end in the table. `with_list` shows that the table is long enough. A byte
+// and no `Call`: sort asks for whatever byte a list has. `Fits` stands in each contract: a struct of a list and its table would have to say beside it that its table is the one that was lent.
 fn read_table(s: &[u8], asked: Option<u8>, index: &mut [u32]) -> Result<(Head, Ends), Refusal>
     requires { Fits s.now index.old }
     ensures { TableAnswered (list_refusal (unwrap_or asked 0) (is_none asked) s.now) (unwrap_or asked 0) s.now index.new result }
 {
     let laid = survey::survey(s, asked, index).ok_or(Refusal::Layout)?;
-    let first = head::read_head(s, laid.head);
+    let first = head::read_head(s, laid.head_at);
     let Some(counts) = counts_within(laid, first) else {
         return Err(past_refusal(s, laid.ordered));
     };
@@ -57,7 +57,7 @@ fn read_table(s: &[u8], asked: Option<u8>, index: &mut [u32]) -> Result<(Head, E
     Ok((first, ends))
 }
 
-// The same, with the table cut into its parts.
+// The same, with the table cut into its parts. `with_list` shows that the table is long enough.
 fn read_parts<'a>(
     s: &'a [u8],
     asked: Option<u8>,
@@ -70,7 +70,7 @@ fn read_parts<'a>(
     Ok(read_list::cut(s, first, index, ends))
 }
 
-// Reads a list by a table, and answers it.
+// Reads a list by a table, and answers it. `with_list` shows that the table is long enough.
 fn answer_by<F: FnOnce(&ReadList, &mut [u32], &mut [u8]) -> Result<usize, Refusal>>(
     list: &[u8],
     asked: Option<u8>,

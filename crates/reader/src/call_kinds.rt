@@ -2,7 +2,7 @@
 ghost use Rattle.std.specs.Prelude.{◌≡◌};
 ghost use Rattle.reader.specs.CallKinds.{call_number, CallNamed};
 
-// The calls that a list may be of. The others take a list of any of them.
+// The calls that a list names. Every other call takes a list of any of them.
 #[derive(Clone, Copy, PartialEq, Eq, Debug, Drop)]
 pub enum Call {
     // Place: 1.
@@ -22,7 +22,7 @@ impl TryFrom<u8> for Call {
 
     ghost try_from_gives = { CallNamed };
 
-    // The call that a byte names, if it names one.
+    // The call that a byte names, if it names one. In numbers: no pattern may be a cast.
     fn try_from(number: u8) -> Result<Call, UnknownCall> {
         match number {
             1 => Ok(Call::Place),

@@ -1,4 +1,6 @@
 // A key of a list, and each part of it.
+#![tactic(auto, using(crate::proofs::KeyHereLaws::key_parts))]
+
 ghost use Rattle.std.specs.Prelude.{◌≡◌};
 ghost use Rattle.wire.specs.Held.{key_in};
 ghost use Rattle.wire.specs.Positions.{bucket_in};
@@ -28,7 +30,6 @@ impl<'a> ListedKey<'a> {
     }
 
     // Its type.
-    #[tactic(auto, using(crate::proofs::KeyHereLaws::key_parts))]
     pub fn key_type(&self) -> u8
         ensures { result ≡ (key_listed self.now).type }
     {
@@ -36,7 +37,6 @@ impl<'a> ListedKey<'a> {
     }
 
     // Its size.
-    #[tactic(auto, using(crate::proofs::KeyHereLaws::key_parts))]
     pub fn size(&self) -> u32
         ensures { result ≡ (key_listed self.now).size }
     {
@@ -44,7 +44,6 @@ impl<'a> ListedKey<'a> {
     }
 
     // Its position.
-    #[tactic(auto, using(crate::proofs::KeyHereLaws::key_parts))]
     pub fn pos(&self) -> Bpos
         ensures { result ≡ (key_listed self.now).pos }
     {
@@ -59,7 +58,6 @@ impl<'a> ListedKey<'a> {
     }
 
     // Its value.
-    #[tactic(auto, using(crate::proofs::KeyHereLaws::key_parts))]
     pub fn value(&self) -> &'a [u8]
         ensures { result.now ≡ (key_listed self.now).value }
     {

@@ -11,7 +11,7 @@ use wire::tags::Tag;
 use wire::trees::Tree;
 use wire::{keys, kinds, positions};
 
-// Whether a key of a tag, by its type and its position, is within the limits. A reserved bucket is a key at inode 0 and its number, here and below.
+// Whether a key of a tag, by its type and its position, is within the limits. A reserved bucket is a key at inode 0 and its number.
 #[tactic(auto, unfolding(crate::specs::CallFields::key_fits))]
 fn key_within(tag: Tag, key_type: u8, pos: Bpos) -> bool
     ensures { result ≡ key_fits (tag_number tag) key_type pos }
@@ -27,7 +27,7 @@ fn key_within(tag: Tag, key_type: u8, pos: Bpos) -> bool
     }
 }
 
-// The same of a key of a section, by its tag's number.
+// Whether a key of a section, by its tag's number, its type and its position, is within the limits. A reserved bucket is a key at inode 0 and its number.
 pub fn key_fits(section: u8, key_type: u8, pos: Bpos) -> bool
     ensures { result ≡ key_fits section key_type pos }
 {

@@ -35,7 +35,7 @@ pub struct Listed<'a, T: FixedBody> {
     pub ghost whole: { WholeBodies T.width list.now places.now },
 }
 
-// By hand, since neither is derived for a generic struct with a ghost field.
+// By hand: tried `derive_where`, which refuses a generic struct with a ghost field.
 impl<'a, T: FixedBody> Copy for Listed<'a, T> {}
 
 impl<'a, T: FixedBody> Clone for Listed<'a, T> {

@@ -5,7 +5,7 @@ ghost use Rattle.wire.specs.Tags.{tag_number};
 use wire::fields::Field;
 use wire::tags::{Tag, UnknownTag};
 
-// A field and its tag, which is named once for all that is asked of the field.
+// A field and its tag, which is named once for all that is asked of the field. That the body is as long as the tag asks is no ghost field: `may_stand` tests it of a field that is named already.
 #[derive(Clone, Copy, Drop)]
 pub struct NamedField<'a> {
     pub field: Field<'a>,

@@ -5,7 +5,7 @@ ghost use Rattle.reader.specs.Pieces.{piece_in};
 
 use wire::le;
 
-#[derive(Clone, Copy, Drop)]
+#[derive(Clone, Copy, Default, Drop)]
 pub struct Piece {
     pub file: u16,
     pub stored: u16,

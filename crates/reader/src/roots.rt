@@ -6,15 +6,15 @@ ghost use Rattle.reader.specs.Roots.{root_id, RootNamed, with_root};
 
 use wire::trees::Tree;
 
-// The trees whose roots may be missing.
+// The trees whose roots may be missing. Each is the byte that has its bit alone.
 #[derive(Clone, Copy, PartialEq, Eq, Debug, Drop)]
 pub enum Root {
     // The LRU's: bit 0.
-    Lru,
+    Lru = 1,
     // That of the need-discard keys: bit 1.
-    NeedDiscard,
+    NeedDiscard = 2,
     // That of the generation records: bit 2.
-    BucketGens,
+    BucketGens = 4,
 }
 
 // An id that no root has.
@@ -54,22 +54,18 @@ impl Root {
     fn bit(self) -> u8
         ensures { result ≡ 2 ^ root_bit (root_id self) }
     {
-        match self {
-            Root::Lru => 1,
-            Root::NeedDiscard => 2,
-            Root::BucketGens => 4,
-        }
+        self as u8
     }
 }
 
-// Whether a root is missing.
+// Whether a root is missing. A byte and no type: `Head` holds the byte of the format, and a narrower type would ask more of callers.
 pub fn is_missing(roots: u8, root: Root) -> bool
     ensures { result ≡ root_missing roots (root_bit (root_id root)) }
 {
     roots & root.bit() == 0
 }
 
-// The roots with one more, unless they have it.
+// The roots with one more, unless they have it. A byte and no type, as `Head` holds the byte of the format.
 pub fn with_root(roots: u8, root: Root) -> u8
     ensures { result ≡ with_root roots (root_id root) }
 {

@@ -15,7 +15,7 @@ use wire::tags::Tag;
 #[derive(Clone, Copy, Drop)]
 pub struct Laid {
     // Where the body of field 1 starts.
-    pub head: usize,
+    pub head_at: usize,
     // Whether the other fields are in order.
     pub ordered: bool,
     // How many of them there are of each rank; none where a limit beside the head's is passed.
@@ -83,21 +83,21 @@ fn survey_any(s: &[u8], asked: Option<u8>, index: &mut [u32]) -> Option<Laid>
         return None;
     }
     Some(Laid {
-        head: head?,
+        head_at: head?,
         ordered: false,
         counts: table.counts,
     })
 }
 
-// The pass over a list that begins with field 1 and whose other fields are in order; none of any other list. Field 1 is the one before the first of them. `Fits` is as above.
+// The pass over a list that begins with field 1 and whose other fields are in order; none of any other list. Field 1 is the one before the first of them. `Fits` says that the table that is lent is long enough.
 fn survey_ordered(s: &[u8], asked: Option<u8>, index: &mut [u32]) -> Option<Laid>
     requires { Fits s.now index.old }
     ensures { OrderSurveyed (unwrap_or asked 0) (is_none asked) s.now index.new result }
 {
-    let head = head_first(s, asked)?;
+    let head_field = head_first(s, asked)?;
     let mut table = PlaceTable::new(index);
-    let mut last = head;
-    let mut fields = Fields::from_place(s, head.start + head.body.len());
+    let mut last = head_field;
+    let mut fields = Fields::from_place(s, head_field.start + head_field.body.len());
     // By `while let`: tried `for` over `by_ref`; that `fields` is then as the last step of the loop left it stays open.
     while let Some(field) = fields.next() {
         let named = NamedField::try_from(field).ok()?;
@@ -111,13 +111,13 @@ fn survey_ordered(s: &[u8], asked: Option<u8>, index: &mut [u32]) -> Option<Laid
         return None;
     }
     Some(Laid {
-        head: head.start,
+        head_at: head_field.start,
         ordered: true,
         counts: table.counts,
     })
 }
 
-// The pass over a list in order; where it is none, over it again in any order; none where the list breaks the layout.
+// The pass over a list in order; where it is none, over it again in any order; none where the list breaks the layout. `Fits` says that the table that is lent is long enough. It stands in each contract: a struct of a list and its table would have to say beside it that its table is the one that was lent.
 pub fn survey(s: &[u8], asked: Option<u8>, index: &mut [u32]) -> Option<Laid>
     requires { Fits s.now index.old }
     ensures { Surveyed (unwrap_or asked 0) (is_none asked) s.now index.new result }

@@ -4,4 +4,4 @@ use Rattle.reader.proofs.AnswerLaws.{counted}
 use Rattle.reader.proofs.answer.emitted_length.Goals as goal
 
 pub returns : goal.returns
-returns g c = ap (λ (o : Output). o.at) c.emit.ensures ∙ counted _ _ c.new-dry.ensures.front
+returns g c = ap (λ (o : Output). o.at) c.emit.ensures ∙ counted _ _ c.new-counted.ensures.front

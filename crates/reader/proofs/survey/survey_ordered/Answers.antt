@@ -7,17 +7,17 @@ use Rattle.reader.proofs.SurveyStartLaws.{first-found, first-going}
 use Rattle.reader.proofs.SurveyEndLaws.{ends_found, ordered-found}
 use Rattle.reader.proofs.survey.survey_ordered.Goals as goal
 
-pub overflow_add-head : goal.overflow_add-head
-overflow_add-head c = omega (arith, (first-found (c.head_first.ensures _ c.in_ok-head.was)).within)
+pub overflow_add-head_field : goal.overflow_add-head_field
+overflow_add-head_field c = omega (arith, (first-found (c.head_first.ensures _ c.in_ok-head_field.was)).within)
 
 pub from_place-fields-requires : goal.from_place-fields-requires
-from_place-fields-requires c = (first-found (c.head_first.ensures _ c.in_ok-head.was)).within
+from_place-fields-requires c = (first-found (c.head_first.ensures _ c.in_ok-head_field.was)).within
 
 pub loop-field-init : goal.loop-field-init
 loop-field-init c =
     let o = c.from_place-fields.ensures in
     let t = c.new-table.ensures in
-    let h = c.head_first.ensures _ c.in_ok-head.was in
+    let h = c.head_first.ensures _ c.in_ok-head_field.was in
     (o.0, rw o.1 (first-going h _ (rw t.same_entries c.requires) t.unfilled), λ z. omega (arith, h.tag), refl)
 
 pub follows-requires : goal.follows-requires

@@ -7,7 +7,7 @@ use Rattle.reader.proofs.survey.survey_ordered.Given as goal
 abbrev pub invariant-loop-field : goal.invariant-loop-field
 invariant-loop-field l =
     (l.fields.list.now ≡ l.s)
-    × Going l.s (unwrap_or l.fn.asked 0) (is_none l.fn.asked) l.fields.at (Some l.head.start) (field_in l.last) l.table
+    × Going l.s (unwrap_or l.fn.asked 0) (is_none l.fn.asked) l.fields.at (Some l.head_field.start) (field_in l.last) l.table
     × (l.last.tag ≡ 255 → ⊥) × (l.table.index.ghost_name ≡ l.initial.table.index.ghost_name)
 
 abbrev pub decreases-loop-field : goal.decreases-loop-field
