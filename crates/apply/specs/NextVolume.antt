@@ -1,5 +1,5 @@
 -- What is asked before the next volume is written, and what is promised of each of its sections and of the whole.
-use Rattle.std.specs.Prelude.{◌≡◌, Bool, true, ℕ, None, IfSome, List, [], ◌∷◌, map}
+use Rattle.std.specs.Prelude.{◌≡◌, Bool, true, ℕ, None, IfSome, List, [], ◌∷◌, map, length, Result}
 use Rattle.wire.specs.Bytes.{All}
 use Rattle.wire.specs.Fields.{fields}
 use Rattle.wire.specs.Keys.{Key}
@@ -9,8 +9,10 @@ use Rattle.calls.specs.CallList.{volume_bytes}
 use Rattle.calls.specs.ChangeList.{change_laid_out}
 use Rattle.calls.specs.Trees.{apply_queue}
 use Rattle.calls.specs.Refusals.{test}
-use Rattle.calls.specs.Answers.{answer, next_volume, apply}
+use Rattle.calls.specs.Answers.{answer, next_volume, apply, outcome}
 use Rattle.reader.specs.Readings.{ReadAs}
+use Rattle.reader.specs.Refusals.{made_by}
+use Rattle.reader.specs.declared.refusal.Refusal.{Refusal}
 use Rattle.reader.specs.Table.{sorted_bodies}
 use Rattle.reader.specs.declared.read_list.ReadList.{ReadList}
 use Rattle.sorting.specs.Entries.{sections, entries, entry_of}
@@ -62,3 +64,7 @@ pub record SectionsReady (n : Lists) (ps : List Section) : Type 0 where
 pub record VolumeDone (n : Lists) (o o' : Output) (r : Bool) : Type 0 where
   pub wrote : o' ≡ with_bytes o (bytes_after n)
   pub answers : (room : ℕ) → apply n.volume n.change room ≡ answer (test 3 r ∷ []) (bytes_after n) room
+
+-- a result, and the output that it leaves, are the answer that the definition of apply gives
+abbrev pub ApplyAnswered : List ℕ → List ℕ → Result ℕ Refusal → List ℕ → List ℕ → Type 0
+ApplyAnswered vol list r out out' = made_by r out' ≡ outcome (apply vol list (length out)) out

@@ -7,8 +7,8 @@ use crate::lists;
 use reader::refusal::Refusal;
 use reader::{call, change};
 
-// Apply: for any volume, change list and output, how many bytes are written or the refusal, and the output, that the definition gives. A layout that is broken goes before
-// all other refusals.
+// Apply: for any volume, change list and output, how many bytes are written or the refusal, and the output, that the definition gives. A layout that is broken is
+// refused before all else.
 pub fn apply(volume: &[u8], change: &[u8], out: &mut [u8]) -> Result<usize, Refusal>
     ensures { made_by result out.new ≡ outcome (apply volume.now change.now (length out.old)) out.old }
 {

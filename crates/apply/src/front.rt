@@ -29,12 +29,12 @@ fn after_field(roots: u8, field: Field) -> u8
 }
 
 // The root bits after a change list, whose layout was tested.
-pub fn roots_after(list: &[u8], roots: u8) -> u8
-    requires { change_laid_out list.now ≡ true }
-    ensures same { result ≡ roots_after list.now roots }
+pub fn roots_after(change: &[u8], roots: u8) -> u8
+    requires { change_laid_out change.now ≡ true }
+    ensures same { result ≡ roots_after change.now roots }
     ensures low { roots < 8 → result < 8 }
 {
-    Fields::of(list).fold(roots, after_field)
+    Fields::of(change).fold(roots, after_field)
 }
 
 // Field 1: the volume's head with other root bits.

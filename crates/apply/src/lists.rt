@@ -1,13 +1,11 @@
 // The next volume, whole.
-ghost use Rattle.std.specs.Prelude.{◌≡◌, ◌+◌, ◌/◌, ◌≤◌, ◌<◌, IfSome, length, get_or};
-ghost use Rattle.reader.specs.Refusals.{made_by};
-ghost use Rattle.calls.specs.Answers.{apply, outcome};
+ghost use Rattle.std.specs.Prelude.{◌≡◌, ◌+◌, ◌/◌, ◌≤◌, ◌<◌, IfSome, get_or};
 ghost use Rattle.sorting.specs.Entries.{sections};
 ghost use Rattle.merge.specs.Merging.{Done};
 ghost use Rattle.merge.specs.QueueParts.{InParts};
 ghost use Rattle.merge.specs.QueueTable.{QueuePart};
 ghost use Rattle.apply.specs.Roots.{roots_after};
-ghost use Rattle.apply.specs.NextVolume.{Lists, bytes_after, Ready, next_of, SectionListed, SectionsReady, VolumeDone};
+ghost use Rattle.apply.specs.NextVolume.{Lists, bytes_after, Ready, next_of, SectionListed, SectionsReady, VolumeDone, ApplyAnswered};
 
 use crate::front;
 use merge::below::Rest;
@@ -46,7 +44,7 @@ impl<'s> Section<'s> {
 pub struct NextVolume<'a, 'q> {
     read: ReadList<'a>,
     roots: u8,
-    list: &'a [u8],
+    change: &'a [u8],
     queue: Option<Queue<'q>>,
 }
 
@@ -54,13 +52,14 @@ pub struct NextVolume<'a, 'q> {
 impl<'a, 'q> Model for NextVolume<'a, 'q> {
     ghost Value = { Lists };
 
-    ghost view = { λ n. record { volume = n.read.list.now; change = n.list.now } };
+    ghost view = { λ n. record { volume = n.read.list.now; change = n.change.now } };
 
-    ghost invariant = { λ n. Ready n.read n.list.now × (n.roots ≡ roots_after n.list.now n.read.head.roots) × InParts n.list.now n.queue };
+    ghost invariant = { λ n. Ready n.read n.change.now × (n.roots ≡ roots_after n.change.now n.read.head.roots) × InParts n.change.now n.queue };
 }
 
 impl<'a, 'q> NextVolume<'a, 'q> {
     // The places of the queued keys of a section by its place among the sections, where the table holds them. `sections` names the seven.
+    // By its place: the parts stand in the order of `SECTIONS`, and the volume's keys are fields of `ReadList`, which no iterator visits.
     fn queued(&self, i: usize) -> Option<&[usize]>
         requires { i < 7 }
         ensures { IfSome result (λ q. QueuePart (get_or sections i 0) self.now.change q.now) }
@@ -99,8 +98,8 @@ impl<'a, 'q> NextVolume<'a, 'q> {
     {
         let rest = Rest::new(s.tag, self.read.list, s.keys);
         match s.queue {
-            Some(queue) => merging::put_section(out, rest, self.list, queue),
-            None => merging::put_section_in_chunks(out, rest, self.list),
+            Some(queue) => merging::put_section(out, rest, self.change, queue),
+            None => merging::put_section_in_chunks(out, rest, self.change),
         }
     }
 
@@ -118,7 +117,7 @@ impl<'a, 'q> NextVolume<'a, 'q> {
 
     // Apply: first into no room, which tells whether the limits are kept, and the length.
     fn write(&self, out: &mut [u8]) -> Result<usize, Refusal>
-        ensures { made_by result out.new ≡ outcome (apply self.now.volume self.now.change (length out.old)) out.old }
+        ensures { ApplyAnswered self.now.volume self.now.change result out.old out.new }
     {
         let mut none = [0u8; 0];
         let mut dry = Output::new(&mut none);
@@ -137,35 +136,36 @@ impl<'a, 'q> Emit for NextVolume<'a, 'q> {
     }
 }
 
-// Apply, with tables of N of the change list's queued keys, and of half as many to sort them in. No heap: the tables stand in this frame, and `apply_lists` picks of two sizes.
+// Apply, with tables of N of the change list's queued keys, and of half as many to sort them in. `apply_lists` shows what is asked. No heap: the tables stand in this frame, and it
+// picks of two sizes.
 fn apply_within<const N: usize, const HALF: usize>(
     read: &ReadList,
-    list: &[u8],
+    change: &[u8],
     out: &mut [u8],
 ) -> Result<usize, Refusal>
-    requires { Ready read.now list.now × (N / 2 ≤ HALF) × (N + HALF ≤ 0xffff) }
-    ensures { made_by result out.new ≡ outcome (apply read.now.list.now list.now (length out.old)) out.old }
+    requires { Ready read.now change.now × (N / 2 ≤ HALF) × (N + HALF ≤ 0xffff) }
+    ensures { ApplyAnswered read.now.list.now change.now result out.old out.new }
 {
     let mut table = [0usize; N];
     let mut spare = [0usize; HALF];
-    let queue = queue::sort_queue(list, &mut table, &mut spare);
+    let queue = queue::sort_queue(change, &mut table, &mut spare);
     let next = NextVolume {
         read: *read,
-        roots: front::roots_after(list, read.head.roots),
-        list,
+        roots: front::roots_after(change, read.head.roots),
+        change,
         queue,
     };
     next.write(out)
 }
 
 // Apply, once the volume was read and `check_change` accepted the change list. A queued key takes seven bytes and more, and no call queues more than 16,384.
-pub fn apply_lists(read: &ReadList, list: &[u8], out: &mut [u8]) -> Result<usize, Refusal>
-    requires { Ready read.now list.now }
-    ensures { made_by result out.new ≡ outcome (apply read.now.list.now list.now (length out.old)) out.old }
+pub fn apply_lists(read: &ReadList, change: &[u8], out: &mut [u8]) -> Result<usize, Refusal>
+    requires { Ready read.now change.now }
+    ensures { ApplyAnswered read.now.list.now change.now result out.old out.new }
 {
-    if list.len() <= 3584 {
-        apply_within::<512, 256>(read, list, out)
+    if change.len() <= 3584 {
+        apply_within::<512, 256>(read, change, out)
     } else {
-        apply_within::<16384, 8192>(read, list, out)
+        apply_within::<16384, 8192>(read, change, out)
     }
 }

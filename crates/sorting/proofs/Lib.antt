@@ -1,4 +1,5 @@
 pub mod PlaceLaws
+pub mod NeighbourLaws
 pub mod MergeLaws
 pub mod LastLaws
 pub mod KeepLaws

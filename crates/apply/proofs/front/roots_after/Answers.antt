@@ -9,4 +9,4 @@ fold-requires-clause-callable c = fold-callable _ _ _ (λ a x b q k. search rule
 pub returns : goal.returns
 returns c =
     let e = fold-roots _ _ _ (λ a x b q k. search rules) (fold-start c.requires c.of.ensures.0 c.of.ensures.1) c.fold.ensures.ran in
-    record { same = e; low = λ l. rw e (roots-low c.args.list.now c.args.roots c.requires l) }
+    record { same = e; low = λ l. rw e (roots-low c.args.change.now c.args.roots c.requires l) }
