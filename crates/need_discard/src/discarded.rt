@@ -50,7 +50,7 @@ pub fn discarded_keys<'a>(room: &'a mut [u32], alloc: Keys<'a>, waiting: &Waitin
     requires { All AllocKept (keys_listed alloc) × (length alloc.places.now ≤ length room.old) }
     ensures { keys_listed result ≡ discarded_from waiting.now (keys_listed alloc.entry) }
 {
-    // No heap: what `filter` gives cannot be collected, so n counts the places.
+    // No heap: what `filter` gives cannot be collected, so n counts the places. No `ArrayVec`: what is answered are `Keys`, which hold a slice of a table that is lent.
     let mut n: usize = 0;
     for key in alloc.iter() {
         if is_discarded(&key, waiting) {
