@@ -72,7 +72,7 @@ pub fn free_count(runs: Keys, reserved: ReservedBuckets) -> u64
     requires { RunsChecked (keys_listed runs) × ReservedChecked (buckets_listed reserved) × (overlaps (runs_of (keys_listed runs)) ≡ false) }
     ensures { result ≡ free_count (is_in (buckets_listed reserved.entry)) (runs_of (keys_listed runs.entry)) }
 {
-    // A loop and not `fold`, which is no plainer: the two sums would be a pair that each turn takes apart and makes again around the same three lines.
+    // A loop and not `fold`, which was tried: what it requires, that its closure may be asked at each turn, stays open.
     let mut free: u64 = 0;
     let mut below: usize = 0;
     for key in runs.iter() {
