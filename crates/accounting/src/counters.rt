@@ -29,6 +29,7 @@ impl RowPos {
     };
 
     // A data type, by its number.
+    // A byte and no `DataType`: a narrower type would ask more of callers.
     pub fn of_type(data_type: u8) -> RowPos
         ensures { result ≡ record { inode = 0x0300000000000000 + data_type * 2 ^ 40; offset = 0 } }
     {
@@ -39,6 +40,7 @@ impl RowPos {
     }
 
     // A compression kind, by its byte.
+    // A byte and no `Compression`: a narrower type would ask more of callers.
     pub fn of_kind(kind: u8) -> RowPos
         ensures { result ≡ record { inode = 0x0400000000000000 + kind * 2 ^ 48; offset = 0 } }
     {
@@ -78,6 +80,7 @@ pub fn put_counted(out: &mut Output, at: RowPos, numbers: &[i64])
 }
 
 // The difference of two amounts, whose bounds what counts them shows.
+// No type bounds an amount: pieces, requests and buckets each bound theirs by another fact.
 pub fn difference(a: u64, b: u64) -> i64
     requires { (a < 2 ^ 62) × (b < 2 ^ 62) }
     ensures { result ≡ pos a +ℤ neg_ℤ (pos b) }
@@ -93,6 +96,7 @@ pub fn put_sectors_row(out: &mut Output, sectors: i64)
 }
 
 // Buckets, sectors and unused sectors of a data type, by its number.
+// A byte and no `DataType`: a narrower type would ask more of callers.
 pub fn put_buckets_row(out: &mut Output, data_type: u8, buckets: i64, sectors: i64, unused: i64)
     ensures { out.new ≡ with_bytes out.old (rows_bytes (buckets_row data_type buckets sectors unused ∷ [])) }
 {

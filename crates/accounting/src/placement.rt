@@ -38,11 +38,12 @@ pub fn put_counts(out: &mut Output, at: RowPos, t: Tally)
 }
 
 // The sectors stored, the buckets taken, which are free no longer, and what they have unused.
-pub fn put_taken_rows(out: &mut Output, taken: u64, sectors: u64, stored: u64)
-    requires { (taken ≤ 1024) × (sectors < 65536) × (stored < 2 ^ 62) }
-    ensures { out.new ≡ with_bytes out.old (rows_bytes (sectors_row (pos stored) ∷ buckets_row 0 (neg_ℤ (pos taken)) (pos 0) (pos 0) ∷ buckets_row 4 (pos taken) (pos stored) (pos (taken * sectors) +ℤ neg_ℤ (pos stored)) ∷ [])) }
+// The walk shows that few are taken, a field of two bytes the bound of a bucket's sectors, and `tally_pieces` that of those stored.
+pub fn put_taken_rows(out: &mut Output, taken: u64, bucket_sectors: u64, stored: u64)
+    requires { (taken ≤ 1024) × (bucket_sectors < 65536) × (stored < 2 ^ 62) }
+    ensures { out.new ≡ with_bytes out.old (rows_bytes (sectors_row (pos stored) ∷ buckets_row 0 (neg_ℤ (pos taken)) (pos 0) (pos 0) ∷ buckets_row 4 (pos taken) (pos stored) (pos (taken * bucket_sectors) +ℤ neg_ℤ (pos stored)) ∷ [])) }
 {
-    let unused = counters::difference(taken * sectors, stored);
+    let unused = counters::difference(taken * bucket_sectors, stored);
     let stored = rows::plus(stored);
     counters::put_sectors_row(out, stored);
     counters::put_buckets_row(out, DataType::Free.number(), rows::minus(taken), 0, 0);
@@ -55,7 +56,7 @@ pub fn put_taken_rows(out: &mut Output, taken: u64, sectors: u64, stored: u64)
     );
 }
 
-// The extents: their keys, 40 bytes and the value's of each, and the stored sectors.
+// The extents: their keys, 40 bytes and the value's of each, and the stored sectors. `tally_pieces` shows what is asked.
 pub fn put_extents_row(out: &mut Output, option: ChecksumOption, t: Tally)
     requires { Small 1024 t }
     ensures { (h : lists.Head) (ps : List calls.Placed) → option_byte option ≡ h.option → length ps ≡ t.count → out.new ≡ with_bytes out.old (rows_bytes (extents_row (map (extent_key h) ps) t.stored ∷ [])) }
@@ -64,7 +65,7 @@ pub fn put_extents_row(out: &mut Output, option: ChecksumOption, t: Tally)
     put_counts(out, RowPos::EXTENTS, Tally { file, ..t });
 }
 
-// The owner.
+// The owner. `tally_pieces` shows what is asked.
 pub fn put_owner(out: &mut Output, inode: u64, t: Tally)
     requires { Small 1024 t }
     ensures { out.new ≡ with_bytes out.old (rows_bytes (owner_counts inode t ∷ [])) }
@@ -72,7 +73,7 @@ pub fn put_owner(out: &mut Output, inode: u64, t: Tally)
     put_counts(out, RowPos::of_owner(inode), t);
 }
 
-// The rows of the compression kinds, from kind 2 on.
+// The rows of the compression kinds, from kind 2 on. `tally_pieces` shows what is asked of them, and `Tallies` has four.
 pub fn put_kinds(out: &mut Output, kinds: &[Tally])
     requires { All (Small 1024) kinds.now × (length kinds.now ≤ 4) }
     ensures { out.new ≡ with_bytes out.old (rows_bytes (kind_rows 2 kinds.now)) }
@@ -82,7 +83,7 @@ pub fn put_kinds(out: &mut Output, kinds: &[Tally])
     }
 }
 
-// All rows of a placement, by how many buckets are taken, ascending. A plan holds the head's option, and `tally_pieces` shows what is required of the tallies.
+// All rows of a placement, by how many buckets are taken, ascending. A plan holds that few are taken and the head's option, and `tally_pieces` shows what is required of the tallies.
 // The head and its option apart, as a plan has them: of what reads a plan's head, this and `put_extent` alone ask for the option too.
 pub fn put_rows(out: &mut Output, taken: u64, t: &Tallies, h: Head, option: ChecksumOption)
     requires bounds { (taken ≤ 1024) × (option_byte option ≡ h.option) }

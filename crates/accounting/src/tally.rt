@@ -38,6 +38,7 @@ impl Tally {
 }
 
 // Which of the tallies of the kinds a piece with a kind counts in; one of kind 0, or of a kind that is none, counts in none.
+// Its number less 2, as `kind_rows 2` has it; by name, since a byte may name no kind.
 fn kind_index(kind: u8) -> Option<usize>
     ensures { CountedAs kind result }
 {
@@ -64,6 +65,7 @@ impl Tallies {
 }
 
 // The tallies of the pieces, in one pass. Refusal 3 shows that the pieces are few.
+// No type bounds them: `Pieces` is a `Listed`, which reads the fields of any kind.
 pub fn tally_pieces(pieces: &Pieces) -> Tallies
     requires { length (pieces_of pieces.now) ≤ 1024 }
     ensures { Tallied (pieces_of pieces.now) result }

@@ -104,12 +104,12 @@ impl BucketBits {
     }
 
     // The buckets in use are marked. Refusals 2, 22 and 3 show what is asked.
-    pub fn of_used(alloc: Keys) -> BucketBits
-        requires { AllocChecked (keys_listed alloc) }
-        ensures { Marks result (is_used (keys_listed alloc.entry)) }
+    pub fn of_used(keys: Keys) -> BucketBits
+        requires { AllocChecked (keys_listed keys) }
+        ensures { Marks result (is_used (keys_listed keys.entry)) }
     {
         let mut bits = BucketBits::new();
-        for key in alloc.iter() {
+        for key in keys.iter() {
             bits.mark_key(key);
         }
         bits

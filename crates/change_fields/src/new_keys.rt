@@ -10,6 +10,7 @@ use wire::keys::KeyHead;
 use wire::output::Output;
 
 // A new key of a tree, without a value. No `KeyHead` is asked for: each caller would only say `KeyHead::new` of the same three.
+// Bytes and no `Tree` or `KeyType`: a narrower type would ask more of callers.
 pub fn put_new_key(out: &mut Output, tree: u8, key_type: u8, size: u32, pos: Bpos)
     ensures { out.new ≡ with_bytes out.old (encode_field (key_field tree (new_key key_type size pos []))) }
 {
@@ -17,6 +18,7 @@ pub fn put_new_key(out: &mut Output, tree: u8, key_type: u8, size: u32, pos: Bpo
 }
 
 // The deletion of what stands at a position of a tree.
+// A byte and no `Tree`: a narrower type would ask more of callers.
 pub fn put_deletion(out: &mut Output, tree: u8, pos: Bpos)
     ensures { out.new ≡ with_bytes out.old (encode_field (key_field tree (deletion pos))) }
 {

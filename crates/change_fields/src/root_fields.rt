@@ -12,6 +12,7 @@ use wire::output::Output;
 use wire::tags::Tag;
 
 // A root, by its id.
+// A byte and no `Root`: a narrower type would ask more of callers.
 pub fn put_root(out: &mut Output, id: u8)
     ensures { out.new ≡ with_bytes out.old (roots_bytes (id ∷ [])) }
 {

@@ -29,7 +29,7 @@ pub fn is_run(key: ListedKey) -> bool
 }
 
 // Whether it is one that began before bucket 0.
-// A question of its own, though `run_of` too asks whether it is a run: one answer to both would be a refusal that all but the walk drop.
+// Beside `run_of`: one function for both would answer `Result<Option<Run>, Refusal>`, and all callers but the walk would drop the refusal.
 #[tactic(auto, unfolding(crate::specs::Runs::began_early))]
 pub fn began_early(key: ListedKey) -> bool
     ensures { result ≡ began_early (key_listed key.entry) }
@@ -48,6 +48,7 @@ pub fn run_of(key: ListedKey) -> Option<Run>
 }
 
 // Whether two runs overlap: one starts below the end of the last before it that is not empty. Refusals 2, 22 and 3 show what is asked.
+// The facts are asked: `Keys` and `Listed` are the types of all keys and buckets, and a checked type would be made, its fact shown, at each call.
 pub fn overlaps(runs: Keys) -> bool
     requires { RunsChecked (keys_listed runs) }
     ensures { result ≡ overlaps (runs_of (keys_listed runs.entry)) }
@@ -71,7 +72,7 @@ pub fn free_count(runs: Keys, reserved: ReservedBuckets) -> u64
     requires { RunsChecked (keys_listed runs) × ReservedChecked (buckets_listed reserved) × (overlaps (runs_of (keys_listed runs)) ≡ false) }
     ensures { result ≡ free_count (is_in (buckets_listed reserved.entry)) (runs_of (keys_listed runs.entry)) }
 {
-    // A loop and not `fold`, which is no plainer: the two sums would be a pair that each turn takes apart and makes again around the same three lines.
+    // A loop and not `fold`, which was tried: what it requires, that its closure may be asked at each turn, stays open.
     let mut free: u64 = 0;
     let mut below: usize = 0;
     for key in runs.iter() {

@@ -56,11 +56,11 @@ impl Walked {
 
 impl<'a> Walker<'a> {
     // Walks a run until all buckets are taken: refusal 13 where one of them is used. `walk_key` shows what is asked.
-    fn walk_run(&self, run: Run, from: Walked, taken: &mut [Bucket]) -> Result<Walked, Refusal>
-        requires { (run.end.0 ≤ 65536) × (from.count ≤ self.now.wanted) × (self.now.wanted ≤ length taken.old) × (from.passed < 2 ^ 63) }
-        ensures { WalkEnded (pass (marked self.now.reserved.now) (marked self.now.used.now) (self.now.wanted - from.count) (buckets_up_to run.start run.end)) from taken.old taken.new result }
+    fn walk_run(&self, run: Run, before: Walked, taken: &mut [Bucket]) -> Result<Walked, Refusal>
+        requires { (run.end.0 ≤ 65536) × (before.count ≤ self.now.wanted) × (self.now.wanted ≤ length taken.old) × (before.passed < 2 ^ 63) }
+        ensures { WalkEnded (pass (marked self.now.reserved.now) (marked self.now.used.now) (self.now.wanted - before.count) (buckets_up_to run.start run.end)) before taken.old taken.new result }
     {
-        let mut walked = from.past_key();
+        let mut walked = before.past_key();
         for number in run.start.0..run.end.0 {
             let b = Bucket(number);
             if walked.count == self.wanted {
@@ -83,18 +83,18 @@ impl<'a> Walker<'a> {
     fn walk_key(
         &self,
         key: ListedKey,
-        from: Walked,
+        before: Walked,
         taken: &mut [Bucket],
     ) -> Result<Walked, Refusal>
-        requires { Walkable (key_listed key) self.now.wanted from taken.old }
-        ensures { WalkIs self.now.wanted (λ w. key_listed key.entry ∷ []) (key_walk (is_in (buckets_listed self.now.read.now.reserved)) (is_used (keys_listed self.now.read.now.alloc)) (self.now.wanted - from.count) (key_listed key.entry)) from taken.old taken.new result }
+        requires { Walkable (key_listed key) self.now.wanted before taken.old }
+        ensures { WalkIs self.now.wanted (λ w. key_listed key.entry ∷ []) (key_walk (is_in (buckets_listed self.now.read.now.reserved)) (is_used (keys_listed self.now.read.now.alloc)) (self.now.wanted - before.count) (key_listed key.entry)) before taken.old taken.new result }
     {
         if runs::began_early(key) {
             return Err(Refusal::RunBeforeBuckets);
         }
         match runs::run_of(key) {
-            Some(run) => self.walk_run(run, from, taken),
-            None => Ok(from.past_key()),
+            Some(run) => self.walk_run(run, before, taken),
+            None => Ok(before.past_key()),
         }
     }
 

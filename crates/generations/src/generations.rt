@@ -12,7 +12,8 @@ use reader::call;
 use reader::read_list::ReadList;
 use reader::refusal::Refusal;
 
-// The answer on a volume that was read: 3 by the buckets, 21, or their generations. `ascend` shows what is required of the buckets.
+// The answer on a volume that was read: refusal 3 where the buckets are too many or too high, 21 where the output is short, or their generations. `ascend` shows what is required
+// of the buckets.
 fn look_up(read: &ReadList, buckets: &[u32], out: &mut [u8]) -> Result<usize, Refusal>
     requires { ReadAs None read.now × (in_order bucket_below (buckets_in buckets.now) ≡ true) }
     ensures { looked_up_by result out.new ≡ generations_outcome (generations read.now.list.now (buckets_in buckets.now) (length out.old)) out.old }

@@ -54,7 +54,7 @@ impl BucketNumber for Bucket {
     }
 }
 
-// How many keys stand up to a bucket's record, where so many are known to.
+// How many keys stand up to a bucket's record, where so many are known to: `bucket_gens` shows it by the bucket before, which is lower.
 fn keys_up_to(gens: Keys, known: usize, b: Bucket) -> usize
     requires { known ≤ keys_up_to (gens_at b) (keys_listed gens) }
     ensures { result ≡ keys_up_to (gens_at b) (keys_listed gens.entry) }
@@ -80,6 +80,7 @@ fn record_up_to(gens: Keys, k: usize, b: Bucket) -> Option<ListedKey>
 
 // Fills in the generation of each bucket, and tells how many keys are visited: up to and with the first past the last bucket's record. Refusal 22 shows that keys ascend, and who
 // asks that the buckets do and that there is room.
+// No type: of this crate `record_up_to` and this alone ask that keys ascend, and the type that holds it, of alloc keys, stands in a crate above.
 pub fn bucket_gens<N: BucketNumber>(out: &mut [u8], gens: Keys, buckets: &[N]) -> usize
     requires keys_value { keys_ascend (keys_listed gens) ≡ true }
     requires buckets_value { (in_order bucket_below (N.buckets_in buckets.now) ≡ true) × (length buckets.now ≤ length out.old) }

@@ -40,6 +40,7 @@ impl<'a> Records<'a> {
     ghost use Rattle.reader.specs.ListedKeys.{keys_listed};
 
     // Looks a bucket up. The limits show the bound.
+    // No type shows it: one in range would be a second kind beside `Bucket`, and a bucket of a list may have any number.
     #[tactic(auto, unfolding(calls::specs::Generations::gen_lookup))]
     pub fn find_gen(&self, b: Bucket) -> Result<u8, NoGeneration>
         requires { bucket_in_range b ≡ true }

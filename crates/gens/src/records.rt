@@ -38,7 +38,7 @@ fn note_record(key: ListedKey, table: &mut [u32; 256])
     table[p.offset as usize] = if is_record(key) { key.at } else { 0 };
 }
 
-// Notes all keys in a table of zeros, the last of them first, so that the first at a position stands.
+// Notes all keys in a table of zeros, the last of them first, so that the first at a position stands. `Records::of` shows what is asked.
 fn fill_table(gens: Keys, table: &mut [u32; 256])
     requires { table.old ≡ replicate 256 0 }
     ensures { RecordsFound gens.entry.list.now (keys_here gens.entry.list.now gens.entry.places.now) table.new }

@@ -50,7 +50,7 @@ pub fn discarded_keys<'a>(room: &'a mut [u32], alloc: Keys<'a>, waiting: &Waitin
     requires { All AllocKept (keys_listed alloc) × (length alloc.places.now ≤ length room.old) }
     ensures { keys_listed result ≡ discarded_from waiting.now (keys_listed alloc.entry) }
 {
-    // No heap: the room is the caller's slice, of any length, and n counts its front. An `ArrayVec` would ask for a capacity that the type names.
+    // No heap: the room is the caller's slice, of any length, and n counts its front. No `ArrayVec`: what is answered are `Keys`, which hold a slice that is lent.
     let mut n: usize = 0;
     for key in alloc.iter() {
         if is_discarded(&key, waiting) {

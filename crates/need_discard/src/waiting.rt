@@ -29,7 +29,7 @@ fn note_key(table: &mut [u16; 65536], key: &ListedKey, i: usize)
 }
 
 // Fills an empty table. The limits show what is asked of the keys.
-fn note_waiting(table: &mut [u16; 65536], keys: &Keys)
+pub fn note_waiting(table: &mut [u16; 65536], keys: &Keys)
     requires { All NeedKept (keys_listed keys.now) × (length keys.now.places.now ≤ 4096) × (table.old ≡ replicate 65536 0) }
     ensures { TableEntries (keys_listed keys.now) (keys_listed keys.now) table.new }
 {

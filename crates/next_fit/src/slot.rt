@@ -4,13 +4,14 @@ ghost use Rattle.calls.specs.Pieces.{next_fit};
 ghost use Rattle.next_fit.specs.Fit.{fit_in};
 
 // Where a piece goes, as a table holds it: the index of its bucket among those taken, and its offset there, in four bytes.
-#[derive(Clone, Copy, Drop)]
+#[derive(Clone, Copy, Default, Drop)]
 pub struct Slot {
     pub index: u16,
     pub offset: u16,
 }
 
-// The same as next fit finds it. No `Slot`, whose index has two bytes: next fit may be asked at any index below 2^63.
+// Where next fit puts a piece, in the widths that it computes with: it may be asked at any index below 2^63.
+// No generic `Slot`: each is viewed by its own definition, and two type parameters would serve two uses.
 #[derive(Clone, Copy, Drop)]
 pub struct Fit {
     pub index: usize,

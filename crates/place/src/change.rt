@@ -8,7 +8,7 @@ ghost use Rattle.change_fields.specs.FieldBytes.{roots_bytes};
 ghost use Rattle.place.specs.Change.{placement, key_fields, other_fields};
 ghost use Rattle.place.specs.Prepared.{Prepared, prepared-prop};
 
-use accounting::placement;
+use accounting::placement as rows;
 use accounting::tally::Tallies;
 use change_fields::{batch_end, root_fields};
 use freespace::take::Walked;
@@ -53,7 +53,7 @@ impl<'a> ChangeList<'a> {
         let plan = self.counted.plan;
         put_taken(out, plan.taken);
         spots::put_spots(out, plan);
-        placement::put_rows(
+        rows::put_rows(
             out,
             plan.taken.len() as u64,
             &self.tallies,
@@ -76,7 +76,7 @@ impl<'a> Emit for ChangeList<'a> {
 }
 
 // Field 70: the LRU root, where it is wanted and does not exist.
-// Whether it is wanted is one half of what is promised, and what `put_lrus` answers; the roots are the head's byte, since a narrower type would ask more of callers.
+// The flag is the definition's own, `roots_if (wanted && ..)`, and what `put_lrus` answers; the roots are the head's byte, since a narrower type would ask more of callers.
 pub fn put_lru_root(out: &mut Output, wanted: bool, roots: u8)
     ensures { out.new ≡ with_bytes out.old (roots_bytes (roots_if (wanted && root_missing roots 0) 10)) }
 {

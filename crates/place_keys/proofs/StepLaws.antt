@@ -5,6 +5,7 @@ use mathlib.Core.List.{List, [], ◌∷◌, map}
 use Prim.Native.Nat.{ℕ, zero, suc, ◌+◌, ◌*◌, ◌≤◌, ◌<◌, ◌^◌}
 use native.Mathlib.Omega.{arith}
 use lib.ListN.{length, drop, get_or, length-map}
+use Rattle.std.proofs.lemmas.List.{get_or-map}
 use borrow.Author.Tests.{ltb-true}
 use Rattle.wire.specs.Kinds.{bucket_in_range, sector_at, extent_end, no_bucket}
 use Rattle.wire.specs.declared.kinds.Bucket.{Bucket}
@@ -41,12 +42,6 @@ bucket-at [] i = refl
 bucket-at (b ∷ bs) zero = refl
 bucket-at (b ∷ bs) (suc i) = bucket-at bs i
 
-pub map_at : (f : Bucket → ℕ) (bs : List Bucket) (i : ℕ) → i < length bs → get_or (map f bs) i 0 ≡ f (bucket_at no_bucket bs i)
-unfolding bucket_at
-map_at f [] i h = absurd (omega arith)
-map_at f (b ∷ bs) zero h = refl
-map_at f (b ∷ bs) (suc i) h = map_at f bs i (omega arith)
-
 pub low-at : (bs : List Bucket) → all_of bucket_in_range bs ≡ true → (i : ℕ) → bucket_in_range (bucket_at no_bucket bs i) ≡ true
 unfolding bucket_at all_of
 low-at [] h i = refl
@@ -73,7 +68,9 @@ module _ {s : List ℕ} {pieces : List calls.Piece} {slots : List Slot} {buckets
 
   -- the generation of the bucket at an index
   pub gen-at : (i : ℕ) → i < length buckets → get_or generations i 0 ≡ gen_of (read_volume s).trees.gens (bucket_at no_bucket buckets i)
-  gen-at i k = ap (λ (l : List ℕ). get_or l i 0) plan.gens ∙ map_at (gen_of (read_volume s).trees.gens) buckets i k
+  gen-at i k =
+      let gen = gen_of (read_volume s).trees.gens in
+      ap (λ (l : List ℕ). get_or l i 0) plan.gens ∙ get_or-map gen buckets i no_bucket 0 k ∙ ap gen (bucket-at buckets i)
 
   -- a slot for each piece, in one of the buckets
   pub slots-many : length slots ≡ length pieces

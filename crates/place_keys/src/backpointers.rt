@@ -18,7 +18,7 @@ use wire::output::Output;
 use wire::positions;
 use wire::trees::Tree;
 
-// The backpointer of a piece's extent.
+// The backpointer of a piece's extent. `Plan::piece` shows what is asked of the piece.
 pub fn put_backpointer(out: &mut Output, h: Head, p: Placed)
     requires { Bounded p }
     ensures { out.new ≡ with_bytes out.old (encode_field (key_field 13 (backpointer_key (head_in h) (placed_in p)))) }

@@ -21,7 +21,7 @@ use wire::output::Output;
 use wire::positions;
 use wire::trees::Tree;
 
-// The extent of a piece: its checksum entry, if it has one, and its pointer. A plan holds the head's option.
+// The extent of a piece: its checksum entry, if it has one, and its pointer. A plan holds the head's option, and `Plan::piece` shows what is asked of the piece.
 // The head and its option apart, as a plan has them: of what reads a plan's head, this and `placement::put_rows` alone ask for the option too.
 pub fn put_extent(out: &mut Output, h: Head, option: ChecksumOption, p: Placed)
     requires { (option_byte option ≡ h.option) × Bounded p }

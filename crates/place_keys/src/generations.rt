@@ -13,7 +13,7 @@ pub fn fill_gens<'a>(out: &'a mut [u8], records: &Records, taken: &[Bucket]) -> 
     requires { (length taken.now ≤ length out.old) × (all_of bucket_in_range taken.now ≡ true) }
     ensures { result.now ≡ map (gen_of (keys_listed records.now.gens)) taken.now }
 {
-    // By index: after an adapter of `iter_mut` nothing is known of a slice (Rattle's LIBRARY.md).
+    // By index: after an adapter of iter_mut nothing is known of a slice (Rattle's LIBRARY.md).
     for (i, b) in taken.iter().enumerate() {
         out[i] = records.bucket_gen(*b);
     }

@@ -15,7 +15,7 @@ use wire::kinds::Bucket;
 use wire::output::Output;
 
 // The LRU key of a bucket that is part filled, and whether it is, which wants the root.
-// That is tested here and in `put_lru_key`: an answer of that one would be thrown away by its other caller, a release, which wants no root by it.
+// Tested here and in `put_lru_key`, which has no answer: its other caller, a release, wants no root by it.
 fn put_lru(out: &mut Output, b: Bucket, dirty: u32, sectors: NonZero<u64>) -> bool
     ensures { (out.new ≡ with_bytes out.old (keys_bytes 10 (lru_keys (non_zero_u64_get sectors) b dirty))) × (result ≡ part_filled (non_zero_u64_get sectors) dirty) }
 {

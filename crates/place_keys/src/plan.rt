@@ -13,7 +13,7 @@ use std::num::NonZero;
 use wire::kinds;
 use wire::kinds::{Bucket, FileSector};
 
-// What planning hands over: a list, its pieces and their slots, the buckets taken, their generations, the head, its bucket's sectors and its checksum option.
+// What is planned: a list, its pieces and their slots, the buckets taken, their generations, the head, its bucket's sectors and its checksum option.
 // No heap: the buckets, their generations and, in a `DirtyPlan`, their dirty counts are tables of the caller, each filled by a pass of its own; for rows of all
 // three the buckets would be copied to a second table.
 #[derive(Clone, Copy, Drop)]
@@ -44,7 +44,7 @@ impl<'a> Plan<'a> {
     ghost use Rattle.calls.specs.Answers.{read_call};
     ghost use Rattle.place_keys.specs.Left.{placed_left};
 
-    // Piece i at its place: its extent starts where the last one ends.
+    // Piece i at its place: its extent starts where the last one ends. `PlacedPieces` shows what is asked.
     pub fn piece(&self, i: usize, end: FileSector) -> Placed
         requires i_in_bounds { (i < length (pieces_of self.now.pieces)) × Reached i end }
         ensures { PieceStepped self.now.list.now i end result }

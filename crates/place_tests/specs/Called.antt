@@ -1,4 +1,4 @@
--- A list that refusals 2, 22 and 3 let through: its head, the parts that choosing reads, and its pieces.
+-- A list that meets none of refusals 2, 22 and 3: its head, the parts that choosing reads, and its pieces.
 use Rattle.std.specs.Prelude.{◌≤◌, ◌≡◌, true, length}
 use Rattle.wire.specs.Kinds.{base_in_range}
 use Rattle.calls.specs.Answers.{read_call, read_volume}

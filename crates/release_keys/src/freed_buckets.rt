@@ -10,20 +10,10 @@ use arrayvec::ArrayVec;
 use wire::kinds::Bucket;
 
 // A bucket that is emptied, with its generation afterwards.
-#[derive(Clone, Copy, Drop)]
+#[derive(Clone, Copy, Default, Drop)]
 pub struct EmptiedBucket {
     pub bucket: Bucket,
     pub generation: u8,
-}
-
-// What a vector's unused places hold. By hand: a bucket has no default, since 0 is one like the others.
-impl Default for EmptiedBucket {
-    fn default() -> EmptiedBucket {
-        EmptiedBucket {
-            bucket: Bucket(0),
-            generation: 0,
-        }
-    }
 }
 
 // Lists the emptied buckets with their new generations in a vector, which is cleared first. There are at most as many as requests, which the limits bound.

@@ -4,4 +4,4 @@ use Rattle.bucket_bits.proofs.MarkLaws.{Marking, uses_bucket}
 use Rattle.bucket_bits.proofs.marks.BucketBits.of_used.Given as goal
 
 abbrev pub invariant-loop-key : goal.invariant-loop-key
-invariant-loop-key l = Marking uses_bucket in_range (keys_listed l.fn.alloc) (keys_left l.key-iterator) l.bits
+invariant-loop-key l = Marking uses_bucket in_range (keys_listed l.fn.keys) (keys_left l.key-iterator) l.bits

@@ -7,9 +7,9 @@ use Rattle.freespace.proofs.take.Walker.walk_run.Given as goal
 
 abbrev pub invariant-loop-number : goal.invariant-loop-number
 invariant-loop-number l =
-    let all = pass (marked l.self.reserved.now) (marked l.self.used.now) (l.self.wanted - l.fn.from.count) (buckets_up_to l.run.start l.run.end) in
+    let all = pass (marked l.self.reserved.now) (marked l.self.used.now) (l.self.wanted - l.fn.before.count) (buckets_up_to l.run.start l.run.end) in
     record {
-      ahead : Ahead (marked l.self.reserved.now) (marked l.self.used.now) all l.self.wanted l.fn.from l.fn.taken l.run.end (bucket_is l.number) l.walked.count l.taken;
-      passed : l.walked.passed ≡ l.fn.from.passed + 1;
+      ahead : Ahead (marked l.self.reserved.now) (marked l.self.used.now) all l.self.wanted l.fn.before l.fn.taken l.run.end (bucket_is l.number) l.walked.count l.taken;
+      passed : l.walked.passed ≡ l.fn.before.passed + 1;
       left : l.walked.left ≡ 0;
     }
