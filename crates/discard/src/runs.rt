@@ -23,7 +23,7 @@ pub struct FreedRun {
     pub size: u32,
 }
 
-// A run.
+// The key of a run.
 fn put_run(out: &mut Output, r: FreedRun)
     ensures { out.new ≡ with_bytes out.old (encode_field (key_field 11 (freed_key r))) }
 {
