@@ -18,9 +18,7 @@ fn bucket_refusal(read: &ReadList, records: &Records, f: FreedBucket) -> Result<
     requires { FreedEntry read.now.alloc.list.now (volume_in read.now) (requests_in read.now) f × (keys_listed records.now.gens ≡ keys_listed read.now.gens) }
     ensures { number_in result ≡ bucket_refusal (volume_in read.now) (requests_in read.now) f.bucket }
 {
-    let Some(key) = f.key(read.alloc.list) else {
-        return Err(Refusal::NoAlloc);
-    };
+    let key = f.key(read.alloc.list).ok_or(Refusal::NoAlloc)?;
     let value = key.value();
     if value.len() < 56 {
         return Err(Refusal::ShortAlloc);
