@@ -13,7 +13,7 @@ use release_sums::requests::Freeds;
 use std::num::NonZero;
 use wire::kinds::Bucket;
 
-// A bucket of which something is freed, how many sectors of it, and the place of its alloc key, or none where it has none. The place takes eight bytes, where a `ListedKey` would name the list in each of the 1,024 and take 24 at least.
+// A bucket of which something is freed, how many sectors of it, and the place of its alloc key, or none where it has none. The place takes eight bytes, where a `ListedKey` would name the list in each of the 1,024 and take 24 at least. Not a `BucketSum` and a place: each of its readers would go through the sum.
 #[derive(Clone, Copy, Drop)]
 pub struct FreedBucket {
     pub bucket: Bucket,

@@ -56,6 +56,7 @@ impl<'a> Sums<'a> {
     ghost use Rattle.release_sums.specs.Summing.{Summed};
 
     // The table with no group marked, and no sum taken out. `ClearedScratch` shows what is required.
+    // By the slice and not by a `&mut ClearedScratch`: tried, and the borrow checker covers no slice that is returned past the ghost field of the struct that lends it.
     pub fn new(sums: &'a mut [u32]) -> Sums<'a>
         requires { Cleared sums.old }
         ensures same_reference { result.sums.ghost_name ≡ sums.entry.ghost_name }
