@@ -48,7 +48,7 @@ pub struct HeldBucket<'a> {
     pub ghost held: { RowHeld list.now (non_zero_u64_get bucket_sectors) freed },
 }
 
-// Those of them that are left.
+// Those of them that are left. An iterator of its own: a function that answers a map of a closure gets no proof yet, and so each of the four users would make the closure, and show what it requires.
 #[derive(Drop)]
 pub struct HeldLeft<'a> {
     pub list: &'a [u8],
