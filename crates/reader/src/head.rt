@@ -31,17 +31,9 @@ pub struct Head {
 pub fn call_byte(s: &[u8]) -> u8
     ensures { result ≡ call_byte s.now }
 {
-    // A loop and not `find`: tried, and the proof did not close. That the fields passed hold no field 1 is the loop's invariant; of `find` it is an induction over the run that std tells of.
-    for field in Fields::of(s) {
-        if field.tag == Tag::Head.number() {
-            return if field.body.is_empty() {
-                0
-            } else {
-                le::le8(field.body, 0)
-            };
-        }
-    }
-    0
+    Fields::of(s)
+        .find(|field| field.tag == Tag::Head.number())
+        .map_or(0, |field| field.body.first().copied().unwrap_or(0))
 }
 
 // The head whose body starts at a place of a list. The length of field 1 shows the bound.
