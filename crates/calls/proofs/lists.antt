@@ -16,4 +16,3 @@ pub mod ThoseLaws
 pub mod TotalLaws
 pub mod TwiceLaws
 pub mod WeakLaws
-pub mod WindowLaws

@@ -142,7 +142,7 @@ impl<'a> Rest<'a> {
         }
     }
 
-    // Counts a queued key, unless it is a deletion.
+    // Counts a queued key, unless it is a deletion. By its type and position: an `Entry` would ask more of the caller.
     pub fn add_shown(&mut self, ty: u8, pos: Bpos)
         ensures { KeyCounted self.old ty pos self.new }
     {
