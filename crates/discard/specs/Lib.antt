@@ -2,3 +2,4 @@ pub mod Emitted
 pub mod Shown
 pub mod Given
 pub mod ChangesView
+pub mod Answered

@@ -1,4 +1,4 @@
-// One batch: some alloc keys are discarded (discard_buckets).
+// One batch: some alloc keys are discarded (discard_buckets). What it writes of each key is a loop of one call: a function of a closure would have to require what the closure writes of a key, which is longer than the loop.
 ghost use mathlib.Core.List.{map, flat_map};
 ghost use Rattle.std.specs.Prelude.{◌≡◌};
 ghost use Rattle.wire.specs.Encode.{encode, encode_field, key_field};
@@ -51,7 +51,7 @@ fn put_waiting(out: &mut Output, waiting: &Waiting, key: &ListedKey)
     }
 }
 
-// Tree 4.
+// Tree 4: the alloc keys, discarded.
 fn put_alloc_keys(out: &mut Output, d: &Discarded)
     ensures { out.new ≡ with_bytes out.old (keys_bytes 4 (map discarded_key (keys_listed d.now.keys))) }
 {
@@ -60,7 +60,7 @@ fn put_alloc_keys(out: &mut Output, d: &Discarded)
     }
 }
 
-// Tree 12.
+// Tree 12: the deletions of their need-discard keys.
 fn put_deletions(out: &mut Output, d: &Discarded)
     ensures { out.new ≡ with_bytes out.old (keys_bytes 12 (flat_map (waiting_deletions d.now.waiting.now) (buckets_of (keys_listed d.now.keys)))) }
 {
@@ -69,7 +69,7 @@ fn put_deletions(out: &mut Output, d: &Discarded)
     }
 }
 
-// 75.
+// Fields 75: their buckets, which are unreserved.
 fn put_unreserved(out: &mut Output, d: &Discarded)
     ensures { out.new ≡ with_bytes out.old (encode (map discarded_field (buckets_of (keys_listed d.now.keys)))) }
 {

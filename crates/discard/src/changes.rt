@@ -1,12 +1,9 @@
 // All batches of a discard (discard_freed), and its answer.
 ghost use Rattle.std.specs.Int.NonZero.{non_zero_u32_get};
-ghost use Rattle.std.specs.Prelude.{◌≡◌, ◌≤◌, [], length};
+ghost use Rattle.std.specs.Prelude.{◌≡◌, ◌≤◌, length};
 ghost use Rattle.wire.specs.Output.{with_bytes};
-ghost use Rattle.calls.specs.ChangeList.{change_bytes};
-ghost use Rattle.calls.specs.Discard.{discard_batches};
-ghost use Rattle.calls.specs.Answers.{read_volume, answer, outcome};
 ghost use Rattle.reader.specs.ListedKeys.{keys_listed};
-ghost use Rattle.reader.specs.Refusals.{made_by};
+ghost use Rattle.discard.specs.Answered.{DiscardAnswered};
 ghost use Rattle.discard.specs.Emitted.{changes_from};
 ghost use Rattle.discard.specs.Given.{DiscardGiven};
 
@@ -28,7 +25,7 @@ pub fn discard_freed(out: &mut Output, size: NonZero<u32>, d: &Discarded)
     ensures { out.new ≡ with_bytes out.old (changes_from d.now.waiting.now (non_zero_u32_get size) (keys_listed d.now.keys)) }
 {
     for places in d.keys.places.chunks(size.get() as usize) {
-        // Made here and not by an iterator over chunks of `Keys`: this is the one place that cuts keys, and the iterator would have these two facts stated and proved besides.
+        // Made here and not by an iterator over chunks of `Keys`: no other place cuts keys into chunks, and the iterator would have to state the list and the places of each.
         let keys = Keys {
             list: d.keys.list,
             places,
@@ -91,7 +88,7 @@ fn discard_within<const N: usize>(
     out: &mut [u8],
 ) -> Result<usize, Refusal>
     requires { (waiting.now ≡ keys_listed list.now.read.need_discard) × (length list.now.read.alloc.places.now ≤ N) × (N ≤ 4096) }
-    ensures { made_by result out.new ≡ outcome (answer [] (change_bytes (discard_batches (read_volume list.now.read.list.now))) (length out.old)) out.old }
+    ensures { DiscardAnswered list.now.read result out.old out.new }
 {
     let mut room = [0u32; N];
     let d = Discarded {
@@ -101,10 +98,10 @@ fn discard_within<const N: usize>(
     answer::written(&Changes::new(list.size, d), out)
 }
 
-// The answer with a table of the need-discard keys, which is in no frame but this one: to a short list no call has its 128 KiB.
+// The answer with a table of the need-discard keys. Its 128 KiB stand in this frame alone, which is not entered for a short list.
 #[inline(never)]
 fn discard_tabled(list: &DiscardList, out: &mut [u8]) -> Result<usize, Refusal>
-    ensures { made_by result out.new ≡ outcome (answer [] (change_bytes (discard_batches (read_volume list.now.read.list.now))) (length out.old)) out.old }
+    ensures { DiscardAnswered list.now.read result out.old out.new }
 {
     let mut table = [0u16; 65536];
     let waiting = Waiting::tabled(list.read.need_discard, &mut table);
@@ -117,7 +114,7 @@ fn discard_tabled(list: &DiscardList, out: &mut [u8]) -> Result<usize, Refusal>
 
 // The answer to a discard. Few alloc keys have a small room, and with few need-discard keys no table.
 pub fn discard_lists(list: &DiscardList, out: &mut [u8]) -> Result<usize, Refusal>
-    ensures { made_by result out.new ≡ outcome (answer [] (change_bytes (discard_batches (read_volume list.now.read.list.now))) (length out.old)) out.old }
+    ensures { DiscardAnswered list.now.read result out.old out.new }
 {
     if list.read.alloc.len() <= 64 && list.read.need_discard.len() <= 16 {
         let waiting = Waiting::searched(list.read.need_discard);

@@ -23,7 +23,7 @@ pub struct FreedRun {
     pub size: u32,
 }
 
-// A run.
+// The key of a run.
 fn put_run(out: &mut Output, r: FreedRun)
     ensures { out.new ≡ with_bytes out.old (encode_field (key_field 11 (freed_key r))) }
 {
@@ -69,7 +69,7 @@ pub fn put_runs(out: &mut Output, d: &Discarded)
         end: kinds::next_bucket(first.bucket()),
         size: 1,
     };
-    // Not by `chunk_by`: it takes a slice, as of the places, and its `can_next` asks for a closure that is callable at any two places, where only these find keys.
+    // Not by `chunk_by`: it takes a slice, as of the places, and its `can_next` asks for a closure that is callable at any two numbers, where a key can be read only at a place of a key.
     for key in others {
         let b = key.bucket();
         put_ended(out, r, b);

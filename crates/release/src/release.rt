@@ -13,7 +13,7 @@ use reader::refusal::Refusal;
 use release_sums::sums;
 use release_sums::sums::ClearedScratch;
 
-// The answer to a list that was read, after refusal 1. `clear` shows what is required of the scratch.
+// The answer to a list that was read, after refusal 1. `clear` shows what is required of the scratch: no `ClearedScratch`, since `with_list` lends a plain slice.
 fn release_read(read: &ReadList, scratch: &mut [u32], out: &mut [u8]) -> Result<usize, Refusal>
     requires { ReadAs (Some 2) read.now × Cleared scratch.old }
     ensures { (made_by result out.new ≡ outcome (release read.now.list.now (length scratch.old) (length out.old)) out.old) × (scratch.new ≡ scratch_after scratch.old) }

@@ -5,7 +5,12 @@ use mathlib.Core.List.{List, [], ◌∷◌}
 use mathlib.Core.Option.{none, some}
 use Prim.Native.Nat.{ℕ, ◌≤◌, ◌<◌}
 use native.Mathlib.Omega.{arith}
-use Rattle.std.proofs.Common.{Some, None}
+use Rattle.std.proofs.Common.{Some, None, Option, Result, Ok, Err, MatchOption}
+use Rattle.std.specs.Option.{ok_or}
+use Rattle.std.specs.Result.{result_ok}
+use Rattle.std.proofs.lemmas.Option.{MatchOption-at_some, MatchOption-at_none}
+use Rattle.reader.specs.declared.key.ListedKey.{ListedKey}
+use Rattle.reader.specs.declared.refusal.Refusal.{Refusal}
 use lib.ListN.{length}
 use lib.Dec.{leb, eqb}
 use borrow.Author.Tests.{le-leb, lt-leb, eq-eqb, ne_eqb}
@@ -112,3 +117,15 @@ module _ {s : List ℕ} {v : Volume} {rs : List Freed} {f : FreedBucket} (a : Fr
 
       pub row-kept : dirty ≤ sectors → f.sectors ≤ dirty → (dirty ≡ f.sectors → ⊥) → bucket_refusal v rs f.bucket ≡ 0
       row-kept m o q = number ∙ number-kept bytes dirty sectors f.sectors short l m o q
+
+-- the alloc key of a row in a list, or the refusal where it has none
+module _ (s : List ℕ) {place : Option ℕ} {o : Option ListedKey} {r : Result ListedKey Refusal} (made_of : MatchOption o (place ≡ None) (λ k. (k.list.now ≡ s) × (place ≡ Some k.at))) (is : o ≡ result_ok r) where
+  pub key-some : {k : ListedKey} → r ≡ Ok k → (k.list.now ≡ s) × (place ≡ Some k.at)
+  key-some {k} e = MatchOption-at_some (place ≡ None) (λ y. (y.list.now ≡ s) × (place ≡ Some y.at)) k (is ∙ ap result_ok e) made_of
+
+  pub key-none : {x y : Refusal} → r ≡ ok_or o y → r ≡ Err x → (x ≡ y) × (place ≡ None)
+  key-none {x} {y} v e =
+      let none = is ∙ ap result_ok e in
+      let same : Err x ≡ ok_or o y = sym e ∙ v in
+      let err : x ≡ y = cc in
+      (err, MatchOption-at_none (place ≡ None) (λ k. (k.list.now ≡ s) × (place ≡ Some k.at)) none made_of)

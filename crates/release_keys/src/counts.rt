@@ -8,7 +8,7 @@ ghost use Rattle.release_keys.specs.Counting.{UnusedChangeOf};
 use crate::table::{FreedTable, HeldTable};
 
 // By how much the sectors change that user buckets do not use: plus those freed of buckets that stay, minus the unused ones of buckets that are emptied.
-#[derive(Clone, Copy, Drop)]
+#[derive(Clone, Copy, Default, Drop)]
 pub struct UnusedChange {
     pub added: u64,
     pub removed: u64,
@@ -25,10 +25,7 @@ pub fn total_freed(table: &FreedTable) -> u64
 pub fn unused_in(table: &HeldTable) -> UnusedChange
     ensures { (result.added < 2 ^ 62) × (result.removed < 2 ^ 62) × UnusedChangeOf (held_volume table.now) (held_requests table.now) (held_buckets table.now) result }
 {
-    let mut u = UnusedChange {
-        added: 0,
-        removed: 0,
-    };
+    let mut u = UnusedChange::default();
     // A loop: two chains with `sum` would ask of each bucket twice whether it is emptied, and the closure of a `fold` would need a `requires` that bounds the totals so far.
     for h in table.iter() {
         if h.is_emptied() {

@@ -34,7 +34,7 @@ fn new_record(b: Bucket) -> Bkey
     }
 }
 
-// A bucket's record before this release. The limits show the bound.
+// A bucket's record before this release. The limits show the bound. No type shows it: one in range would be a second kind beside `Bucket`, and a bucket of a list may have any number.
 fn old_record(records: &Records, b: Bucket) -> Bkey
     requires { bucket_in_range b ≡ true }
     ensures { key_in result ≡ gen_key (keys_listed records.now.gens) b }

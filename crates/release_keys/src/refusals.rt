@@ -18,9 +18,7 @@ fn bucket_refusal(read: &ReadList, records: &Records, f: FreedBucket) -> Result<
     requires { FreedEntry read.now.alloc.list.now (volume_in read.now) (requests_in read.now) f × (keys_listed records.now.gens ≡ keys_listed read.now.gens) }
     ensures { number_in result ≡ bucket_refusal (volume_in read.now) (requests_in read.now) f.bucket }
 {
-    let Some(key) = f.key(read.alloc.list) else {
-        return Err(Refusal::NoAlloc);
-    };
+    let key = f.key(read.alloc.list).ok_or(Refusal::NoAlloc)?;
     let value = key.value();
     if value.len() < 56 {
         return Err(Refusal::ShortAlloc);
@@ -39,6 +37,7 @@ fn bucket_refusal(read: &ReadList, records: &Records, f: FreedBucket) -> Result<
 }
 
 // 15 to 19 over the freed buckets, which ascend. `Records::of` shows what is required.
+// The records apart: `refuse` takes them with a `FreedTable`, the batch with a `HeldTable`, and a struct of either would be taken apart again.
 pub fn refuse(table: &FreedTable, records: &Records) -> Result<(), Refusal>
     requires { keys_listed records.now.gens ≡ keys_listed table.now.read.gens }
     ensures { number_in result ≡ verdict (map (bucket_refusal (volume_in table.now.read) (requests_in table.now.read)) (freed_buckets table.now.read.head.bucket_sectors (requests_in table.now.read))) }

@@ -8,7 +8,7 @@ use change_fields::root_fields;
 use reader::roots::Root;
 use wire::output::Output;
 
-// The roots that emptied buckets want, if there are any, and that are missing: 12, then 14.
+// The roots that emptied buckets want, if there are any, and that are missing: 12, then 14. The flag is the definition's own: `roots_if (wanted && ..)`. The roots are the head's byte, since a narrower type would ask more of callers.
 pub fn put_roots(out: &mut Output, wanted: bool, roots: u8)
     ensures { out.new ≡ with_bytes out.old (roots_bytes (roots_if (wanted && root_missing roots 1) 12 ++ roots_if (wanted && root_missing roots 2) 14)) }
 {

@@ -13,7 +13,7 @@ use release_sums::requests::Freeds;
 use std::num::NonZero;
 use wire::kinds::Bucket;
 
-// A bucket of which something is freed, how many sectors of it, and the place of its alloc key, or none where it has none. The place takes eight bytes, where a `ListedKey` would name the list in each of the 1,024 and take 24 at least.
+// A bucket of which something is freed, how many sectors of it, and the place of its alloc key, or none where it has none. The place takes eight bytes, where a `ListedKey` would name the list in each of the 1,024 and take 24 at least. Not a `BucketSum` and a place: each of its readers would go through the sum.
 #[derive(Clone, Copy, Drop)]
 pub struct FreedBucket {
     pub bucket: Bucket,
@@ -48,7 +48,7 @@ pub struct HeldBucket<'a> {
     pub ghost held: { RowHeld list.now (non_zero_u64_get bucket_sectors) freed },
 }
 
-// Those of them that are left.
+// Those of them that are left. An iterator of its own: a function that answers a map of a closure gets no proof yet, and so each of the four users would make the closure, and show what it requires.
 #[derive(Drop)]
 pub struct HeldLeft<'a> {
     pub list: &'a [u8],

@@ -48,13 +48,13 @@ impl FixedBody for Freed {
 
 // Refusal 14 at one piece. Two bytes of a field show the bound.
 #[tactic(auto, unfolding(calls::specs::Release::freed_ok))]
-fn freed_ok(r: Freed, sectors: NonZero<u64>) -> bool
-    requires { non_zero_u64_get sectors < 65536 }
-    ensures { result ≡ freed_ok (non_zero_u64_get sectors) (freed_held r) }
+fn freed_ok(r: Freed, bucket_sectors: NonZero<u64>) -> bool
+    requires { non_zero_u64_get bucket_sectors < 65536 }
+    ensures { result ≡ freed_ok (non_zero_u64_get bucket_sectors) (freed_held r) }
 {
     (1..=128).contains(&r.sectors)
-        && kinds::offset_in(r.first, sectors) + r.sectors as u64 <= sectors.get()
-        && kinds::bucket_in_range(kinds::bucket_of(r.first, sectors))
+        && kinds::offset_in(r.first, bucket_sectors) + r.sectors as u64 <= bucket_sectors.get()
+        && kinds::bucket_in_range(kinds::bucket_of(r.first, bucket_sectors))
 }
 
 impl<'a> Freeds<'a> {
@@ -80,10 +80,10 @@ impl<'a> Freeds<'a> {
     }
 
     // Refusal 14: whether every piece lies within its bucket. Two bytes of a field show the bound.
-    pub fn all_ok(self, sectors: NonZero<u64>) -> bool
-        requires { non_zero_u64_get sectors < 65536 }
-        ensures { result ≡ all_of (freed_ok (non_zero_u64_get sectors)) (freeds_of self.entry) }
+    pub fn all_ok(self, bucket_sectors: NonZero<u64>) -> bool
+        requires { non_zero_u64_get bucket_sectors < 65536 }
+        ensures { result ≡ all_of (freed_ok (non_zero_u64_get bucket_sectors)) (freeds_of self.entry) }
     {
-        self.pieces.all(|r| freed_ok(r, sectors))
+        self.pieces.all(|r| freed_ok(r, bucket_sectors))
     }
 }

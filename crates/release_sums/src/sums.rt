@@ -56,6 +56,7 @@ impl<'a> Sums<'a> {
     ghost use Rattle.release_sums.specs.Summing.{Summed};
 
     // The table with no group marked, and no sum taken out. `ClearedScratch` shows what is required.
+    // By the slice and not by a `&mut ClearedScratch`: tried, and the borrow checker covers no slice that is returned past the ghost field of the struct that lends it.
     pub fn new(sums: &'a mut [u32]) -> Sums<'a>
         requires { Cleared sums.old }
         ensures same_reference { result.sums.ghost_name ≡ sums.entry.ghost_name }
@@ -70,14 +71,14 @@ impl<'a> Sums<'a> {
     }
 
     // Adds each piece's sectors to the sum of its bucket, and marks its group. Refusal 14, the limits and `ClearedScratch` show what is required.
-    // No part of `new`, as was tried: an element in a struct with a ghost field can be written only behind a `&mut`.
-    pub fn add_up(&mut self, freeds: Freeds, sectors: NonZero<u64>)
-        requires { (length (freeds_of freeds) ≤ 1024) × (all_of (freed_ok (non_zero_u64_get sectors)) (freeds_of freeds) ≡ true) × Cleared self.old.sums.now × (self.old.next ≡ 0) }
+    // Apart from `new`: tried there, and an element of an array in a struct with a ghost field is written only through a `&mut`.
+    pub fn add_up(&mut self, freeds: Freeds, bucket_sectors: NonZero<u64>)
+        requires { (length (freeds_of freeds) ≤ 1024) × (all_of (freed_ok (non_zero_u64_get bucket_sectors)) (freeds_of freeds) ≡ true) × Cleared self.old.sums.now × (self.old.next ≡ 0) }
         ensures same_reference { self.new.sums.ghost_name ≡ self.old.sums.ghost_name }
-        ensures summed { Summed (non_zero_u64_get sectors) (freeds_of freeds.entry) self.new.sums.now × (drop 65536 self.new.sums.now ≡ drop 65536 self.old.sums.now) × (self.new.next ≡ 0) }
+        ensures summed { Summed (non_zero_u64_get bucket_sectors) (freeds_of freeds.entry) self.new.sums.now × (drop 65536 self.new.sums.now ≡ drop 65536 self.old.sums.now) × (self.new.next ≡ 0) }
     {
         for r in freeds.iter() {
-            let b = kinds::bucket_of(r.first, sectors).0 as usize;
+            let b = kinds::bucket_of(r.first, bucket_sectors).0 as usize;
             self.marks[b / GROUP] = true;
             self.sums[b] += r.sectors as u32;
         }

@@ -18,7 +18,7 @@ pub fn put_fields(out: &mut Output, list: &[u8], places: &[u32])
 {
     let mut from: usize = 0;
     let mut end: usize = 0;
-    // Not by `chunk_by`: its `can_next` asks for a closure that is callable at any two places, and a field's length can be read only where a field stands.
+    // Not by `chunk_by`: tried, and its `can_next` asks for a closure that is callable at any two numbers, where a field's length can be read only at a place of a field.
     for place in places {
         let o = *place as usize;
         if o != end + 3 {
