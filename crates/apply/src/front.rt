@@ -15,6 +15,7 @@ use wire::output::Output;
 use wire::tags::Tag;
 
 // What one field of a change list makes of the root bits. The layout of the change list shows what a field 70 holds.
+// The roots are a byte, as `Head` holds them.
 fn after_field(roots: u8, field: Field) -> u8
     requires { NamesRoot (field_in field) }
     ensures { result ≡ after_field roots (field_in field.entry) }
@@ -29,6 +30,7 @@ fn after_field(roots: u8, field: Field) -> u8
 }
 
 // The root bits after a change list, whose layout was tested.
+// The roots are a byte, as `Head` holds them.
 pub fn roots_after(change: &[u8], roots: u8) -> u8
     requires { change_laid_out change.now ≡ true }
     ensures same { result ≡ roots_after change.now roots }
@@ -38,6 +40,7 @@ pub fn roots_after(change: &[u8], roots: u8) -> u8
 }
 
 // Field 1: the volume's head with other root bits.
+// The roots are a byte, as `Head` holds them.
 #[tactic(auto, unfolding(crate::specs::Roots::front_bytes, calls::specs::Apply::with_roots))]
 pub fn put_front(out: &mut Output, h: Head, roots: u8)
     ensures { out.new ≡ with_bytes out.old (front_bytes (head_in h) roots) }

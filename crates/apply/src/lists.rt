@@ -22,6 +22,7 @@ use wire::output::Output;
 use wire::trees::Tree;
 
 // A section by the tag of its keys: their places in the volume, and those of its queued keys in the change list, where the table that is lent held them.
+// A byte and no `Tree`: the reserved buckets are of no tree, and `BUCKETS` is a byte.
 #[derive(Clone, Copy, Drop)]
 struct Section<'s> {
     tag: u8,
@@ -136,8 +137,8 @@ impl<'a, 'q> Emit for NextVolume<'a, 'q> {
     }
 }
 
-// Apply, with tables of N of the change list's queued keys, and of half as many to sort them in. `apply_lists` shows what is asked. No heap: the tables stand in this frame, and it
-// picks of two sizes.
+// Apply, with tables of N of the change list's queued keys, and of half as many to sort them in. `apply_lists` shows what is asked. No heap: the tables stand in this frame, and
+// `apply_lists` picks one of two sizes.
 fn apply_within<const N: usize, const HALF: usize>(
     read: &ReadList,
     change: &[u8],

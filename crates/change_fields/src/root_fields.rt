@@ -21,6 +21,7 @@ pub fn put_root(out: &mut Output, id: u8)
 }
 
 // A root, where it is missing.
+// The roots are the head's byte, since a narrower type would ask more of callers.
 pub fn put_missing(out: &mut Output, roots: u8, root: Root)
     ensures { out.new ≡ with_bytes out.old (roots_bytes (roots_if (root_missing roots (root_bit (root_id root))) (root_id root))) }
 {

@@ -1,4 +1,4 @@
-// One batch: some alloc keys are discarded (discard_buckets). What it writes of each key is a loop of one call: a function of a closure would have to require what the closure writes of a key, which is longer than the loop.
+// One batch: some alloc keys are discarded (discard_buckets). Each of three functions below is a loop of one call: one function that takes the call as a closure would have to require what the closure writes of a key, which is longer than the loop.
 ghost use mathlib.Core.List.{map, flat_map};
 ghost use Rattle.std.specs.Prelude.{◌≡◌};
 ghost use Rattle.wire.specs.Encode.{encode, encode_field, key_field};

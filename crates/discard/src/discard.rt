@@ -13,6 +13,7 @@ use reader::refusal::Refusal;
 use std::num::NonZero;
 
 // The answer to a list that was read: 20, or its changes.
+// No type holds `ReadAs`: a `ReadList` is one for all calls and volumes, and `ReadAs` names what it was read as.
 fn discard_read(read: &ReadList, out: &mut [u8]) -> Result<usize, Refusal>
     requires { ReadAs (Some 3) read.now }
     ensures { made_by result out.new ≡ outcome (discard read.now.list.now (length out.old)) out.old }

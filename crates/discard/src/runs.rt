@@ -46,6 +46,7 @@ fn put_ended(out: &mut Output, r: FreedRun, b: Bucket)
 }
 
 // The run that a bucket joins, or begins. The limits show the bounds.
+// No type shows it: one in range would be a second kind beside `Bucket`, and a bucket of a list may have any number.
 fn with_bucket(r: FreedRun, b: Bucket) -> FreedRun
     requires { (bucket_in_range b ≡ true) × (r.size < 4096) }
     ensures { result ≡ with_bucket r b }

@@ -11,6 +11,7 @@ use wire::keys::Value;
 use wire::le;
 
 // The generation of the alloc value at a place of a list. The value's length shows the bound. Each of the four readers asks for no more of a value than its own member's end, as values that end sooner are read too.
+// A list and a place, and no slice, as the functions of `le` have: of a slice each clause would say the same, and a caller with a place, as `gen_taken` of need_discard, would cut one.
 pub fn generation(s: &[u8], at: usize) -> u8
     requires { at + 13 ≤ length s.now }
     ensures { result ≡ get gen (drop at s.now) }
@@ -79,6 +80,7 @@ pub fn next_gen(generation: u8) -> u8
 }
 
 // The flags of an emptied bucket: the low byte without bit 1.
+// Beside `discarded_flags`: one function that takes the mask would be `&` itself.
 #[tactic(auto, using(crate::proofs::FlagLaws::flags_masked))]
 fn emptied_flags(x: u32) -> u32
     ensures { result ≡ emptied_flags x }

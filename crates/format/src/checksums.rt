@@ -52,6 +52,7 @@ impl ChecksumOption {
 }
 
 // What checksum an entry has, by the Linux header's BCH_CSUM types.
+// An enum of its own beside `ChecksumOption`: the format numbers options and types apart, and a variant has one number.
 #[derive(Clone, Copy, PartialEq, Eq, Debug, Drop)]
 pub enum ChecksumType {
     // None.

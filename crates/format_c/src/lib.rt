@@ -90,8 +90,8 @@ pub extern "C" fn format_new_alloc(
 }
 
 // struct bch_alloc_v4 after emptying, at a journal number. A value that ends before byte 56, or has more than 256 bytes, is left alone.
-// The three functions that change a value have these four lines each. One that takes the change as a closure has them once, but a head of six lines more, with what the change asks of a value
-// and that it keeps the length, and a call with its contract in each of the three: thirteen lines and more for twelve.
+// The three functions that change a value have these four lines each. One function that takes the change as a closure would have them once, but it needs a head of six lines
+// (what the change asks of a value, and that it keeps the length) and a call with a contract in each of the three: thirteen lines and more for twelve.
 #[unsafe(no_mangle)]
 pub extern "C" fn format_emptied(value: &mut [u8], journal: u64)
     ensures { value.new ≡ where_sized 56 256 (emptied journal) value.old }

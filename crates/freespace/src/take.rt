@@ -30,6 +30,7 @@ pub struct Walked {
 }
 
 // What the walk goes by: a list that was read, the bits of its reserved buckets and of those in use, and how many buckets are wanted.
+// The table of buckets taken is handed to each method and is no field: a walker is only read (`&self`), and with the table in it each clause would have to say that the other parts stay.
 #[derive(Clone, Copy, Drop)]
 pub struct Walker<'a> {
     pub read: &'a ReadList<'a>,

@@ -15,6 +15,7 @@ pub fn ascend(buckets: &[u32]) -> bool
 }
 
 // Whether they are few enough, and the last, which is the highest, is low enough. `ascend` shows that they ascend.
+// No type holds that they ascend: `bucket_gens` asks it of numbers of any `BucketNumber`, and a type of `u32` alone would serve `within` and `look_up`.
 pub fn within(buckets: &[u32]) -> bool
     requires { in_order bucket_below (buckets_in buckets.now) ≡ true }
     ensures { result ≡ buckets_within (buckets_in buckets.now) }

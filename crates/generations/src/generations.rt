@@ -14,6 +14,7 @@ use reader::refusal::Refusal;
 
 // The answer on a volume that was read: refusal 3 where the buckets are too many or too high, 21 where the output is short, or their generations. `ascend` shows what is required
 // of the buckets.
+// No type holds that they ascend, for the reason beside `within`, nor `ReadAs`: a `ReadList` is one for all calls and volumes, and `ReadAs` names what it was read as.
 fn look_up(read: &ReadList, buckets: &[u32], out: &mut [u8]) -> Result<usize, Refusal>
     requires { ReadAs None read.now × (in_order bucket_below (buckets_in buckets.now) ≡ true) }
     ensures { looked_up_by result out.new ≡ generations_outcome (generations read.now.list.now (buckets_in buckets.now) (length out.old)) out.old }

@@ -81,6 +81,7 @@ fn record_up_to(gens: Keys, k: usize, b: Bucket) -> Option<ListedKey>
 // Fills in the generation of each bucket, and tells how many keys are visited: up to and with the first past the last bucket's record. Refusal 22 shows that keys ascend, and who
 // asks that the buckets do and that there is room.
 // No type: of this crate `record_up_to` and this alone ask that keys ascend, and the type that holds it, of alloc keys, stands in a crate above.
+// Nor one of buckets that ascend: this alone asks it of any `BucketNumber`.
 pub fn bucket_gens<N: BucketNumber>(out: &mut [u8], gens: Keys, buckets: &[N]) -> usize
     requires keys_value { keys_ascend (keys_listed gens) ≡ true }
     requires buckets_value { (in_order bucket_below (N.buckets_in buckets.now) ≡ true) × (length buckets.now ≤ length out.old) }

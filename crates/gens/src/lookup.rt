@@ -50,6 +50,7 @@ impl<'a> Records<'a> {
     }
 
     // Its generation, and 0 where none is found. The limits show the bound.
+    // No type shows it: one in range would be a second kind beside `Bucket`, and a bucket of a list may have any number.
     #[tactic(auto, unfolding(calls::specs::Generations::gen_of))]
     pub fn bucket_gen(&self, b: Bucket) -> u8
         requires { bucket_in_range b ≡ true }
@@ -59,6 +60,7 @@ impl<'a> Records<'a> {
     }
 
     // Whether its record is too short. The limits show the bound.
+    // No type shows it: one in range would be a second kind beside `Bucket`, and a bucket of a list may have any number.
     #[tactic(auto, unfolding(calls::specs::Generations::gen_short))]
     pub fn gen_short(&self, b: Bucket) -> bool
         requires { bucket_in_range b ≡ true }

@@ -12,6 +12,7 @@ use wire::output::Output;
 use wire::tags::Tag;
 
 // The line of a field, by its tag. The layout of a change list shows the shape, and that the tag has a name; each that is not named here is a tree's.
+// A tag and a body and no `Field`: each is read alone, and `put_key_line` takes them so.
 fn put_line(out: &mut Output, tag: u8, body: &[u8])
     requires { change_field_ok (record { tag = tag; body = body.now }) ≡ true }
     ensures { out.new ≡ with_bytes out.old (line (field_words (record { tag = tag; body = body.now }))) }

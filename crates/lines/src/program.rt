@@ -16,6 +16,7 @@ use wire::output::Output;
 const LONGEST_LIST: usize = 32768;
 
 // The answer of the call that a list names, in 65,536 bytes. A list that names none is refused by each call, and here by discard.
+// A buffer and a count: the calls answer a count, as the C interface does.
 fn answer_to(list: &[u8], change: &mut [u8; 65536]) -> Result<usize, Refusal>
     ensures { AnsweredIn (answer_by_byte list.now) result change.new }
 {

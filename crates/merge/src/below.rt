@@ -34,6 +34,7 @@ impl Stretch {
 }
 
 // What is left of the keys of a section, by their places in the volume, and how many keys were written so far.
+// The output is no field of it: `skip_at` and `add_shown` write nothing, and would have to say that it stays.
 #[derive(Drop)]
 pub struct Rest<'a> {
     section: u8,

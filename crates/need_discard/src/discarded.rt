@@ -15,6 +15,7 @@ use wire::key_types::KeyType;
 use wire::positions;
 
 // Whether a waiting bucket is taken: its generation is below 16. The value's length shows the bound.
+// A slice and an offset, as `alloc::generation` takes them.
 #[tactic(auto, unfolding(calls::specs::Discard::gen_taken))]
 pub fn gen_taken(s: &[u8], at: usize) -> bool
     requires { at + 13 ≤ length s.now }

@@ -29,6 +29,7 @@ fn note_key(table: &mut [u16; 65536], key: &ListedKey, i: usize)
 }
 
 // Fills an empty table. The limits show what is asked of the keys.
+// `Waiting` is the type that holds of its keys what is asked: it is asked only where one is made.
 pub fn note_waiting(table: &mut [u16; 65536], keys: &Keys)
     requires { All NeedKept (keys_listed keys.now) × (length keys.now.places.now ≤ 4096) × (table.old ≡ replicate 65536 0) }
     ensures { TableEntries (keys_listed keys.now) (keys_listed keys.now) table.new }
@@ -53,6 +54,7 @@ fn search_key<'a>(keys: &Keys<'a>, b: Bucket) -> Option<ListedKey<'a>>
 }
 
 // The same, from a filled table. `Waiting` shows that it is filled, the limits the bucket's bound.
+// No type shows it: one in range would be a second kind beside `Bucket`, and a bucket of a list may have any number.
 fn table_key<'a>(keys: &Keys<'a>, table: &[u16; 65536], b: Bucket) -> Option<ListedKey<'a>>
     requires { TableEntries (keys_listed keys.now) (keys_listed keys.now) table.now × (bucket_in_range b ≡ true) }
     ensures { found result ≡ waiting_key (keys_listed keys.now) b }
@@ -91,6 +93,7 @@ impl<'a> Waiting<'a> {
     ghost use Rattle.need_discard.specs.Table.{waits_of};
 
     // Few keys, with no table. The limits show what is asked of them.
+    // `Waiting` is the type that holds of its keys what is asked: it is asked only where one is made.
     pub fn searched(keys: Keys<'a>) -> Waiting<'a>
         requires { All NeedKept (keys_listed keys) }
         ensures { result ≡ keys_listed keys.entry }
@@ -99,6 +102,7 @@ impl<'a> Waiting<'a> {
     }
 
     // Keys with an empty table, which is filled. The limits show what is asked of the keys.
+    // `Waiting` is the type that holds of its keys what is asked: it is asked only where one is made.
     pub fn tabled(keys: Keys<'a>, table: &'a mut [u16; 65536]) -> Waiting<'a>
         requires { All NeedKept (keys_listed keys) × (length keys.places.now ≤ 4096) × (table.old ≡ replicate 65536 0) }
         ensures { result ≡ keys_listed keys.entry }
@@ -124,6 +128,7 @@ impl<'a> Waiting<'a> {
     }
 
     // Whether a need-discard key names a bucket. The limits show the bound.
+    // No type shows it: one in range would be a second kind beside `Bucket`, and a bucket of a list may have any number.
     pub fn is_waiting(&self, b: Bucket) -> bool
         requires { bucket_in_range b ≡ true }
         ensures { result ≡ not (is_none (waiting_key self.now b)) }

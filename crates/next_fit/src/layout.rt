@@ -34,6 +34,7 @@ pub fn layout<'a>(pieces: &[Piece], bucket: u64, slots: &'a mut [Slot]) -> &'a [
 // The pieces of a call list as records, at the front of an array. Refusal 3 shows that they are few.
 // They are copied since `layout` takes a slice of records, the form that the user's document names.
 // No type bounds them: `Pieces` is a `Listed`, which reads the fields of any kind, and `layout` keeps the form that the document names.
+// No heap: an array, of whose front `lay_out` takes as many as there are pieces.
 pub fn read_pieces(pieces: &Pieces) -> [Piece; 1024]
     requires { length (pieces_of pieces.now) ≤ 1024 }
     ensures { map piece_in (take (length (pieces_of pieces.now)) result) ≡ pieces_of pieces.now }
@@ -53,6 +54,7 @@ pub fn read_pieces(pieces: &Pieces) -> [Piece; 1024]
 }
 
 // The slots of the pieces of a call list, read into records first. Refusal 3 shows that they are few; who lends the table shows that it is as long.
+// No type bounds them: `Pieces` is a `Listed`, which reads the fields of any kind.
 pub fn lay_out<'a>(pieces: &Pieces, bucket: u16, slots: &'a mut [Slot]) -> &'a [Slot]
     requires { (length (pieces_of pieces.now) ≤ 1024) × (length (pieces_of pieces.now) ≤ length slots.old) }
     ensures { slots_in result.now ≡ next_fit bucket 0 0 (map (λ p. p.stored) (pieces_of pieces.now)) }

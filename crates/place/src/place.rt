@@ -21,6 +21,7 @@ use reader::{answer, call};
 use wire::kinds::Bucket;
 
 // The answer to a list that was read: refusals 4 to 13, or its change list.
+// No type holds `ReadAs`: a `ReadList` is one for all calls and volumes, and `ReadAs` names what it was read as.
 fn place_read(read: &ReadList, out: &mut [u8]) -> Result<usize, Refusal>
     requires { ReadAs (Some 1) read.now }
     ensures { made_by result out.new ≡ outcome (answers.place read.now.list.now (length out.old)) out.old }

@@ -9,6 +9,7 @@ use gens::records::Records;
 use wire::kinds::Bucket;
 
 // The generation of each bucket taken, at the front of a table. The limits show the buckets' bound.
+// No type shows it: one in range would be a second kind beside `Bucket`, and a bucket of a list may have any number.
 pub fn fill_gens<'a>(out: &'a mut [u8], records: &Records, taken: &[Bucket]) -> &'a [u8]
     requires { (length taken.now ≤ length out.old) × (all_of bucket_in_range taken.now ≡ true) }
     ensures { result.now ≡ map (gen_of (keys_listed records.now.gens)) taken.now }

@@ -16,6 +16,7 @@ use wire::output::Output;
 
 // The LRU key of a bucket that is part filled, and whether it is, which wants the root.
 // Tested here and in `put_lru_key`, which has no answer: its other caller, a release, wants no root by it.
+// They make no struct: `put_lru_key` takes them so, since a release asks at two counts.
 fn put_lru(out: &mut Output, b: Bucket, dirty: u32, sectors: NonZero<u64>) -> bool
     ensures { (out.new ≡ with_bytes out.old (keys_bytes 10 (lru_keys (non_zero_u64_get sectors) b dirty))) × (result ≡ part_filled (non_zero_u64_get sectors) dirty) }
 {

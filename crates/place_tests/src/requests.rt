@@ -38,6 +38,7 @@ fn divides(block: NonZero<u16>, n: u16) -> bool
 }
 
 // Refusal 8: whether a block divides both the bucket and 128.
+// A bucket and a block apart: the block is read off the head by `block_of`, and `divides` takes it alone.
 pub fn block_fits(block: NonZero<u16>, bucket: u16) -> bool
     ensures { result ≡ (divides (non_zero_u16_get block) bucket && divides (non_zero_u16_get block) 128) }
 {
@@ -55,6 +56,7 @@ fn kind_fits(p: Piece) -> bool
 }
 
 // Whether a piece's sectors are within their bounds, are whole blocks and agree with its kind.
+// A bucket and a block apart: the block is read off the head by `block_of`, and `divides` takes it alone.
 #[tactic(auto, unfolding(calls::specs::Pieces::piece_sized, crate::specs::Requests::kind_fits))]
 fn piece_sized(p: Piece, bucket: u16, block: NonZero<u16>) -> bool
     ensures { result ≡ piece_sized bucket (non_zero_u16_get block) (piece_in p) }
@@ -82,6 +84,7 @@ pub fn option_fits(pieces: &Pieces, option: u8) -> bool
 }
 
 // Refusal 9: whether each piece's sectors are as a bucket and a block allow.
+// A bucket and a block apart: the block is read off the head by `block_of`, and `divides` takes it alone.
 pub fn pieces_sized(pieces: &Pieces, bucket: u16, block: NonZero<u16>) -> bool
     ensures { result ≡ all_of (piece_sized bucket (non_zero_u16_get block)) (pieces_of pieces.now) }
 {

@@ -13,6 +13,7 @@ use wire::output::Output;
 use wire::tags::Tag;
 use wire::{kinds, le};
 
+// The parts of a head. `call` and `option` are bytes and no enums: a head is read before `head_ok` tests the call, and the option is tested only by refusal 5.
 #[derive(Clone, Copy, Drop)]
 pub struct Head {
     pub call: u8,

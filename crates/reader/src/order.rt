@@ -12,7 +12,7 @@ use wire::tags::Tag;
 use wire::trees::Tree;
 use wire::{bpos, keys as wire_keys, kinds};
 
-// Whether two bodies of a tag, side by side, ascend. The length that the tag asks shows the bounds. By number and not by name: of each tag below 15 the clause says what it says of a key's, of field 1's too.
+// Whether two bodies of a tag, side by side, ascend. The length that the tag asks shows the bounds. By number and not by name: for each tag below 15, that of field 1 too, the clause says what it says for a key's tag.
 #[tactic(auto, using(crate::proofs::OrderingLaws::ascends_cases))]
 fn ascends(tag: u8, before: &[u8], body: &[u8]) -> bool
     requires { (least_of tag ≤ length before.now) × (least_of tag ≤ length body.now) }

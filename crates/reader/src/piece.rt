@@ -5,6 +5,7 @@ ghost use Rattle.reader.specs.Pieces.{piece_in};
 
 use wire::le;
 
+// The parts of a piece. `kind` is a byte and no `Compression`: a piece is read before refusal 6 tests it.
 #[derive(Clone, Copy, Default, Drop)]
 pub struct Piece {
     pub file: u16,

@@ -37,6 +37,7 @@ impl<'a> Listed<'a, Piece> {
     ghost use Rattle.calls.specs.Answers.{read_call};
 
     // Those that a placement asks for. Refusal 3 has shown that they are few.
+    // No type holds `ReadAs`: a `ReadList` is one for all calls and volumes, and `ReadAs` names what it was read as.
     pub fn asked(read: &ReadList<'a>) -> Pieces<'a>
         requires { ReadAs (Some 1) read.now }
         ensures same { result.list.now ≡ read.now.list.now }

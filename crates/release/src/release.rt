@@ -14,6 +14,7 @@ use release_sums::sums;
 use release_sums::sums::ClearedScratch;
 
 // The answer to a list that was read, after refusal 1. `clear` shows what is required of the scratch: no `ClearedScratch`, since `with_list` lends a plain slice.
+// No type holds `ReadAs`: a `ReadList` is one for all calls and volumes, and `ReadAs` names what it was read as.
 fn release_read(read: &ReadList, scratch: &mut [u32], out: &mut [u8]) -> Result<usize, Refusal>
     requires { ReadAs (Some 2) read.now × Cleared scratch.old }
     ensures { (made_by result out.new ≡ outcome (release read.now.list.now (length scratch.old) (length out.old)) out.old) × (scratch.new ≡ scratch_after scratch.old) }

@@ -59,7 +59,7 @@ fn list_sums<'a>(
 {
     let mut keys = alloc;
     let mut n: usize = 0;
-    // No heap: the table is the caller's, and `n` counts its front. A lent `ArrayVec` was tried, and proves: its `new` copies the table's 24 KiB, 351,600 instructions for 324,400 in a release of one piece, which would miss its aim (docs/BENCHMARKS.md).
+    // No heap: the table is the caller's, and `n` counts its front. A lent `ArrayVec` was tried, and proves, but its `new` copies the table's 24 KiB: 351,600 instructions for 324,400 in a release of one piece, the row that is nearest to its aim (docs/BENCHMARKS.md).
     while let Some(sum) = sums.next() {
         let p = positions::alloc_at(sum.bucket);
         keys = skip_below(keys, p);

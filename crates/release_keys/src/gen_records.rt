@@ -57,6 +57,7 @@ fn with_generation(k: Bkey, e: EmptiedBucket) -> Bkey
 }
 
 // The record of the next emptied bucket: the last one queued is continued where it is the bucket's, and else the one before this release. The limits show the bound.
+// No type shows it: one in range would be a second kind beside `Bucket`, and a bucket of a list may have any number.
 fn next_record(records: &Records, last: Option<Bkey>, e: EmptiedBucket) -> Bkey
     requires { bucket_in_range e.bucket ≡ true }
     ensures { key_in result ≡ next_queued (keys_listed records.now.gens) last e }
@@ -69,6 +70,7 @@ fn next_record(records: &Records, last: Option<Bkey>, e: EmptiedBucket) -> Bkey
 }
 
 // The records of all emptied buckets, which ascend. `find_emptied` shows what is required.
+// No type shows it: one in range would be a second kind beside `Bucket`, and a bucket of a list may have any number.
 pub fn put_gens(out: &mut Output, records: &Records, emptied: &[EmptiedBucket])
     requires { (all_of bucket_in_range (emptied_buckets emptied.now) ≡ true) × (in_order bucket_below (emptied_buckets emptied.now) ≡ true) }
     ensures { (generation_of : kinds.Bucket → ℕ) → emptied.now ≡ map (emptied_row generation_of) (emptied_buckets emptied.now) → out.new ≡ with_bytes out.old (keys_bytes 14 (gens_queued generation_of (keys_listed records.now.gens) (emptied_buckets emptied.now))) }

@@ -47,6 +47,7 @@ impl FixedBody for Freed {
 }
 
 // Refusal 14 at one piece. Two bytes of a field show the bound.
+// No `NonZero<u16>`: `kinds` takes a bucket's sectors in 64 bits, so each use would widen them.
 #[tactic(auto, unfolding(calls::specs::Release::freed_ok))]
 fn freed_ok(r: Freed, bucket_sectors: NonZero<u64>) -> bool
     requires { non_zero_u64_get bucket_sectors < 65536 }
@@ -80,6 +81,7 @@ impl<'a> Freeds<'a> {
     }
 
     // Refusal 14: whether every piece lies within its bucket. Two bytes of a field show the bound.
+    // No `NonZero<u16>`: `kinds` takes a bucket's sectors in 64 bits, so each use would widen them.
     pub fn all_ok(self, bucket_sectors: NonZero<u64>) -> bool
         requires { non_zero_u64_get bucket_sectors < 65536 }
         ensures { result ≡ all_of (freed_ok (non_zero_u64_get bucket_sectors)) (freeds_of self.entry) }

@@ -11,6 +11,7 @@ use reader::refusal::Refusal;
 use reader::{answer, call, head};
 
 // The answer to a list that was read: 21, or its sorted form, which is as long as the list.
+// No type holds `ReadAs`: a `ReadList` is one for all calls and volumes, and `ReadAs` names what it was read as.
 fn write_form(read: &ReadList, out: &mut [u8]) -> Result<usize, Refusal>
     requires { ReadAs (Some (call_byte read.now.list.now)) read.now }
     ensures { made_by result out.new ≡ outcome (sort read.now.list.now (length out.old)) out.old }

@@ -7,6 +7,7 @@ ghost use Rattle.sorting.specs.Places.{FieldInside, place_less};
 use crate::places;
 
 // Whether the field at the first of some places stands before the next, or no other is left. `keep_last` shows the bounds.
+// A list and places of it are no struct: `keep_last` writes the places between two reads, so that a struct would be made anew, and its fact shown anew.
 fn is_ahead(s: &[u8], t: &[usize]) -> bool
     requires { All (FieldInside s.now) t.now }
     ensures { result ≡ ahead (place_less s.now) (get_or t.now 0 0) (drop 1 t.now) }

@@ -27,7 +27,7 @@ impl Model for Value {
     ghost invariant = { λ v. v.len ≤ 256 };
 }
 
-// What stands before a key's value.
+// What stands before a key's value. The type is a byte and no `KeyType`: a key that is read may have any.
 #[derive(Clone, Copy, Drop)]
 pub struct KeyHead {
     pub key_type: u8,

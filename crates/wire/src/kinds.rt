@@ -61,6 +61,7 @@ pub fn bucket_in_range(b: Bucket) -> bool
 }
 
 // Whether the end of a run is within FORMAT.md's limit.
+// Beside `bucket_in_range`: an end may be one more than a bucket, and one function for both would take the bound as a number, where each name says which bound it is.
 pub fn run_end_in_range(b: Bucket) -> bool
     ensures { result ≡ run_end_in_range b }
 {
@@ -75,6 +76,7 @@ pub fn began_before(end: Bucket, size: u32) -> bool
 }
 
 // The first bucket of such a run; 0 where it began before that.
+// Not one function with `began_before` that answers an `Option`: `run_of` of freespace takes a run that began too early as one from bucket 0 on, and so would put 0 for the `None`.
 pub fn run_start(end: Bucket, size: u32) -> Bucket
     ensures { result ≡ run_start end size }
 {

@@ -13,7 +13,7 @@ use crate::bpos::Bpos;
 use crate::keys::{Bkey, KeyHead};
 use crate::kinds::{Bucket, DeviceSector, FileSector};
 
-// A slice that is lent, and the place in it that the next byte goes to.
+// A slice that is lent, and the place in it that the next byte goes to. No slice of what is left: the place may pass the end, where bytes are counted and not written.
 #[derive(Drop)]
 pub struct Output<'a> {
     pub bytes: &'a mut [u8],

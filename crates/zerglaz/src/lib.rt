@@ -1,4 +1,5 @@
 // The six calls, each with its one outcome over any input: what the C boundary exports (crate zerglaz_c).
+// Each answers a count and no slice: C is told a count, and the rest of an output stands as it was.
 #![tactic(auto)]
 
 ghost use Rattle.std.specs.Prelude.{◌≡◌, length};
