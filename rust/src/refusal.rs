@@ -98,7 +98,7 @@ impl Refusal {
     const fn words(self) -> &'static str {
         match self {
             Refusal::ScratchTooShort => "the scratch has fewer than 65,536 sums",
-            Refusal::BrokenLayout => "a list breaks its layout or is another call's",
+            Refusal::BrokenLayout => "a list breaks its layout or is another call's, or buckets do not ascend",
             Refusal::LimitPassed => "a limit is passed",
             Refusal::NoBucketSectors => "bucket sectors are 0",
             Refusal::UnknownChecksumOption => "the checksum option is above 3",

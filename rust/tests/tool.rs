@@ -263,7 +263,7 @@ fn refusals() {
     let change = [76, 0, 1];
     let bytes = volume().into_bytes();
     let volume = file("volume-of-refusals", &bytes);
-    let told = "zerglaz: refused 2: a list breaks its layout or is another call's\n";
+    let told = "zerglaz: refused 2: a list breaks its layout or is another call's, or buckets do not ascend\n";
     assert_eq!(failure(&["apply", &volume], &change), (1, told.into()));
     assert_eq!(failure(&["call"], &change), (1, told.into()));
     for command in ["show", "draw", "sort"] {

@@ -49,16 +49,6 @@ impl<'a> Records<'a> {
         found_in(self.record_of(b), b)
     }
 
-    // Its generation, and 0 where none is found. The limits show the bound.
-    // No type shows it: one in range would be a second kind beside `Bucket`, and a bucket of a list may have any number.
-    #[tactic(auto, unfolding(calls::specs::Generations::gen_of))]
-    pub fn bucket_gen(&self, b: Bucket) -> u8
-        requires { bucket_in_range b ≡ true }
-        ensures { result ≡ gen_of (keys_listed self.now.gens) b }
-    {
-        self.find_gen(b).unwrap_or(0)
-    }
-
     // Whether its record is too short. The limits show the bound.
     // No type shows it: one in range would be a second kind beside `Bucket`, and a bucket of a list may have any number.
     #[tactic(auto, unfolding(calls::specs::Generations::gen_short))]

@@ -1,6 +1,7 @@
 -- From a list that was read to its parts, and from its answer after refusals 2 and 3 to the answer of the definition.
 use Rattle.std.proofs.Common.{Some}
 use mathlib.Core.Path.{◌≡◌, refl, ap, sym, ◌∙◌}
+use mathlib.Core.Bool.{true}
 use mathlib.Core.List.{List, [], ◌∷◌}
 use Prim.Native.Nat.{ℕ, ◌<◌, ◌≤◌}
 use lib.ListN.{length}
@@ -10,6 +11,9 @@ use Rattle.calls.specs.CallList as calls
 use Rattle.calls.specs.ChangeList.{change_bytes}
 use Rattle.calls.specs.Place.{place_tests}
 use Rattle.calls.proofs.answers.AnswerLaws.{place_is}
+use Rattle.calls.specs.CallList.{keys_ascend}
+use Rattle.calls.proofs.answers.SingleLookups.{gens-ascend}
+use Rattle.reader.specs.ListedKeys.{keys_listed}
 use Rattle.reader.specs.Readings.{call_refusal, ReadAs}
 use Rattle.reader.specs.PieceLists.{Pieces, pieces_of}
 use Rattle.reader.specs.declared.read_list.ReadList.{ReadList}
@@ -32,6 +36,10 @@ called {r} q e l =
       few = l;
       base = ap (λ (x : calls.Head). base_in_range x.base) q.read.head ∙ base-range k;
     }
+
+-- refusal 22: the keys of tree 14 ascend
+pub gens-in-order : {r : ReadList} → ReadAs (Some 1) r → keys_ascend (keys_listed r.gens) ≡ true
+gens-in-order {r} q = ap keys_ascend q.read.gens.are ∙ gens-ascend r.list.now (passed 1 r.list.now q.passed).once
 
 module _ (s : List ℕ) (room : ℕ) where
   abbrev bytes : List ℕ

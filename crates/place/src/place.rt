@@ -7,11 +7,11 @@ ghost use Rattle.reader.specs.Refusals.{made_by};
 
 use crate::change::ChangeList;
 use accounting::tally;
-use gens::records::Records;
+use gens::joint;
 use next_fit::slot::Slot;
 use place_keys::dirty::DirtyPlan;
 use place_keys::plan::Plan;
-use place_keys::{clock, dirty, generations};
+use place_keys::{clock, dirty};
 use place_tests::asked::Placement;
 use reader::call_kinds::Call;
 use reader::pieces::Pieces;
@@ -35,13 +35,13 @@ fn place_read(read: &ReadList, out: &mut [u8]) -> Result<usize, Refusal>
     let asked = Placement { read, pieces };
     let chosen = asked.choose_buckets(&mut taken, &mut slots)?;
     let mut gens = [0u8; 1024];
-    let records = Records::of(read.gens);
+    joint::bucket_gens(&mut gens, read.gens, chosen.taken);
     let plan = Plan {
         list: read.list,
         pieces,
         slots: chosen.slots,
         taken: chosen.taken,
-        gens: generations::fill_gens(&mut gens, &records, chosen.taken),
+        gens: &gens[..chosen.taken.len()],
         head: read.head,
         sectors: chosen.sectors,
         option: chosen.option,

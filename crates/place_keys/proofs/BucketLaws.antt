@@ -8,12 +8,12 @@ use lib.ListN.{length, get_or, set, length-set, replicate}
 use lib.Seq.{get_or-set_same, get_or-set_other}
 use lib.Dec.{eqb}
 use borrow.Author.Tests.{eq-eqb, eqb-true}
-use Rattle.wire.specs.Kinds.{no_bucket, same_bucket, extent_end}
+use Rattle.wire.specs.Kinds.{no_bucket, same_bucket, bucket_below, extent_end}
 use Rattle.wire.specs.Positions.{alloc_at}
 use Rattle.wire.specs.declared.kinds.Bucket.{Bucket}
 use Rattle.wire.specs.declared.kinds.FileSector.{FileSector}
 use Rattle.format.specs.AllocV4.{new_alloc}
-use Rattle.calls.specs.Lists.{total}
+use Rattle.calls.specs.Lists.{total, in_order}
 use Rattle.calls.specs.CallList as lists
 use Rattle.calls.specs.Trees.{new_key}
 use Rattle.calls.specs.Extents as calls
@@ -31,7 +31,8 @@ use Rattle.calls.specs.Clock.{clock_of}
 use Rattle.place_keys.proofs.SlotTables.{no_slot}
 use Rattle.next_fit.specs.declared.slot.Slot.{Slot}
 use Rattle.place_keys.specs.Plan.{Planned, Dirty, placed_from}
-use Rattle.place_keys.proofs.StepLaws.{gen-at, placed-here, pieces-here, slots-here, stored-most, index-low}
+use Rattle.calls.proofs.freespace.UpLaws.{ascend-same}
+use Rattle.place_keys.proofs.StepLaws.{bucket-at, gen-at, placed-here, pieces-here, slots-here, stored-most, index-low}
 use Rattle.place_keys.proofs.WalkLaws.{no_more}
 
 -- the loop that counts the dirty sectors
@@ -44,6 +45,12 @@ dirty-next p ps b = refl
 dirty-none : (b : Bucket) → dirty_in [] b ≡ 0
 unfolding dirty_in total
 dirty-none b = refl
+
+-- of buckets that ascend the same one stands at one index alone
+same-index : (bs : List Bucket) → in_order bucket_below bs ≡ true → (i j : ℕ) → i < length bs → j < length bs
+    → same_bucket (bucket_at no_bucket bs i) (bucket_at no_bucket bs j) ≡ true
+    → i ≡ j
+same-index bs a i j k m e = ascend-same bs a i j k m (rw (bucket-at bs i, bucket-at bs j) e)
 
 -- where the extents end in the file is nothing to the counts
 dirty-ends :
@@ -123,7 +130,7 @@ module _ {s : List ℕ} {pieces : List lists.Piece} {slots : List Slot} {buckets
             → get_or (set counts t.index v) j 0 + dirty_in (from s (i + 1)) (bucket_at no_bucket buckets j)
             ≡ dirty_in (placed_of (read_call s)) (bucket_at no_bucket buckets j)
         go j m true b w =
-            let z : t.index ≡ j = plan.distinct t.index j low m b in
+            let z : t.index ≡ j = same-index buckets plan.ascend t.index j low m b in
             let y : get_or counts j 0 ≡ get_or counts t.index 0 = ap (λ (x : ℕ). get_or counts x 0) (sym z) in
             omega (arith, same j (sym z), w)
         go j m false b w =

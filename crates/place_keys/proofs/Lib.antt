@@ -1,6 +1,5 @@
 pub mod BucketLaws
 pub mod ClockLaws
-pub mod FillLaws
 pub mod QueueLaws
 pub mod RootLaws
 pub mod SlotTables

@@ -1,9 +1,9 @@
 -- What planning hands over to the emission, with the bounds that refusals and limits have shown by then; and the pieces one after the other.
 use Rattle.std.specs.Prelude.{ℕ, ◌+◌, ◌*◌, ◌≤◌, ◌<◌, ◌^◌, ◌≡◌, true, List, ◌∷◌, map, length, get_or, drop}
-use Rattle.wire.specs.Kinds.{no_bucket, same_bucket, bucket_in_range, base_in_range, file_sector_number, sector_number}
+use Rattle.wire.specs.Kinds.{no_bucket, bucket_below, bucket_in_range, base_in_range, file_sector_number, sector_number}
 use Rattle.wire.specs.declared.kinds.Bucket.{Bucket}
 use Rattle.wire.specs.declared.kinds.FileSector.{FileSector}
-use Rattle.calls.specs.Lists.{all_of}
+use Rattle.calls.specs.Lists.{all_of, in_order}
 use Rattle.calls.specs.CallList.{CallList, Piece}
 use Rattle.calls.specs.Generations.{gen_of}
 use Rattle.calls.specs.Pieces.{buckets_needed, kind_listed, block_of, piece_sized}
@@ -40,9 +40,7 @@ pub record Planned (s : List ℕ) (ps : List Piece) (ts : List Slot) (buckets : 
   pub short : length buckets ≤ 1024
   -- refusal 3: runs end at most at 65,536; refusal 10: no bucket is in two of them
   pub low : all_of bucket_in_range buckets ≡ true
-  pub distinct :
-      (i j : ℕ) → i < length buckets → j < length buckets → same_bucket (bucket_at no_bucket buckets i) (bucket_at no_bucket buckets j) ≡ true
-      → i ≡ j
+  pub ascend : in_order bucket_below buckets ≡ true
 
 -- the piece that the code holds, at its place
 abbrev pub placed_in : Placed → calls.Placed

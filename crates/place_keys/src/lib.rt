@@ -6,7 +6,6 @@ pub mod backpointers;
 pub mod clock;
 pub mod dirty;
 pub mod extents;
-pub mod generations;
 pub mod lru;
 pub mod placed;
 pub mod plan;

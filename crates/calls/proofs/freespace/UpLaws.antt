@@ -4,8 +4,9 @@ use mathlib.Core.Bool.{Bool, true, false, cond}
 use mathlib.Core.List.{List, [], ◌∷◌}
 use Prim.Native.Nat.{ℕ, zero, suc, ◌≤◌, ◌<◌}
 use native.Mathlib.Omega.{arith}
+use lib.Dec.{ltb}
 use lib.ListN.{length, get_or}
-use borrow.Author.Tests.{lt-ltb, ltb-true, ltb-false, eqb-false}
+use borrow.Author.Tests.{lt-ltb, ltb-true, ltb-false, eqb-true, eqb-false}
 use Rattle.wire.specs.Bytes.{All, none, more}
 use Rattle.wire.specs.Kinds.{same_bucket, bucket_below, no_bucket}
 use Rattle.wire.specs.declared.kinds.Bucket.{Bucket}
@@ -70,6 +71,23 @@ up-before n [] i j u l h = absurd (omega arith)
 up-before n (b ∷ bs) i zero u l h = absurd (omega arith)
 up-before n (b ∷ bs) zero (suc j) u l h = up_from (suc b.0) bs j u.1 (omega arith)
 up-before n (b ∷ bs) (suc i) (suc j) u l h = up-before (suc b.0) bs i j u.1 (omega arith) (omega arith)
+
+-- the same bucket stands at one index alone
+pub ascend-same : (l : List Bucket) → in_order bucket_below l ≡ true → (i j : ℕ) → i < length l → j < length l
+    → same_bucket (get_or l i no_bucket) (get_or l j no_bucket) ≡ true
+    → i ≡ j
+ascend-same l h i j k m e = go (ltb i j) refl (ltb j i) refl
+  where
+    u : Up 0 l
+    u = order-up l h
+
+    same : (get_or l i no_bucket).0 ≡ (get_or l j no_bucket).0
+    same = eqb-true (get_or l i no_bucket).0 (get_or l j no_bucket).0 e
+
+    go : (x : Bool) → ltb i j ≡ x → (y : Bool) → ltb j i ≡ y → i ≡ j
+    go true p y q = absurd (omega (arith, up-before 0 l i j u (ltb-true i j p) m, same))
+    go false p true q = absurd (omega (arith, up-before 0 l j i u (ltb-true j i q) k, same))
+    go false p false q = omega (arith, ltb-false i j p, ltb-false j i q)
 
 -- none is above the last
 pub up-last : (n : ℕ) (b : Bucket) (bs : List Bucket) → Up n (b ∷ bs) → All (λ c. c.0 ≤ (last_or b bs).0) (b ∷ bs)
