@@ -53,9 +53,9 @@ def rt(folder, *words):
     return run.returncode, run.stdout
 
 
-def check(folder, name):
+def check(folder, name, jobs=2):
     """Checks a crate of a copy: its status and what it prints."""
-    return rt(folder / "crates" / name, "check", "--jobs", "2")
+    return rt(folder / "crates" / name, "check", "--jobs", str(jobs))
 
 
 def is_proved(status, printed):
