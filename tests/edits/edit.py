@@ -41,33 +41,34 @@ def renames(old, new):
     return len(a) == len(b) and all(STEP.fullmatch(x) and STEP.fullmatch(y) for x, y in changed)
 
 
-@dataclass(frozen=True)
+def texts_of(file, crate):
+    """The files of a crate that an edit's file changes, each with its text before and after."""
+    before, after = {}, {}
+    for path, old, new in pairs_of(file):
+        if not re.match(r"(src|specs|proofs)/", path or "") or not (crate / path).is_file():
+            raise BadEdit(f"`{path}` is no file of the crate's src, specs or proofs")
+        if path.startswith("proofs/") and not renames(old, new):
+            raise BadEdit(f"it changes more of {path} than names of steps")
+        before.setdefault(path, (crate / path).read_text())
+        text = after.get(path, before[path])
+        if not old or text.count(old) != 1:
+            raise BadEdit(f"`{old}` does not stand in {path} once")
+        after[path] = text.replace(old, new)
+    if before == after:
+        raise BadEdit("it changes nothing")
+    return {path: (before[path], after[path]) for path in before}
+
+
+@dataclass(eq=False)
 class Edit:
-    """An edit's file, and the folder of its crate as it stands."""
+    """An edit's file, the folder of its crate, and the files of the crate that it changes, each with its text before and after."""
     file: Path
     crate: Path
+    texts: dict
 
     @property
     def name(self):
         return self.file.stem
-
-    @cached_property
-    def texts(self):
-        """The files that it changes, each with its text before and after."""
-        before, after = {}, {}
-        for file, old, new in pairs_of(self.file):
-            if not re.match(r"(src|specs|proofs)/", file or "") or not (self.crate / file).is_file():
-                raise BadEdit(f"`{file}` is no file of the crate's src, specs or proofs")
-            if file.startswith("proofs/") and not renames(old, new):
-                raise BadEdit(f"it changes more of {file} than names of steps")
-            before.setdefault(file, (self.crate / file).read_text())
-            text = after.get(file, before[file])
-            if not old or text.count(old) != 1:
-                raise BadEdit(f"`{old}` does not stand in {file} once")
-            after[file] = text.replace(old, new)
-        if before == after:
-            raise BadEdit("it changes nothing")
-        return {file: (before[file], after[file]) for file in before}
 
     @cached_property
     def lines(self):
@@ -88,19 +89,19 @@ class Edit:
         return found.pop() or None if len(found) == 1 else None
 
 
-def apply(copy, edits):
-    """Writes the files of a crate's copy with some edits, which change different lines."""
+def apply(edits):
+    """Writes the files of a crate with some edits, which change different lines."""
     changed = {}
     for edit in edits:
         for (file, number), line in edit.lines.items():
-            lines = changed.setdefault(file, edit.texts[file][0].split("\n"))
+            lines = changed.setdefault(edit.crate / file, edit.texts[file][0].split("\n"))
             lines[number] = line
-    for file, lines in changed.items():
-        (copy / file).write_text("\n".join(lines))
+    for path, lines in changed.items():
+        path.write_text("\n".join(lines))
 
 
-def take_back(copy, edits):
+def take_back(edits):
     """Writes the files that some edits changed as they were."""
     for edit in edits:
         for file, (before, _) in edit.texts.items():
-            (copy / file).write_text(before)
+            (edit.crate / file).write_text(before)

@@ -18,7 +18,7 @@ from pathlib import Path
 sys.path.insert(0, str(Path(__file__).resolve().parents[1]))
 import together  # noqa: E402
 import workspace  # noqa: E402
-from edit import BadEdit, Edit  # noqa: E402
+from edit import BadEdit, Edit, texts_of  # noqa: E402
 
 EDITS = workspace.ROOT / "tests" / "edits"
 
@@ -26,6 +26,7 @@ said = threading.Lock()
 
 
 def tell(line, good):
+    """Prints a line of one crate, whole; gives on whether it is good."""
     with said:
         print(line, flush=True)
     return good
@@ -35,12 +36,10 @@ def readable(name, crate):
     """The edits of a crate that can be applied, and how many cannot."""
     edits, bad = [], 0
     for file in sorted((EDITS / name).glob("*.edit")):
-        edit = Edit(file, crate)
         try:
-            edit.texts
-            edits.append(edit)
+            edits.append(Edit(file, crate, texts_of(file, crate)))
         except BadEdit as why:
-            tell(f"{name}/{edit.name}: BAD EDIT: {why}", False)
+            tell(f"{name}/{file.stem}: BAD EDIT: {why}", False)
             bad += 1
     return edits, bad
 

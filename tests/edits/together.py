@@ -15,12 +15,11 @@ from edit import apply, take_back
 def check(copy, name, edits):
     """Checks a crate with some edits: the status, what is printed, and the seconds that it took."""
     began = time.time()
-    crate = copy / "crates" / name
-    apply(crate, edits)
+    apply(edits)
     try:
         status, printed = workspace.check(copy, name, jobs=1)
     finally:
-        take_back(crate, edits)
+        take_back(edits)
     return status, printed, time.time() - began
 
 
