@@ -16,7 +16,7 @@ use Rattle.calls.specs.Pieces.{buckets_needed}
 use Rattle.calls.specs.Place.{slots_of, walk_of}
 use Rattle.calls.specs.Answers.{read_call, read_volume}
 use Rattle.calls.proofs.freespace.RunLaws.{walk-gives}
-use Rattle.calls.proofs.freespace.TakenAscend.{walk-taken-ascend}
+use Rattle.calls.proofs.freespace.TakenAscend.{place-taken-ascend}
 use Rattle.reader.specs.Readings.{ReadAs}
 use Rattle.reader.specs.declared.read_list.ReadList.{ReadList}
 use Rattle.place_tests.specs.Called.{Called}
@@ -24,7 +24,6 @@ use Rattle.place_tests.specs.Choice.{ChosenIs}
 use Rattle.freespace.specs.Walks.{unwalked, queue_of, WalkTook}
 use Rattle.place_tests.specs.declared.refusals.Chosen.{Chosen}
 use Rattle.reader.specs.PieceLists.{Pieces, pieces_of}
-use Rattle.reader.proofs.CheckedLaws.{trees-in-order}
 use Rattle.place_tests.proofs.RefusalLaws.{TestsPassed, accepted}
 use Rattle.place_tests.proofs.SizedLaws.{needed-short}
 use Rattle.freespace.proofs.TakeLaws.{queue-take}
@@ -62,11 +61,7 @@ module _ {l : ReadList} {ps : Pieces} {r : Chosen} (q : Called l ps) (o : Chosen
   low = walk-in-range (is_in (read_volume s).reserved) (is_used (read_volume s).trees.alloc) q.checked (buckets_needed (slots_of c))
 
   ascend : in_order bucket_below (walk_of c).taken ≡ true
-  unfolding walk_of
-  ascend =
-      walk-taken-ascend (is_in (read_volume s).reserved) (is_used (read_volume s).trees.alloc) (buckets_needed (slots_of c)) ks
-      (trees-in-order q.checked).freespace.0
-      passed.runs
+  ascend = place-taken-ascend c q.checked.trees passed.runs
 
   abbrev w : WalkTook (buckets_needed (slots_of c)) (take r.walked.passed ks) (walk_of c) unwalked [] r.taken.now r.walked
   w = o.chosen.walk

@@ -38,8 +38,9 @@ pub record Planned (s : List ℕ) (ps : List Piece) (ts : List Slot) (buckets : 
   -- refusal 11: the walk takes as many buckets as needed, at most one for each piece
   pub enough : buckets_needed (slots_of (read_call s)) ≤ length buckets
   pub short : length buckets ≤ 1024
-  -- refusal 3: runs end at most at 65,536; refusal 10: no bucket is in two of them
+  -- refusal 3: runs end at most at 65,536
   pub low : all_of bucket_in_range buckets ≡ true
+  -- refusals 22 and 10: runs ascend, and no bucket is in two of them
   pub ascend : in_order bucket_below buckets ≡ true
 
 -- the piece that the code holds, at its place
