@@ -9,19 +9,30 @@ use std::marker::Model;
 use wire::kinds::DeviceSector;
 
 // The words of an extent's value: at most three. No heap: the words and how many there are stand beside one another. No `ArrayVec`: a clause would see a record with `items` in place of the words. No generic with `wire::keys::Value`: they share their view and `as_slice` alone.
-#[derive(Drop)]
+#[derive(Clone, Copy, Drop)]
 pub struct Words {
     words: [u64; 3],
     len: usize,
 }
 
-// They are seen as a list.
+// They are seen as a list; the words behind it are 0.
 impl Model for Words {
+    ghost use Rattle.std.specs.Prelude.{ℕ, List, length, take};
+    ghost use Rattle.std.proofs.Common.{length-take-le};
+    ghost use Rattle.wire.specs.Filled.{filled, Filled};
+
     ghost Value = { List ℕ };
 
     ghost view = { λ w. take w.len w.words };
 
-    ghost invariant = { λ w. w.len ≤ 3 };
+    ghost invariant = { λ w. Filled 3 w.len w.words };
+
+    ghost inverse = { λ l. record { words = filled 3 l; len = length l } };
+
+    ghost inverse_ok = { λ w f i. record {
+      words = f.is i;
+      len = length-take-le w.len w.words f.within i;
+    } };
 }
 
 impl Words {

@@ -3,6 +3,7 @@ pub mod BucketTables
 pub mod EncodeLaws
 pub mod FieldLaws
 pub mod FieldStepLaws
+pub mod FilledLaws
 pub mod KeyLaws
 pub mod KindLaws
 pub mod NumberLaws

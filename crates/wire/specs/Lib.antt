@@ -10,6 +10,7 @@ pub mod TreeTags
 pub mod Tags
 pub mod KeyTypes
 pub mod Keys
+pub mod Filled
 pub mod Held
 pub mod Encode
 pub mod Output

@@ -10,21 +10,30 @@ use crate::{bpos, le};
 use std::marker::Model;
 
 // A key's value: at most 256 bytes. No heap: the bytes and how many there are stand beside one another. No `ArrayVec`: a clause would see a record with `items` in place of the bytes.
-#[derive(Drop)]
+#[derive(Clone, Copy, Drop)]
 pub struct Value {
     bytes: [u8; 256],
     len: usize,
 }
 
-// It is seen as its bytes.
+// It is seen as its bytes; those behind them are 0.
 impl Model for Value {
-    ghost use Rattle.std.specs.Prelude.{◌≤◌, ℕ, List, take};
+    ghost use Rattle.std.specs.Prelude.{ℕ, List, length, take};
+    ghost use Rattle.std.proofs.Common.{length-take-le};
+    ghost use Rattle.wire.specs.Filled.{filled, Filled};
 
     ghost Value = { List ℕ };
 
     ghost view = { λ v. take v.len v.bytes };
 
-    ghost invariant = { λ v. v.len ≤ 256 };
+    ghost invariant = { λ v. Filled 256 v.len v.bytes };
+
+    ghost inverse = { λ b. record { bytes = filled 256 b; len = length b } };
+
+    ghost inverse_ok = { λ v f i. record {
+      bytes = f.is i;
+      len = length-take-le v.len v.bytes f.within i;
+    } };
 }
 
 // What stands before a key's value. The type is a byte and no `KeyType`: a key that is read may have any.
@@ -38,7 +47,7 @@ pub struct KeyHead {
 }
 
 // A key.
-#[derive(Drop)]
+#[derive(Clone, Copy, Drop)]
 pub struct Bkey {
     pub head: KeyHead,
     pub value: Value,
