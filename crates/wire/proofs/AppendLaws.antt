@@ -3,11 +3,12 @@ use mathlib.Core.Path.{◌≡◌, refl, sym, ap, ◌∙◌}
 use Prim.Native.Nat.{ℕ, ◌+◌, ◌-◌, ◌*◌, ◌/◌, ◌%◌, ◌≤◌, ◌<◌, min, max}
 use mathlib.Core.Logic.{inl, inr, ⊎_elim}
 use native.Mathlib.Omega.{arith}
+use native.Mathlib.Numerals.{add-one}
 use borrow.Rule.Slice.PartMut.{put_mid}
 use mathlib.Core.List.{List, [], ◌∷◌, ◌++◌, append_assoc}
 use Rattle.std.proofs.lemmas.Slice.{take-put_mid, drop-put_mid}
-use lib.ListN.{length, length-append, get_or, take, drop, drop_of_length-le}
-use lib.Seq.{take-append-add}
+use lib.ListN.{length, length-append, get_or, set, take, drop, drop_of_length-le}
+use lib.Seq.{take-append-add, take-suc}
 use Rattle.std.proofs.lemmas.List.{take-append-le, take_all, length-take-le, take-append-drop}
 use Rattle.wire.specs.declared.output.Output.{Output}
 use Rattle.std.specs.Int.{w32, w64, to_le_bytes}
@@ -46,6 +47,14 @@ put-room k xs at bs h =
     ∙ put-put xs at (take k bs) (drop k bs)
     ∙ ap (put xs at) (take-append-drop k bs))
     (⊎_elim inr inl (cases_lt k (length bs)))
+
+-- one byte more of a list is stored
+pub put-next : (xs : List ℕ) (at i : ℕ) (bs : List ℕ) → i < length bs → set (put xs at (take i bs)) (at + i) (get_or bs i 0) ≡ put xs at (take (i + 1) bs)
+unfolding put
+put-next xs at i bs h =
+    let n : length (take i bs) ≡ i = length-take-le i bs (omega arith) in
+    rw (add-one, take-suc bs i 0 h)
+    (ap (λ (k : ℕ). set (put xs at (take i bs)) (at + k) (get_or bs i 0)) (sym n) ∙ put-put xs at (take i bs) (get_or bs i 0 ∷ []))
 
 -- a part of the slice that is replaced
 pub put-mid : (at k : ℕ) (xs ys : List ℕ) → at + k ≤ length xs → length ys ≡ k → put_mid at k xs ys ≡ put xs at ys

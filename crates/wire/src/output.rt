@@ -21,15 +21,14 @@ pub struct Output<'a> {
 }
 
 // Some bytes from a place of a slice on; those past its end are left out.
+// By index and not by `copy_from_slice`, which has an archive for C ask for `memmove` where the two slices may lie anywhere.
 fn store(bytes: &mut [u8], at: usize, b: &[u8])
     ensures { bytes.new ≡ put bytes.old at (take (cap - at) b.now) }
 {
     if at < bytes.len() {
-        let room = bytes.len() - at;
-        if b.len() <= room {
-            bytes[at..at + b.len()].copy_from_slice(b);
-        } else {
-            bytes[at..].copy_from_slice(&b[..room]);
+        let n = b.len().min(bytes.len() - at);
+        for i in 0..n {
+            bytes[at + i] = b[i];
         }
     }
 }
