@@ -1,10 +1,9 @@
 -- Laws of reading keys: a key at its place, and one field's part of a tree's keys.
-use Prim.Native.Nat.{ℕ, ◌+◌, ◌-◌, ◌≤◌}
-use mathlib.Core.Path.{◌≡◌, ap, ◌∙◌}
-use mathlib.Core.List.{List, ◌∷◌}
+use Prim.Native.Nat.{ℕ, zero, suc, ◌+◌, ◌-◌, ◌≤◌}
+use mathlib.Core.Path.{◌≡◌}
+use mathlib.Core.List.{List, [], ◌∷◌}
 use lib.ListN.{length, take, drop, length-drop}
-use lib.Seq.{drop-drop}
-use Rattle.std.proofs.lemmas.List.{drop-take}
+use lib.Seq.{drop-drop, take-nil}
 use borrow.Author.Tests.{le-leb, eq-eqb}
 use native.Mathlib.Nat.{add_assoc, add-zero}
 use native.Mathlib.Omega.{arith}
@@ -12,6 +11,13 @@ use Rattle.wire.specs.Numbers.{le}
 use Rattle.wire.specs.Fields.{Field, field_at}
 use Rattle.wire.specs.Keys.{Key, pos_of, key_of, key_sized, is_key, keys}
 use Rattle.wire.proofs.NumberLaws.{body-le, body-length}
+
+-- what is left of a front past its first k
+pub drop-take : (k m : ℕ) (s : List ℕ) → drop k (take m s) ≡ take (m - k) (drop k s)
+drop-take zero m s = let e : m - 0 ≡ m = omega arith in rw e
+drop-take (suc k) zero s = let e : 0 - suc k ≡ 0 = omega arith in rw e
+drop-take (suc k) (suc m) [] = rw take-nil
+drop-take (suc k) (suc m) (b ∷ s) = let e : suc m - suc k ≡ m - k = omega arith in rw e (drop-take k m s)
 
 -- the key whose body of len bytes starts at place start of s, each part read at its own place
 abbrev pub key_at : List ℕ → ℕ → ℕ → Key
@@ -35,11 +41,6 @@ module _ (s : List ℕ) (start len : ℕ) (l : 37 ≤ len) where
   type_at : le 1 (take len (drop start s)) ≡ le 1 (drop start s)
   type_at = rw add-zero at (part_at 1 0 (omega arith))
 
-  value_at : drop 37 (take len (drop start s)) ≡ take (len - 37) (drop (start + 37) s)
-  value_at =
-      let e : len ≡ 37 + (len - 37) = omega arith in
-      ap (λ (n : ℕ). drop 37 (take n (drop start s))) e ∙ drop-take 37 (len - 37) (drop start s) ∙ ap (take (len - 37)) (drop-drop 37 start s)
-
   pub key-at : key_of (take len (drop start s)) ≡ key_at s start len
   key-at =
       simp (
@@ -48,7 +49,8 @@ module _ (s : List ℕ) (start len : ℕ) (l : 37 ≤ len) where
         part_at 4 1 (omega arith),
         part_at 4 5 (omega arith),
         part_at 8 9 (omega arith),
-        value_at,
+        drop-take 37 len (drop start s),
+        drop-drop 37 start s,
       )
 
 -- keys are equal by their parts

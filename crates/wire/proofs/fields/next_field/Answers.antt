@@ -1,4 +1,4 @@
-use Rattle.std.proofs.Common.{◌+◌, ◌∙◌, ◌-◌, ◌≡◌, sym, arith, length, length-drop}
+use Rattle.std.proofs.Common.{ℕ, ◌+◌, ◌∙◌, ap, sym, arith, take, drop, length-drop}
 use Rattle.std.proofs.lemmas.List.{take_rest}
 use Rattle.wire.proofs.FieldLaws.{step_cut, step-long, found-here, rest-is, length-is}
 use Rattle.wire.proofs.fields.next_field.Goals as goal
@@ -24,8 +24,7 @@ returns c =
     let h = rw (take_rest s at) at c.in-len3-up.len_at_least in
     let n = rw (take_rest s at) at c.from_le_bytes.ensures ∙ length-is s at in
     let l = rw (rest-is s at) at c.in_ok-body.ensures.lookup.0 in
-    let k : c.from_le_bytes.result - 0 ≡ length c.in_ok-body.body.now = omega (arith, l) in
     record {
       place = rw (take_rest s at) (found-here s at (omega (arith, h, length-drop at s)) c.in_ok-body.body.now (omega (arith, n, l)) (omega (arith, n, l, length-drop (at + 3) s)));
-      body = rw k at l.2;
+      body = l.2 ∙ ap (λ (n : ℕ). take n (drop (at + 3) s)) (omega (arith, l));
     }
