@@ -1,4 +1,4 @@
-use Rattle.std.proofs.Common.{rules, of_calls, ap, sym, subst, ◌∙◌, length}
+use Rattle.std.proofs.Common.{rules, of_calls, arith, ap, sym, subst, ◌∙◌, length}
 use Rattle.std.specs.Option.{unwrap_or}
 use Rattle.std.specs.Iterator.Adapters.{filter_map_source}
 use Rattle.std.proofs.lemmas.Iterator.{YieldsList}
@@ -17,6 +17,9 @@ returns c =
     (YieldsList-from_shown KeyStepped key_listed keys_left (λ t u h. ap length h) (λ t x u h. h.keys) c.iter.result) in
     let keys : YieldsList KeyStepped key_listed (filter_map_source c.filter_map-clocks.result) ks =
     subst (λ s. YieldsList KeyStepped key_listed s ks) (sym c.filter_map-clocks.ensures.source) first in
+    let latest =
     c.unwrap_or.ensures
     ∙ ap (λ o. unwrap_or o 1) (sym (option_map_id c.max.result) ∙ max_from_yields_List _ _ c.max.ensures.ran (YieldsList-from_filter_map _ time_of keys c.filter_map-clocks.ensures.closure (λ x r q k. search (rules, of_calls))))
     ∙ clock-is ks
+    in
+    omega (arith, latest)
