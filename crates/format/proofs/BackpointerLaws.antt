@@ -1,11 +1,11 @@
 -- The backpointer's struct as words.
-use Rattle.std.proofs.Common.{◌≡◌, ℕ, ◌+◌, ◌*◌, ◌^◌, ◌<◌, List, [], ◌∷◌, ◌++◌, arith}
+use Rattle.std.proofs.Common.{◌≡◌, ℕ, ◌+◌, ◌*◌, ◌^◌, ◌<◌, List, [], ◌∷◌, ◌++◌, length, arith}
 use Rattle.wire.specs.Numbers.{le_bytes, each, words_bytes}
 use Rattle.wire.specs.declared.bpos.Bpos.{Bpos}
 use Rattle.format.specs.Packing.{struct_bytes, read_struct}
 use Rattle.format.specs.Backpointer.{backpointer}
 use Rattle.wire.proofs.NumberLaws.{le_join}
-use Rattle.format.proofs.StructLaws.{read_whole}
+use Rattle.format.proofs.StructLaws.{read_whole, struct-length}
 
 module _ (generation stored : ℕ) (extent : Bpos) (g : generation < 256) (l : stored < 2 ^ 32) where
   first : (s : List ℕ) → le_bytes 1 0 ++ (le_bytes 1 0 ++ (le_bytes 1 4 ++ (le_bytes 1 generation ++ (le_bytes 4 0 ++ s)))) ≡ le_bytes 8 (4 * 2 ^ 16 + generation * 2 ^ 24) ++ s
@@ -28,7 +28,12 @@ module _ (generation stored : ℕ) (extent : Bpos) (g : generation < 256) (l : s
   unfolding words_bytes each backpointer struct_bytes
   backpointer-words = rw (first _, second _)
 
--- struct bch_backpointer, packed; FORMAT.md, "Pieces and extents": a backpointer's value, 32 bytes. Its members: btree_id, level, data_type, bucket_gen, pad, bucket_len, and pos, which is snapshot, offset, inode
+-- struct bch_backpointer, packed; FORMAT.md, "Pieces and extents": a backpointer's value, 32 bytes
+pub backpointer-length : (generation stored : ℕ) (extent : Bpos) → length (backpointer generation stored extent) ≡ 32
+unfolding backpointer
+backpointer-length generation stored extent = struct-length _
+
+-- its members: btree_id, level, data_type, bucket_gen, pad, bucket_len, and pos, which is snapshot, offset, inode
 pub backpointer-decodes : (generation stored : ℕ) (extent : Bpos) → generation < 256 → stored < 2 ^ 32 → extent.snapshot < 2 ^ 32
     → extent.offset < 2 ^ 64 → extent.inode < 2 ^ 64
     → read_struct (1 ∷ 1 ∷ 1 ∷ 1 ∷ 4 ∷ 4 ∷ 4 ∷ 8 ∷ 8 ∷ []) (backpointer generation stored extent) ≡ 0 ∷ 0 ∷ 4 ∷ generation ∷ 0 ∷ stored ∷ extent.snapshot ∷ extent.offset ∷ extent.inode ∷ []

@@ -21,13 +21,13 @@ pub invariant_of-result : goal.invariant_of-result
 unfolding checksum_entry extent_words
 invariant_of-result c =
     let size : Sized c.args.option c.extent_size.result = c.extent_size.ensures.1 in
-    elim c.match-option.branch
-    [ in-Off w ↦ stored (c.args.word ∷ []) size w.in-Off.is refl (omega arith) w.words-is
-    | in-Crc32c w ↦ stored (w.crc32.result ∷ c.args.word ∷ []) size w.in-Crc32c.is refl (omega arith) w.words-is
-    | in-Crc64 w ↦
-      let xs = w.crc64.result ∷ c.args.checksum ∷ c.args.word ∷ [] in
-      ⊎_elim
-      (λ e. stored xs size e refl (omega arith) w.words-is)
-      (λ e. stored xs size e refl (omega arith) w.words-is)
-      w.in-Crc64.is
+    elim c.match-option.branch [
+      | in-Off w ↦ stored (c.args.word ∷ []) size w.in-Off.is refl (omega arith) w.words-is
+      | in-Crc32c w ↦ stored (w.crc32.result ∷ c.args.word ∷ []) size w.in-Crc32c.is refl (omega arith) w.words-is
+      | in-Crc64 w ↦
+          let xs = w.crc64.result ∷ c.args.checksum ∷ c.args.word ∷ [] in
+          ⊎_elim
+          (λ e. stored xs size e refl (omega arith) w.words-is)
+          (λ e. stored xs size e refl (omega arith) w.words-is)
+          w.in-Crc64.is
     ]
