@@ -20,9 +20,22 @@ pub struct Output<'a> {
     pub at: usize,
 }
 
-// Some bytes from a place of a slice on; those past its end are left out.
-// By index and not by `copy_from_slice`, which has an archive for C ask for `memmove` where the two slices may lie anywhere.
+// A number's bytes from a place of a slice on; those past its end are left out.
 fn store(bytes: &mut [u8], at: usize, b: &[u8])
+    ensures { bytes.new ≡ put bytes.old at (take (cap - at) b.now) }
+{
+    if at < bytes.len() {
+        let room = bytes.len() - at;
+        if b.len() <= room {
+            bytes[at..at + b.len()].copy_from_slice(b);
+        } else {
+            bytes[at..].copy_from_slice(&b[..room]);
+        }
+    }
+}
+
+// The same of any bytes. By index: tried `copy_from_slice`, and where the bytes may lie anywhere, which a number's do not, an archive for C asks for `memmove` by it.
+fn store_slice(bytes: &mut [u8], at: usize, b: &[u8])
     ensures { bytes.new ≡ put bytes.old at (take (cap - at) b.now) }
 {
     if at < bytes.len() {
@@ -55,6 +68,15 @@ impl<'a> Output<'a> {
     pub fn put_slice(&mut self, b: &[u8])
         ensures { self.new ≡ with_bytes self.old b.now }
     {
+        store_slice(self.bytes, self.at, b);
+        self.at = place_after(self.at, b.len());
+    }
+
+    // The bytes of a number.
+    #[tactic(auto, unfolding(crate::specs::Output::with_bytes))]
+    pub(crate) fn put_number(&mut self, b: &[u8])
+        ensures { self.new ≡ with_bytes self.old b.now }
+    {
         store(self.bytes, self.at, b);
         self.at = place_after(self.at, b.len());
     }
@@ -63,7 +85,7 @@ impl<'a> Output<'a> {
     pub fn put_u8(&mut self, x: u8)
         ensures { self.new ≡ with_bytes self.old (x ∷ []) }
     {
-        self.put_slice(&[x]);
+        self.put_number(&[x]);
     }
 
     // A number in two bytes, the lowest first.
@@ -71,21 +93,21 @@ impl<'a> Output<'a> {
     pub fn put_u16(&mut self, x: u16)
         ensures { self.new ≡ with_bytes self.old (le_bytes 2 x) }
     {
-        self.put_slice(&x.to_le_bytes());
+        self.put_number(&x.to_le_bytes());
     }
 
     // A number in four bytes.
     pub fn put_u32(&mut self, x: u32)
         ensures { self.new ≡ with_bytes self.old (le_bytes 4 x) }
     {
-        self.put_slice(&x.to_le_bytes());
+        self.put_number(&x.to_le_bytes());
     }
 
     // A number in eight bytes.
     pub fn put_u64(&mut self, x: u64)
         ensures { self.new ≡ with_bytes self.old (le_bytes 8 x) }
     {
-        self.put_slice(&x.to_le_bytes());
+        self.put_number(&x.to_le_bytes());
     }
 
     // A field's tag, and its length in two bytes, which a remainder brings it into: each body that is written is shorter than 65,536 bytes.

@@ -29,7 +29,7 @@ impl<'a> Output<'a> {
     pub fn put_i64(&mut self, x: i64)
         ensures { self.new ≡ with_bytes self.old (signed_bytes x) }
     {
-        self.put_slice(&x.to_le_bytes());
+        self.put_number(&x.to_le_bytes());
     }
 
     // Signed numbers. The loop is that of `put_words`: one for both asks for a trait with a law, two impls and the loop, some twenty lines for the fourteen of the two.

@@ -1,23 +1,22 @@
-use Rattle.std.proofs.Common.{arith, sym, ◌∙◌, ◌-◌, ◌≤◌, min, take, length}
+use Rattle.std.proofs.Common.{arith, sym, ◌∙◌, ◌≡◌, ◌-◌, take, ◌+◌, ◌≤◌, length, length-take, refl}
 use Rattle.wire.specs.Output.{cap}
-use Rattle.wire.proofs.OutputLaws.{put-nil, put-out}
-use Rattle.wire.proofs.AppendLaws.{put-room, put-next}
+use Rattle.wire.proofs.OutputLaws.{put-out}
+use Rattle.wire.proofs.AppendLaws.{put-room, put-mid}
 use Rattle.wire.proofs.output.store.Goals as goal
 
-pub loop-i-init : goal.loop-i-init
-loop-i-init c = sym (put-nil c.args.bytes.now c.args.at)
+pub returns-then-b-room : goal.returns-then-b-room
+returns-then-b-room c =
+    let k : c.args.at + length c.args.b.now - c.args.at ≡ length c.args.b.now = omega arith in
+    let w : length c.args.bytes.now ≤ cap = omega arith in
+    rw (k, c.copy_from_slice.ensures.after, put-mid c.args.at (length c.args.b.now) c.args.bytes.now c.args.b.now (omega arith) refl)
+    (sym (put-room (cap - c.args.at) c.args.bytes.now c.args.at c.args.b.now (omega arith)))
 
-pub loop-i-preserved : goal.loop-i-preserved
-loop-i-preserved c = rw c.loop-i.invariant (put-next c.args.bytes.now c.args.at c.loop-i.i c.args.b.now (omega arith))
-
-pub returns-after-loop-i : goal.returns-after-loop-i
-returns-after-loop-i c =
-    let a = c.args in
-    let w : length a.bytes.now ≤ cap = omega arith in
-    let n : min (length a.b.now) (length a.bytes.now - a.at) ≤ c.loop-i.i = omega (arith, c.min-n.ensures, c.loop-i-test.false) in
-    c.loop-i.invariant
-    ∙ put-room c.loop-i.i a.bytes.now a.at a.b.now n
-    ∙ sym (put-room (cap - a.at) a.bytes.now a.at a.b.now (omega arith))
+pub returns-else-b-room : goal.returns-else-b-room
+returns-else-b-room c =
+    let n = length c.args.bytes.now - c.args.at in
+    let w : length c.args.bytes.now ≤ cap = omega arith in
+    rw (c.copy_from_slice-else-b-room.ensures.after, put-mid c.args.at n c.args.bytes.now (take n c.args.b.now) (omega arith) (omega (arith, length-take n c.args.b.now)))
+    (put-room n c.args.bytes.now c.args.at c.args.b.now (omega arith) ∙ sym (put-room (cap - c.args.at) c.args.bytes.now c.args.at c.args.b.now (omega arith)))
 
 pub returns-else-at-bytes : goal.returns-else-at-bytes
 returns-else-at-bytes c = sym (put-out (take (cap - c.args.at) c.args.b.now) c.args.bytes.now c.args.at (omega arith))

@@ -1,6 +1,6 @@
 use Rattle.std.proofs.Common.{◌≡◌, take}
 use Rattle.wire.specs.Output.{put}
-use Rattle.wire.proofs.output.store.Given as goal
+use Rattle.wire.proofs.output.store_slice.Given as goal
 
 -- the first bytes are stored
 abbrev pub invariant-loop-i : goal.invariant-loop-i
