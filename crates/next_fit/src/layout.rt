@@ -1,34 +1,51 @@
 // The layout of pieces: the slot of each, in a table, and how many buckets they need.
-ghost use Rattle.std.specs.Prelude.{◌≡◌, ◌<◌, ◌≤◌, map, length, take};
+ghost use Rattle.std.specs.Prelude.{◌≡◌, ◌<◌, ◌≤◌, map, length, take, set};
 ghost use Rattle.calls.specs.Pieces.{next_fit, buckets_needed};
 ghost use Rattle.reader.specs.Pieces.{piece_in};
 ghost use Rattle.reader.specs.PieceLists.{pieces_of};
-ghost use Rattle.next_fit.specs.Fit.{slots_in};
+ghost use Rattle.next_fit.specs.Fit.{table_slot, slots_in, fit_slot, fit_piece, lay, unused};
 
 use crate::slot::{OpenBucket, Slot};
 use reader::piece::Piece;
 use reader::pieces::Pieces;
 
-// The slots of the pieces that are lent, each by next fit, at the front of a table. Two-byte fields and 1,024 pieces show the bounds.
-pub fn layout<'a>(pieces: &[Piece], bucket: u64, slots: &'a mut [Slot]) -> &'a [Slot]
+// The open bucket after a piece, whose slot is put at an index of a table. Two-byte fields and 1,024 pieces show the bounds.
+#[tactic(auto, unfolding(calls::specs::Pieces::next_fit, crate::specs::Fit::first_of, crate::specs::Fit::fit_slot, crate::specs::Fit::fit_piece))]
+pub fn fit_piece(
+    slots: &mut [Slot],
+    i: usize,
+    bucket: u64,
+    before: OpenBucket,
+    p: Piece,
+) -> OpenBucket
+    requires { (i < length slots.old) × (before.index < 65535) × (before.used < 65536) }
+    ensures { (result ≡ fit_piece bucket before p) × (slots.new ≡ set slots.old i (table_slot (fit_slot bucket before p))) }
+{
+    let stored = p.stored as u64;
+    let fit = before.next_fit(stored, bucket);
+    slots[i] = Slot {
+        index: fit.index as u16,
+        offset: fit.offset as u16,
+    };
+    OpenBucket {
+        index: fit.index,
+        used: fit.offset + stored,
+    }
+}
+
+// The slots of the pieces that are lent, each by `fit_piece`, at the front of a table, and the bucket that is open after them. Two-byte fields and 1,024 pieces show the bounds.
+pub fn layout<'a>(pieces: &[Piece], bucket: u64, slots: &'a mut [Slot]) -> (&'a [Slot], OpenBucket)
     requires { (length pieces.now ≤ 1024) × (length pieces.now ≤ length slots.old) × (bucket < 65536) }
-    ensures { slots_in result.now ≡ next_fit bucket 0 0 (map (λ p. p.stored) pieces.now) }
+    ensures { (result.1 ≡ lay bucket unused pieces.now) × (slots_in result.0.now ≡ next_fit bucket 0 0 (map (λ p. p.stored) pieces.now)) }
 {
     let mut open = OpenBucket { index: 0, used: 0 };
     // By index: after an adapter of iter_mut nothing is known of a slice (Rattle's LIBRARY.md).
     for (i, p) in pieces.iter().enumerate() {
-        let stored = p.stored as u64;
-        let fit = open.next_fit(stored, bucket);
-        slots[i] = Slot {
-            index: fit.index as u16,
-            offset: fit.offset as u16,
-        };
-        open = OpenBucket {
-            index: fit.index,
-            used: fit.offset + stored,
-        };
+        // Read by itself, so that a proof knows that it fits two bytes.
+        let _stored = p.stored;
+        open = fit_piece(slots, i, bucket, open, *p);
     }
-    &slots[..pieces.len()]
+    (&slots[..pieces.len()], open)
 }
 
 // The pieces of a call list as records, at the front of an array. Refusal 3 shows that they are few.
@@ -60,7 +77,7 @@ pub fn lay_out<'a>(pieces: &Pieces, bucket: u16, slots: &'a mut [Slot]) -> &'a [
     ensures { slots_in result.now ≡ next_fit bucket 0 0 (map (λ p. p.stored) (pieces_of pieces.now)) }
 {
     let records = read_pieces(pieces);
-    layout(&records[..pieces.len()], bucket as u64, slots)
+    layout(&records[..pieces.len()], bucket as u64, slots).0
 }
 
 // How many buckets pieces with these slots need.

@@ -12,6 +12,6 @@ same_sectors (p ∷ ps) = ap (λ l. p.stored ∷ l) (same_sectors ps)
 
 pub returns : goal.returns
 returns c =
-    c.layout.ensures
+    c.layout.ensures.1
     ∙ ap (next_fit c.args.bucket 0 0) (same_sectors (take c.len.result c.read_pieces-records.result)
     ∙ ap (map (λ (p : calls.Piece). p.stored)) (ap (λ n. map piece_in (take n c.read_pieces-records.result)) c.len.ensures ∙ c.read_pieces-records.ensures))
