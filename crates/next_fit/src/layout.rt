@@ -76,8 +76,13 @@ pub fn lay_out<'a>(pieces: &Pieces, bucket: u16, slots: &'a mut [Slot]) -> &'a [
     requires { (length (pieces_of pieces.now) ≤ 1024) × (length (pieces_of pieces.now) ≤ length slots.old) }
     ensures { slots_in result.now ≡ next_fit bucket 0 0 (map (λ p. p.stored) (pieces_of pieces.now)) }
 {
+    let n = pieces.len();
+    // Without pieces no array is filled.
+    if n == 0 {
+        return &slots[..0];
+    }
     let records = read_pieces(pieces);
-    layout(&records[..pieces.len()], bucket as u64, slots).0
+    layout(&records[..n], bucket as u64, slots).0
 }
 
 // How many buckets pieces with these slots need.
