@@ -6,6 +6,7 @@ ghost use Rattle.format.specs.Entries.{pointer, crc32, crc64, csum_type_of, exte
 
 use crate::checksums::{ChecksumOption, ChecksumType};
 use std::marker::Model;
+use wire::kinds;
 use wire::kinds::DeviceSector;
 
 // The words of an extent's value: at most three. No heap: the words and how many there are stand beside one another. No `ArrayVec`: a clause would see a record with `items` in place of the words. No generic with `wire::keys::Value`: they share their view and `as_slice` alone.
@@ -51,7 +52,7 @@ pub fn pointer(d: DeviceSector, generation: u8) -> u64
     requires { sector_number d < 2 ^ 44 }
     ensures { result ≡ pointer d generation }
 {
-    1 + (d.0 << 4) + ((generation as u64) << 56)
+    1 + (kinds::sector_word(d) << 4) + ((generation as u64) << 56)
 }
 
 // How a piece is stored: its sectors as they are stored and in the file, and the number of its kind of compression. Refusals 6 and 9 show the bounds. No `Compression`: for C an entry of each of the sixteen numbers is made.

@@ -1,6 +1,7 @@
 pub mod Bytes
 pub mod Numbers
 pub mod Kinds
+pub mod BucketSteps
 pub mod Positions
 pub mod Order
 pub mod Fields

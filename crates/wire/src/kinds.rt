@@ -1,7 +1,7 @@
 // Bucket numbers, device sectors and file sectors, each of a kind of its own, and the only ways from one to another.
 ghost use Rattle.std.specs.Prelude.{◌≡◌, ◌+◌, ◌<◌, ◌≤◌, ◌^◌, length, drop};
 ghost use Rattle.std.specs.Int.NonZero.{non_zero_u64_get};
-ghost use Rattle.wire.specs.Kinds.{sector_at, bucket_of, offset_in, extent_end, next_bucket, bucket_in_range, run_end_in_range, run_start, began_before, buckets_up_to, bucket_read, base_in_range};
+ghost use Rattle.wire.specs.Kinds.{sector_at, bucket_of, offset_in, extent_end, next_bucket, bucket_in_range, run_end_in_range, run_start, began_before, buckets_up_to, bucket_read, base_in_range, sector_number};
 
 use crate::le;
 use std::num::NonZero;
@@ -91,6 +91,42 @@ pub fn buckets_between(start: Bucket, end: Bucket) -> u32
     (end.0 - start.0) as u32
 }
 
+// The buckets from one up to an end, the end left out: what is left of them.
+#[derive(Drop)]
+pub struct Buckets {
+    pub next: Bucket,
+    pub end: Bucket,
+}
+
+// Those from a first one on.
+pub fn buckets_up_to(start: Bucket, end: Bucket) -> Buckets
+    ensures { (result.next ≡ start) × (result.end ≡ end) }
+{
+    Buckets { next: start, end }
+}
+
+impl Iterator for Buckets {
+    ghost use Rattle.std.specs.Iterator.{at_most};
+    ghost use Rattle.std.specs.Prelude.{◌-◌};
+    ghost use Rattle.wire.specs.BucketSteps.{BucketStepped};
+
+    type Item = Bucket;
+
+    ghost next_gives = { λ before b after. BucketStepped before b after };
+
+    ghost remaining = { λ left. at_most (left.end.0 - left.next.0) };
+
+    // The next bucket, if one is left.
+    fn next(&mut self) -> Option<Bucket> {
+        let b = self.next;
+        if b.0 >= self.end.0 {
+            return None;
+        }
+        self.next = Bucket(b.0 + 1);
+        Some(b)
+    }
+}
+
 // The bucket at a place of a list. The length of a field 64 shows the bound.
 pub fn read_bucket(s: &[u8], at: usize) -> Bucket
     requires { at + 4 ≤ length s.now }
@@ -104,4 +140,11 @@ pub fn base_in_range(f: FileSector) -> bool
     ensures { result ≡ base_in_range f }
 {
     f.0 < 1 << 40
+}
+
+// A device sector as a pointer has it.
+pub fn sector_word(sector: DeviceSector) -> u64
+    ensures { result ≡ sector_number sector }
+{
+    sector.0
 }
