@@ -19,9 +19,9 @@ use Rattle.calls.specs.Freespace.{is_in, runs_of, buckets_of, free_count}
 use Rattle.calls.proofs.lists.BoolLaws.{parts as and-true}
 use Rattle.reader.specs.Checked.{end_in_range}
 use Rattle.reader.proofs.SkipLaws.{walk-on}
-use Rattle.freespace.specs.Runs.{run_in, count_below}
+use Rattle.freespace.specs.Runs.{covering_in, count_below}
 use Rattle.freespace.specs.declared.runs.Run.{Run}
-use Rattle.freespace.proofs.RunLaws.{Rising, meets, run-here, run_end, run_buckets, run-buckets, run_none}
+use Rattle.freespace.proofs.RunLaws.{Rising, meets, run-here, covering_end, run_buckets, covering-buckets, covering_none}
 
 length-those : {A : Type 0} (t : A → Bool) (x : A) (xs : List A) → length (those t (x ∷ xs)) ≡ ind (t x) + length (those t xs)
 unfolding those
@@ -155,15 +155,15 @@ module _ (bs : List Bucket) (r : Rising 0 bs) where
 abbrev free_in : List Bucket → Option Run → ℕ
 free_in bs x = length (those (λ b. not (is_in bs b)) (run_buckets x))
 
-free-cons : (bs : List Bucket) (k : Key) (ks : List Key) → free_count (is_in bs) (runs_of (k ∷ ks)) ≡ free_in bs (run_in k) + free_count (is_in bs) (runs_of ks)
+free-cons : (bs : List Bucket) (k : Key) (ks : List Key) → free_count (is_in bs) (runs_of (k ∷ ks)) ≡ free_in bs (covering_in k) + free_count (is_in bs) (runs_of ks)
 unfolding free_count runs_of those total
 free-cons bs k ks = go (is_run k) refl
   where
     go : (t : Bool) → is_run k ≡ t
         → total (λ j. length (those (λ b. not (is_in bs b)) (buckets_of j))) (cond t (k ∷ those is_run ks) (those is_run ks))
-        ≡ free_in bs (run_in k) + total (λ j. length (those (λ b. not (is_in bs b)) (buckets_of j))) (those is_run ks)
-    go true e = rw (run-buckets k e)
-    go false e = rw (run_none k e) (omega arith)
+        ≡ free_in bs (covering_in k) + total (λ j. length (those (λ b. not (is_in bs b)) (buckets_of j))) (those is_run ks)
+    go true e = rw (covering-buckets k e)
+    go false e = rw (covering_none k e) (omega arith)
 
 -- the count so far: with the free buckets of the keys that are left, it is all; and those keys are within the limits and start no run below `last`
 pub record FreeCounting (ks : List Key) (bs : List Bucket) (free j : ℕ) (rest : List Key) : Type 0 where
@@ -199,7 +199,7 @@ module _ {ks : List Key} {bs : List Bucket} {free j : ℕ} {rest : List Key} (c 
   counting-end h = omega (arith, ap (λ (l : List Key). free_count (is_in bs) (runs_of l)) h, c.sum)
 
   module _ {k : Key} {after : List Key} (f : rest ≡ k ∷ after) where
-    here : free_count (is_in bs) (runs_of rest) ≡ free_in bs (run_in k) + free_count (is_in bs) (runs_of after)
+    here : free_count (is_in bs) (runs_of rest) ≡ free_in bs (covering_in k) + free_count (is_in bs) (runs_of after)
     here = ap (λ (l : List Key). free_count (is_in bs) (runs_of l)) f ∙ free-cons bs k after
 
     met : meets c.last (k ∷ after) ≡ false
@@ -210,7 +210,7 @@ module _ {ks : List Key} {bs : List Bucket} {free j : ℕ} {rest : List Key} (c 
     ranges = and-true (end_in_range k) (all_of end_in_range after) (ap (all_of end_in_range) (sym f) ∙ c.range)
 
     -- a key that covers nothing
-    pub counting-past : run_in k ≡ None → FreeCounting ks bs free j after
+    pub counting-past : covering_in k ≡ None → FreeCounting ks bs free j after
     unfolding meets those
     counting-past e =
         record {
@@ -224,7 +224,7 @@ module _ {ks : List Key} {bs : List Bucket} {free j : ℕ} {rest : List Key} (c 
         }
 
     -- a run, with the reserved buckets below its start and its end
-    module _ (r : Rising 0 bs) {x : Run} (e : run_in k ≡ Some x) where
+    module _ (r : Rising 0 bs) {x : Run} (e : covering_in k ≡ Some x) where
       parted : (bucket_below x.start c.last ≡ false) × (meets x.end after ≡ false)
       unfolding meets
       parted = or-both (bucket_below x.start c.last) (rw e at met)
@@ -241,7 +241,7 @@ module _ {ks : List Key} {bs : List Bucket} {free j : ℕ} {rest : List Key} (c 
           let h = ordered in
           let w = free-run bs r x.start x.end (omega arith) in
           let m = count-mono x.start x.end bs (omega arith) in
-          let small = run_end k x e ranges.0 in
+          let small = covering_end k x e ranges.0 in
           record {
             order = omega arith;
             small = small;

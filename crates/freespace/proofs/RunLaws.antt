@@ -9,7 +9,7 @@ use lib.Dec.{ltb, eqb}
 use borrow.Author.Tests.{leb-true, lt-ltb, le-ltb, ltb-true, ltb-false, eqb-true, eqb-false}
 use Rattle.wire.specs.Keys.{Key}
 use Rattle.wire.specs.Order.{cmp, pos_less}
-use Rattle.wire.specs.Kinds.{bucket_below, buckets_up_to, no_bucket}
+use Rattle.wire.specs.Kinds.{bucket_below, run_end_in_range, buckets_up_to, no_bucket}
 use Rattle.wire.specs.declared.bpos.Bpos.{Bpos}
 use Rattle.wire.specs.declared.kinds.Bucket.{Bucket}
 use Rattle.wire.proofs.OrderLaws.{cmp-less, offset-more, snapshot-less}
@@ -25,7 +25,7 @@ use Rattle.calls.proofs.trees.SortedLaws.{Chain, Sorted, chain-weak, chain-sorte
 use Rattle.calls.proofs.trees.SortedLaws.{NoSnapshots}
 use Rattle.calls.proofs.lists.AllOfLaws.{any-of-fails}
 use Rattle.reader.specs.Checked.{end_in_range}
-use Rattle.freespace.specs.Runs.{run_in}
+use Rattle.freespace.specs.Runs.{run_in, covering_in}
 use Rattle.freespace.specs.declared.runs.Run.{Run}
 use Rattle.freespace.proofs.NeighbourLaws.{neighbours_from, neighbours}
 use Rattle.freespace.proofs.WalkLaws.{up-to-none}
@@ -109,7 +109,7 @@ by_run a f (Some r) = f r
 -- a run starts below the end of the last one before it
 unfoldable pub meets : Bucket → List Key → Bool
 meets last [] = false
-meets last (k ∷ ks) = by_run (meets last ks) (λ r. bucket_below r.start last || meets r.end ks) (run_in k)
+meets last (k ∷ ks) = by_run (meets last ks) (λ r. bucket_below r.start last || meets r.end ks) (covering_in k)
 
 -- a run that is not empty starts below a bucket
 abbrev starts_below : Bucket → Key → Bool
@@ -155,7 +155,7 @@ or-absorb false false y o h = refl
 pub meets-overlaps :
     (last : Bucket) (ks : List Key) → Rising last.0 (map end_of (runs_of ks))
     → meets last ks ≡ any_of (starts_below last) (runs_of ks) || overlaps (runs_of ks)
-unfolding meets runs_of those any_of overlaps run_in
+unfolding meets runs_of those any_of overlaps covering_in
 meets-overlaps last [] r = refl
 meets-overlaps last (k ∷ ks) r = go (is_run k) r (λ a s. meets-overlaps a ks s)
   where
@@ -205,35 +205,35 @@ clear-all : (rs : List Run) → neighbours apart rs ≡ clear_from no_bucket rs
 clear-all [] = refl
 clear-all (r ∷ rs) = clear-next r rs ∙ rw (le-ltb r.start.0 0 (omega arith)) refl
 
-meets-clear : (last : Bucket) (ks : List Key) → meets last ks ≡ not (clear_from last (filter_map run_in ks))
+meets-clear : (last : Bucket) (ks : List Key) → meets last ks ≡ not (clear_from last (filter_map covering_in ks))
 unfolding meets
 meets-clear last [] = refl
-meets-clear last (k ∷ ks) = go (run_in k) (λ b. meets-clear b ks)
+meets-clear last (k ∷ ks) = go (covering_in k) (λ b. meets-clear b ks)
   where
     both : (a b : Bool) → a || not b ≡ not (not a && b)
     both true b = refl
     both false b = refl
 
-    go : (x : Option Run) → ((b : Bucket) → meets b ks ≡ not (clear_from b (filter_map run_in ks)))
-        → by_run (meets last ks) (λ r. bucket_below r.start last || meets r.end ks) x ≡ not (clear_from last (cons_option x (filter_map run_in ks)))
+    go : (x : Option Run) → ((b : Bucket) → meets b ks ≡ not (clear_from b (filter_map covering_in ks)))
+        → by_run (meets last ks) (λ r. bucket_below r.start last || meets r.end ks) x ≡ not (clear_from last (cons_option x (filter_map covering_in ks)))
     go None f = f last
     go (Some r) f =
         ap (λ (b : Bool). bucket_below r.start last || b) (f r.end)
-        ∙ both (bucket_below r.start last) (clear_from r.end (filter_map run_in ks))
+        ∙ both (bucket_below r.start last) (clear_from r.end (filter_map covering_in ks))
 
 -- runs in their order overlap where one starts below the end of the one before it
-pub apart-overlaps : (ks : List Key) → Sorted ks → NoSnapshots ks → not (neighbours apart (filter_map run_in ks)) ≡ overlaps (runs_of ks)
-apart-overlaps ks c n = ap not (clear-all (filter_map run_in ks)) ∙ sym (meets-clear no_bucket ks) ∙ meets-all ks c n
+pub apart-overlaps : (ks : List Key) → Sorted ks → NoSnapshots ks → not (neighbours apart (filter_map covering_in ks)) ≡ overlaps (runs_of ks)
+apart-overlaps ks c n = ap not (clear-all (filter_map covering_in ks)) ∙ sym (meets-clear no_bucket ks) ∙ meets-all ks c n
 
--- the run that a key is
+-- the run that a key is, where it covers a bucket
 pub record RunHere (k : Key) (x : Run) : Type 0 where
   pub is : is_run k ≡ true
   pub start : x.start ≡ start_of k
   pub end : x.end ≡ end_of k
   pub some : x.start.0 < x.end.0
 
-pub run-here : (k : Key) (x : Run) → run_in k ≡ Some x → RunHere k x
-unfolding run_in
+pub run-here : (k : Key) (x : Run) → covering_in k ≡ Some x → RunHere k x
+unfolding covering_in
 run-here k x = go (is_run k) refl (bucket_below (start_of k) (end_of k)) refl
   where
     go : (t : Bool) → is_run k ≡ t → (u : Bool) → bucket_below (start_of k) (end_of k) ≡ u → run_if t u k ≡ Some x → RunHere k x
@@ -246,20 +246,39 @@ run-here k x = go (is_run k) refl (bucket_below (start_of k) (end_of k)) refl
     go false e u f h = absurd (let w : ◌≡◌ {A = ℕ} 0 1 = cc in omega arith)
 
 -- its end is within the limit of a run's
-pub run_end : (k : Key) (x : Run) → run_in k ≡ Some x → end_in_range k ≡ true → x.end.0 ≤ 65536
-run_end k x e h = let r = run-here k x e in rw r.end (leb-true k.pos.offset 65536 (end-at k h r.is))
+pub covering_end : (k : Key) (x : Run) → covering_in k ≡ Some x → end_in_range k ≡ true → x.end.0 ≤ 65536
+covering_end k x e h = let r = run-here k x e in rw r.end (leb-true k.pos.offset 65536 (end-at k h r.is))
 
 -- the buckets of a run
 abbrev pub run_buckets : Option Run → List Bucket
 run_buckets x = by_run [] (λ r. buckets_up_to r.start r.end) x
 
-pub run-buckets : (k : Key) → is_run k ≡ true → run_buckets (run_in k) ≡ buckets_of k
-unfolding run_in buckets_of
-run-buckets k e = rw e (go (bucket_below (start_of k) (end_of k)) refl)
+pub covering-buckets : (k : Key) → is_run k ≡ true → run_buckets (covering_in k) ≡ buckets_of k
+unfolding covering_in buckets_of
+covering-buckets k e = rw e (go (bucket_below (start_of k) (end_of k)) refl)
   where
     go : (u : Bool) → bucket_below (start_of k) (end_of k) ≡ u → run_buckets (run_if true u k) ≡ buckets_up_to (start_of k) (end_of k)
     go true f = refl
     go false f = sym (up-to-none (start_of k) (end_of k) (ltb-false (start_of k).0 (end_of k).0 f))
+
+pub covering_none : (k : Key) → is_run k ≡ false → covering_in k ≡ None
+unfolding covering_in
+covering_none k e = rw e
+
+-- a run, an empty one too: its end is within the limit of a run's
+pub run_end : (k : Key) (x : Run) → run_in k ≡ Some x → end_in_range k ≡ true → run_end_in_range x.end ≡ true
+unfolding run_in
+run_end k x = go (is_run k) refl
+  where
+    go : (t : Bool) → is_run k ≡ t → cond t (Some (record { start = start_of k; end = end_of k })) None ≡ Some x → end_in_range k ≡ true → run_end_in_range x.end ≡ true
+    go true e h l =
+        let r : ◌≡◌ {A = Run} (record { start = start_of k; end = end_of k }) x = cc in
+        rw (← ap (λ (y : Run). y.end) r) (end-at k l e)
+    go false e h l = absurd (let w : ◌≡◌ {A = ℕ} 0 1 = cc in omega arith)
+
+pub run-buckets : (k : Key) → is_run k ≡ true → run_buckets (run_in k) ≡ buckets_of k
+unfolding run_in buckets_of
+run-buckets k e = rw e
 
 pub run_none : (k : Key) → is_run k ≡ false → run_in k ≡ None
 unfolding run_in

@@ -7,6 +7,7 @@ use native.Mathlib.Numerals.{add-one}
 use native.Mathlib.Omega.{arith}
 use lib.ListN.{length, take, drop, length-append, length-drop}
 use lib.Seq.{length-take-le, drop-drop}
+use borrow.Author.Tests.{leb-true}
 use Rattle.std.specs.Prelude.{Option, None, Some, Result, Ok, Err}
 use Rattle.std.proofs.lemmas.Result.{IfOk-weaker}
 use Rattle.wire.specs.Keys.{Key}
@@ -174,11 +175,11 @@ module _ (R U : Bucket → Bool) (k : Key) (n : ℕ) (from : Walked) (before aft
         → WalkIs n (λ x. k ∷ []) (key_walk R U (n - from.count) k) from before after r
     key-run {M} {N} {x} f end m u r e =
         let s : pass (marked M) (marked N) (n - from.count) (buckets_up_to x.start x.end) ≡ p =
-        pass-agree (marked M) (marked N) R U m.told u.told (n - from.count) x.start x.end (run_end k x f end)
+        pass-agree (marked M) (marked N) R U m.told u.told (n - from.count) x.start x.end (leb-true x.end.0 65536 (run_end k x f end))
         ∙ sym (ap (pass_if R U k (n - from.count)) f) in
         key-walked r (rw s at e)
 
--- a key with no bucket
+-- a key that is no run
 pub key-alone :
     (R U : Bucket → Bool) (k : Key) (n : ℕ) (from : Walked) (table : List Bucket) → began_early k ≡ false → from.count ≤ n → run_in k ≡ None
     → WalkIs n (λ x. k ∷ []) (key_walk R U (n - from.count) k) from table table

@@ -12,9 +12,13 @@ use Rattle.freespace.specs.declared.runs.Run.{Run}
 unfoldable pub began_early : Key → Bool
 began_early k = is_run k && began_before (end_of k) k.size
 
--- the buckets that a key covers: none where it is no run, or an empty one
+-- the run that a key is, an empty one too: none where it is no run
 unfoldable pub run_in : Key → Option Run
-run_in k =
+run_in k = cond (is_run k) (Some (record { start = start_of k; end = end_of k })) None
+
+-- the run that a key is, where it covers a bucket: none where it is no run, or an empty one
+unfoldable pub covering_in : Key → Option Run
+covering_in k =
     cond (is_run k && bucket_below (start_of k) (end_of k)) (Some (record { start = start_of k; end = end_of k })) None
 
 -- how many of a list's buckets are below one

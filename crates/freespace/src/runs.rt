@@ -5,7 +5,7 @@ ghost use Rattle.calls.specs.Freespace.{is_in, runs_of, overlaps, free_count};
 ghost use Rattle.reader.specs.ListedKeys.{key_listed, keys_listed};
 ghost use Rattle.reader.specs.ListedBuckets.{buckets_listed};
 ghost use Rattle.reader.specs.Checked.{RunsChecked, ReservedChecked};
-ghost use Rattle.freespace.specs.Runs.{began_early, run_in, count_below};
+ghost use Rattle.freespace.specs.Runs.{began_early, run_in, covering_in, count_below};
 
 use reader::key::ListedKey;
 use reader::listed_keys::Keys;
@@ -37,14 +37,22 @@ pub fn began_early(key: ListedKey) -> bool
     is_run(key) && kinds::began_before(key.bucket(), key.size())
 }
 
-// The run that a key is: none where it is no run, or an empty one.
+// The run that a key is, an empty one too: none where it is no run.
 #[tactic(auto, unfolding(crate::specs::Runs::run_in))]
 pub fn run_of(key: ListedKey) -> Option<Run>
     ensures { result ≡ run_in (key_listed key.entry) }
 {
     let end = key.bucket();
     let start = kinds::run_start(end, key.size());
-    (is_run(key) && start < end).then_some(Run { start, end })
+    is_run(key).then_some(Run { start, end })
+}
+
+// The run that a key is, if it covers a bucket.
+#[tactic(auto, unfolding(crate::specs::Runs::run_in, crate::specs::Runs::covering_in))]
+fn covering_run(key: ListedKey) -> Option<Run>
+    ensures { result ≡ covering_in (key_listed key.entry) }
+{
+    run_of(key).filter(|run| run.start < run.end)
 }
 
 // Whether two runs overlap: one starts below the end of the last before it that is not empty. Refusals 2, 22 and 3 show what is asked.
@@ -55,7 +63,7 @@ pub fn overlaps(runs: Keys) -> bool
 {
     !runs
         .iter()
-        .filter_map(|key| run_of(key))
+        .filter_map(|key| covering_run(key))
         .is_sorted_by(|a, b| a.end <= b.start)
 }
 
@@ -76,7 +84,7 @@ pub fn free_count(runs: Keys, reserved: ReservedBuckets) -> u64
     let mut free: u64 = 0;
     let mut below: usize = 0;
     for key in runs.iter() {
-        if let Some(run) = run_of(key) {
+        if let Some(run) = covering_run(key) {
             let from = reserved_below(reserved, below, run.start);
             below = reserved_below(reserved, from, run.end);
             free += kinds::buckets_between(run.start, run.end) as u64 - (below - from) as u64;

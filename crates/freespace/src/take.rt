@@ -1,6 +1,6 @@
 // The walk over the runs of free buckets: refusals 12 and 13, the buckets taken and the keys queued.
-ghost use Rattle.std.specs.Prelude.{◌≡◌, [], ◌∷◌, ◌-◌, ◌≤◌, ◌<◌, ◌^◌, length, take};
-ghost use Rattle.wire.specs.Kinds.{buckets_up_to};
+ghost use Rattle.std.specs.Prelude.{◌≡◌, true, [], ◌∷◌, ◌-◌, ◌≤◌, ◌<◌, ◌^◌, length, take};
+ghost use Rattle.wire.specs.Kinds.{run_end_in_range, buckets_up_to};
 ghost use Rattle.calls.specs.Freespace.{is_in, is_used, runs_of, pass, walk};
 ghost use Rattle.reader.specs.ListedKeys.{key_listed, keys_listed};
 ghost use Rattle.reader.specs.ListedBuckets.{buckets_listed};
@@ -58,12 +58,11 @@ impl Walked {
 impl<'a> Walker<'a> {
     // Walks a run until all buckets are taken: refusal 13 where one of them is used. `walk_key` shows what is asked.
     fn walk_run(&self, run: Run, before: Walked, taken: &mut [Bucket]) -> Result<Walked, Refusal>
-        requires { (run.end.0 ≤ 65536) × (before.count ≤ self.now.wanted) × (self.now.wanted ≤ length taken.old) × (before.passed < 2 ^ 63) }
+        requires { (run_end_in_range run.end ≡ true) × (before.count ≤ self.now.wanted) × (self.now.wanted ≤ length taken.old) × (before.passed < 2 ^ 63) }
         ensures { WalkEnded (pass (marked self.now.reserved.now) (marked self.now.used.now) (self.now.wanted - before.count) (buckets_up_to run.start run.end)) before taken.old taken.new result }
     {
         let mut walked = before.past_key();
-        for number in run.start.0..run.end.0 {
-            let b = Bucket(number);
+        for b in kinds::buckets_up_to(run.start, run.end) {
             if walked.count == self.wanted {
                 walked.left = kinds::buckets_between(b, run.end);
                 return Ok(walked);

@@ -13,36 +13,36 @@ loop-key-init c =
 
 pub reserved_below-from-requires : goal.reserved_below-from-requires
 reserved_below-from-requires c =
-    let q = counting-on c.loop-key.invariant c.in-Some.ensures.steps.keys (rising _ c.requires.1.order) (sym c.run_of.ensures ∙ c.in-Some-run_of.is) in
+    let q = counting-on c.loop-key.invariant c.in-Some.ensures.steps.keys (rising _ c.requires.1.order) (sym c.covering_run.ensures ∙ c.in-Some-covering_run.is) in
     (c.requires.1, q.start)
 
 pub reserved_below-below-requires : goal.reserved_below-below-requires
 reserved_below-below-requires c =
-    let q = counting-on c.loop-key.invariant c.in-Some.ensures.steps.keys (rising _ c.requires.1.order) (sym c.run_of.ensures ∙ c.in-Some-run_of.is) in
+    let q = counting-on c.loop-key.invariant c.in-Some.ensures.steps.keys (rising _ c.requires.1.order) (sym c.covering_run.ensures ∙ c.in-Some-covering_run.is) in
     (c.requires.1, omega (arith, c.reserved_below-from.ensures, q.end))
 
 pub buckets_between-requires : goal.buckets_between-requires
 buckets_between-requires c =
-    let q = counting-on c.loop-key.invariant c.in-Some.ensures.steps.keys (rising _ c.requires.1.order) (sym c.run_of.ensures ∙ c.in-Some-run_of.is) in
+    let q = counting-on c.loop-key.invariant c.in-Some.ensures.steps.keys (rising _ c.requires.1.order) (sym c.covering_run.ensures ∙ c.in-Some-covering_run.is) in
     (q.order, q.small)
 
 pub overflow_sub-free : goal.overflow_sub-free
 overflow_sub-free c =
-    let q = counting-on c.loop-key.invariant c.in-Some.ensures.steps.keys (rising _ c.requires.1.order) (sym c.run_of.ensures ∙ c.in-Some-run_of.is) in
+    let q = counting-on c.loop-key.invariant c.in-Some.ensures.steps.keys (rising _ c.requires.1.order) (sym c.covering_run.ensures ∙ c.in-Some-covering_run.is) in
     omega (arith, q.end)
 
-pub overflow_sub-free-in-Some-run_of : goal.overflow_sub-free-in-Some-run_of
-overflow_sub-free-in-Some-run_of c =
-    let q = counting-on c.loop-key.invariant c.in-Some.ensures.steps.keys (rising _ c.requires.1.order) (sym c.run_of.ensures ∙ c.in-Some-run_of.is) in
+pub overflow_sub-free-in-Some-covering_run : goal.overflow_sub-free-in-Some-covering_run
+overflow_sub-free-in-Some-covering_run c =
+    let q = counting-on c.loop-key.invariant c.in-Some.ensures.steps.keys (rising _ c.requires.1.order) (sym c.covering_run.ensures ∙ c.in-Some-covering_run.is) in
     omega (arith, from-length, q.fits)
 
-pub loop-key-preserved-in-Some-run_of : goal.loop-key-preserved-in-Some-run_of
-loop-key-preserved-in-Some-run_of c =
-    let q = counting-on c.loop-key.invariant c.in-Some.ensures.steps.keys (rising _ c.requires.1.order) (sym c.run_of.ensures ∙ c.in-Some-run_of.is) in
+pub loop-key-preserved-in-Some-covering_run : goal.loop-key-preserved-in-Some-covering_run
+loop-key-preserved-in-Some-covering_run c =
+    let q = counting-on c.loop-key.invariant c.in-Some.ensures.steps.keys (rising _ c.requires.1.order) (sym c.covering_run.ensures ∙ c.in-Some-covering_run.is) in
     q.on _ _ (omega (arith, from-length, c.buckets_between.ensures)) (omega arith)
 
 pub loop-key-preserved : goal.loop-key-preserved
-loop-key-preserved c = counting-past c.loop-key.invariant c.in-Some.ensures.steps.keys (sym c.run_of.ensures ∙ c.in_default.is)
+loop-key-preserved c = counting-past c.loop-key.invariant c.in-Some.ensures.steps.keys (sym c.covering_run.ensures ∙ c.in_default.is)
 
 pub returns : goal.returns
 returns c = counting-end c.loop-key.invariant c.in-None.ensures.steps

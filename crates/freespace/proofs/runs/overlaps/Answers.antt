@@ -6,7 +6,7 @@ use Rattle.std.specs.List.{filter_map}
 use lib.ListN.{length}
 use Rattle.calls.proofs.trees.SortedLaws.{keys-order}
 use Rattle.reader.specs.ListedKeys.{KeyStepped, key_listed, keys_listed, keys_left}
-use Rattle.freespace.specs.Runs.{run_in}
+use Rattle.freespace.specs.Runs.{covering_in}
 use Rattle.freespace.proofs.NeighbourLaws.{neighbours-checked}
 use Rattle.freespace.proofs.RunLaws.{apart, apart-overlaps, starts-after}
 use Rattle.freespace.proofs.runs.overlaps.Goals as goal
@@ -20,6 +20,6 @@ returns c =
     (YieldsList-from_shown KeyStepped key_listed keys_left (λ t u h. ap length h) (λ t x u h. h.keys) c.iter.result) in
     let keys : YieldsList KeyStepped key_listed (filter_map_source c.filter_map.result) ks =
     subst (λ s. YieldsList KeyStepped key_listed s ks) (sym c.filter_map.ensures.source) first in
-    ap not (neighbours-checked _ _ apart _ (λ x y b q k. search (rules, starts-after)) (filter_map run_in ks) c.is_sorted_by.ensures.ran
-    (YieldsList-from_filter_map _ run_in keys c.filter_map.ensures.closure (λ x r q k. search (rules, of_calls))))
+    ap not (neighbours-checked _ _ apart _ (λ x y b q k. search (rules, starts-after)) (filter_map covering_in ks) c.is_sorted_by.ensures.ran
+    (YieldsList-from_filter_map _ covering_in keys c.filter_map.ensures.closure (λ x r q k. search (rules, of_calls))))
     ∙ apart-overlaps ks o.0 o.1
