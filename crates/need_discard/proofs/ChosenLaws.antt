@@ -2,7 +2,7 @@
 use Prim.Native.Nat.{ℕ, ◌+◌, ◌≤◌, ◌<◌}
 use mathlib.Core.Path.{◌≡◌, refl, sym, ap, ◌∙◌, subst}
 use mathlib.Core.Bool.{true, false, ◌&&◌}
-use mathlib.Core.List.{List, [], ◌∷◌, ◌++◌, append-nil, map-append}
+use mathlib.Core.List.{List, [], ◌∷◌, ◌++◌, append-nil}
 use native.Mathlib.Omega.{arith}
 use native.Mathlib.Numerals.{add-one}
 use lib.Dec.{leb, eqb}
@@ -11,71 +11,77 @@ use lib.Seq.{take-suc-set, append_snoc}
 use borrow.Author.Tests.{eqb-true, leb-true}
 use Rattle.wire.specs.Bytes.{All, none, more}
 use Rattle.wire.specs.Keys.{Key}
-use Rattle.calls.specs.Lists.{those}
 use Rattle.calls.specs.Limits.{at_inode0}
 use Rattle.calls.specs.Discard.{is_discarded}
 use Rattle.calls.proofs.lists.BoolLaws.{parts}
 use Rattle.calls.proofs.lists.AllLaws.{first, all_tail, all-nth, all-imp, all-chosen}
 use Rattle.wire.proofs.NumberLaws.{all_append}
-use Rattle.calls.proofs.lists.ThoseLaws.{those-length}
+use Rattle.calls.proofs.lists.ThoseLaws.{those-hit, those-miss, those-none, those-length, those-map}
 use Rattle.reader.specs.KeyHere.{key_here, keys_here, Whole, WholeKeys}
 use Rattle.need_discard.specs.Kept.{AllocKept, DiscardedKept}
-use Rattle.need_discard.specs.Chosen.{need_trees, discarded_from}
+use Rattle.need_discard.specs.Chosen.{need_trees, discarded_from, places_discarded}
 
--- the walk on its way: the first places of the room are those of keys that are discarded, and those that are left to be looked at tell the rest
-pub record Choosing (s : List ℕ) (needs all left : List Key) (room : List ℕ) (n : ℕ) : Type 0 where
+-- the walk on its way: the first places of the room are those of keys that are discarded, and with those of the places that are left they are all
+pub record Choosing (s : List ℕ) (needs : List Key) (all left room : List ℕ) (n : ℕ) : Type 0 where
   pub fits : n + length left ≤ length room
   pub whole : All (Whole s) (take n room)
-  pub chosen : keys_here s (take n room) ++ discarded_from needs left ≡ discarded_from needs all
-  pub kept : All AllocKept left
+  pub chosen : take n room ++ places_discarded needs s left ≡ places_discarded needs s all
+  pub kept : All AllocKept (keys_here s left)
 
-pub choosing-start : (s : List ℕ) (needs : List Key) {room : List ℕ} {ks : List Key} → All AllocKept ks → length ks ≤ length room → Choosing s needs ks ks room 0
+pub choosing-start : (s : List ℕ) (needs : List Key) {room places : List ℕ} → All AllocKept (keys_here s places) → length places ≤ length room
+    → Choosing s needs places places room 0
 choosing-start s needs a l = record { fits = omega (arith, l); whole = none; chosen = refl; kept = a }
 
--- the next key, whose body starts at a place
-module _ {s : List ℕ} {needs all left rest : List Key} {k : Key} {room : List ℕ} {n : ℕ} (e : left ≡ k ∷ rest) (c : Choosing s needs all left room n) where
-  kept_here : All AllocKept (k ∷ rest)
-  kept_here = subst (All AllocKept) e c.kept
+-- the next key, at a place
+module _ {s : List ℕ} {needs : List Key} {all left rest : List ℕ} {at : ℕ} {room : List ℕ} {n : ℕ} (e : left ≡ at ∷ rest)
+    (c : Choosing s needs all left room n) where
+  kept_here : All AllocKept (key_here s at ∷ keys_here s rest)
+  kept_here = subst (λ l. All AllocKept (keys_here s l)) e c.kept
 
-  pub next-kept : AllocKept k
+  pub next-kept : AllocKept (key_here s at)
   next-kept = first kept_here
 
   pub next-fits : n < length room
   next-fits = omega (arith, c.fits, ap length e)
 
-  pub choosing-more : (at : ℕ) → Whole s at → key_here s at ≡ k → is_discarded (need_trees needs) k ≡ true → Choosing s needs all rest (set room n at) (n + 1)
-  unfolding those
-  choosing-more at w h t =
+  pub choosing-more : Whole s at → is_discarded (need_trees needs) (key_here s at) ≡ true → Choosing s needs all rest (set room n at) (n + 1)
+  choosing-more w t =
       let front : take (n + 1) (set room n at) ≡ take n room ++ at ∷ [] = rw add-one (take-suc-set room n at next-fits) in
       record {
         fits = omega (arith, c.fits, ap length e, length-set room n at);
         whole = subst (All (Whole s)) (sym front) (all_append c.whole (more w none));
         chosen =
-            ap (λ (l : List ℕ). keys_here s l ++ discarded_from needs rest) front
-            ∙ ap (λ (l : List Key). l ++ discarded_from needs rest) (map-append (key_here s) (take n room) (at ∷ []))
-            ∙ append_snoc (keys_here s (take n room)) (key_here s at) (discarded_from needs rest)
-            ∙ ap (λ (l : List Key). keys_here s (take n room) ++ l) (rw (h, e, t) refl) ∙ c.chosen;
+            ap (λ (l : List ℕ). l ++ places_discarded needs s rest) front
+            ∙ append_snoc (take n room) at (places_discarded needs s rest)
+            ∙ ap (λ (l : List ℕ). take n room ++ l) (sym (those-hit _ e t))
+            ∙ c.chosen;
         kept = all_tail kept_here;
       }
 
-  pub choosing-same : is_discarded (need_trees needs) k ≡ false → Choosing s needs all rest room n
-  unfolding those
+  pub choosing-same : is_discarded (need_trees needs) (key_here s at) ≡ false → Choosing s needs all rest room n
   choosing-same t =
       record {
         fits = omega (arith, c.fits, ap length e);
         whole = c.whole;
-        chosen = ap (λ (l : List Key). keys_here s (take n room) ++ l) (rw (e, t) refl) ∙ c.chosen;
+        chosen = ap (λ (l : List ℕ). take n room ++ l) (sym (those-miss _ e t)) ∙ c.chosen;
         kept = all_tail kept_here;
       }
 
+-- no key is left, and so no place
+no-place : (s left : List ℕ) → keys_here s left ≡ [] → left ≡ []
+no-place s [] e = refl
+no-place s (x ∷ xs) e = absurd (omega (arith, ap length e))
+
 -- all are chosen
-module _ {s : List ℕ} {needs all left : List Key} {room : List ℕ} {n : ℕ} (e : left ≡ []) (c : Choosing s needs all left room n) where
+module _ {s : List ℕ} {needs : List Key} {all left room : List ℕ} {n : ℕ} (e : keys_here s left ≡ []) (c : Choosing s needs all left room n) where
   pub chosen-whole : WholeKeys s (take n room)
   chosen-whole = record { at = all-nth 0 c.whole }
 
-  pub chosen-all : keys_here s (take n room) ≡ discarded_from needs all
-  unfolding those
-  chosen-all = sym (append-nil (keys_here s (take n room))) ∙ ap (λ (l : List Key). keys_here s (take n room) ++ l) (sym (rw e refl)) ∙ c.chosen
+  pub chosen-places : take n room ≡ places_discarded needs s all
+  chosen-places = sym (append-nil (take n room)) ∙ ap (λ (l : List ℕ). take n room ++ l) (sym (those-none _ (no-place s left e))) ∙ c.chosen
+
+  pub chosen-all : keys_here s (take n room) ≡ discarded_from needs (keys_here s all)
+  chosen-all = ap (keys_here s) chosen-places ∙ sym (those-map (is_discarded (need_trees needs)) (key_here s) all)
 
 -- what is chosen is what the batches want of it
 pub discarded-kept : (needs : List Key) {alloc : List Key} → All AllocKept alloc → All DiscardedKept (discarded_from needs alloc)

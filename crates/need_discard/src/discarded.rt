@@ -4,7 +4,7 @@ ghost use Rattle.wire.specs.Bytes.{All};
 ghost use Rattle.calls.specs.Discard.{gen_taken, is_discarded};
 ghost use Rattle.reader.specs.ListedKeys.{key_listed, keys_listed};
 ghost use Rattle.need_discard.specs.Kept.{AllocKept};
-ghost use Rattle.need_discard.specs.Chosen.{need_trees, is_value_taken, discarded_from};
+ghost use Rattle.need_discard.specs.Chosen.{need_trees, is_value_taken, discarded_from, places_discarded};
 
 use crate::waiting::Waiting;
 use format::alloc;
@@ -49,7 +49,8 @@ fn is_discarded(key: &ListedKey, waiting: &Waiting) -> bool
 // The alloc keys that are discarded, with their places in the front of a room for those of all. The limits show the bound.
 pub fn discarded_keys<'a>(room: &'a mut [u32], alloc: Keys<'a>, waiting: &Waiting) -> Keys<'a>
     requires { All AllocKept (keys_listed alloc) × (length alloc.places.now ≤ length room.old) }
-    ensures { keys_listed result ≡ discarded_from waiting.now (keys_listed alloc.entry) }
+    ensures keys { keys_listed result ≡ discarded_from waiting.now (keys_listed alloc.entry) }
+    ensures places { (result.list.now ≡ alloc.entry.list.now) × (result.places.now ≡ places_discarded waiting.now alloc.entry.list.now alloc.entry.places.now) }
 {
     // No heap: the room is the caller's slice, of any length, and n counts its front. No `ArrayVec`: what is answered are `Keys`, which hold a slice that is lent.
     let mut n: usize = 0;
