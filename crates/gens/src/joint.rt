@@ -17,7 +17,7 @@ use reader::listed_keys::Keys;
 use wire::kinds::Bucket;
 use wire::{bpos, positions};
 
-// A number that names a bucket: one of 32 bits, or the bucket's own. A table of such numbers is read as the buckets that they name.
+// A number that names a bucket: one of 32 or 64 bits, or the bucket's own. A table of such numbers is read as the buckets that they name.
 pub trait BucketNumber: Copy {
     ghost named: { Self → Bucket };
 
@@ -39,6 +39,18 @@ impl BucketNumber for u32 {
 
     fn bucket(self) -> Bucket {
         Bucket(self as u64)
+    }
+}
+
+impl BucketNumber for u64 {
+    ghost named = { bucket_is };
+
+    ghost buckets_in = { buckets_in };
+
+    ghost each_named = { each_named };
+
+    fn bucket(self) -> Bucket {
+        Bucket(self)
     }
 }
 
