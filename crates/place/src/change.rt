@@ -4,8 +4,10 @@ ghost use Rattle.wire.specs.Encode.{encode, encode_field};
 ghost use Rattle.wire.specs.Output.{with_bytes};
 ghost use Rattle.calls.specs.ChangeList.{taken_field, sectors_field, change_bytes};
 ghost use Rattle.calls.specs.Place.{root_missing, roots_if};
+ghost use Rattle.calls.specs.Answers.{read_call};
+ghost use Rattle.accounting.specs.Tally.{Tallied};
 ghost use Rattle.change_fields.specs.FieldBytes.{roots_bytes};
-ghost use Rattle.place.specs.Change.{placement, key_fields, other_fields};
+ghost use Rattle.place.specs.Change.{placement, root_is_wanted, key_fields, other_fields};
 ghost use Rattle.place.specs.Prepared.{Prepared, prepared-prop};
 
 use accounting::placement as rows;
@@ -13,6 +15,7 @@ use accounting::tally::Tallies;
 use change_fields::{batch_end, root_fields};
 use freespace::take::Walked;
 use place_keys::dirty::DirtyPlan;
+use place_keys::plan::Plan;
 use place_keys::{allocs, backpointers, extents, lru, queue, spots};
 use reader::answer::Emit;
 use reader::listed_keys::Keys;
@@ -33,9 +36,10 @@ pub struct ChangeList<'a> {
 }
 
 impl<'a> ChangeList<'a> {
-    // The keys of all trees, and the LRU root where they want it.
-    fn put_keys(&self, out: &mut Output)
-        ensures { out.new ≡ with_bytes out.old (encode (key_fields (placement self.now.counted.plan.now.list.now))) }
+    // The keys of all trees, and whether the LRU root is wanted.
+    pub fn put_keys(&self, out: &mut Output) -> bool
+        ensures keys { out.new ≡ with_bytes out.old (encode (key_fields (placement self.now.counted.plan.now.list.now))) }
+        ensures root { result ≡ root_is_wanted self.now.counted.plan.now.list.now }
     {
         let plan = self.counted.plan;
         extents::put_extents(out, plan);
@@ -43,25 +47,7 @@ impl<'a> ChangeList<'a> {
         let root_wanted = lru::put_lrus(out, &self.counted);
         queue::put_queue(out, &self.runs, self.walked);
         backpointers::put_backpointers(out, plan);
-        put_lru_root(out, root_wanted, plan.head.roots);
-    }
-
-    // What follows them: buckets taken, spots, rows, file sectors and the end.
-    fn put_others(&self, out: &mut Output)
-        ensures { out.new ≡ with_bytes out.old (encode (other_fields (placement self.now.counted.plan.now.list.now))) }
-    {
-        let plan = self.counted.plan;
-        put_taken(out, plan.taken);
-        spots::put_spots(out, plan);
-        rows::put_rows(
-            out,
-            plan.taken.len() as u64,
-            &self.tallies,
-            plan.head,
-            plan.option,
-        );
-        put_sectors(out, self.tallies.all.file);
-        batch_end::put_end(out);
+        root_wanted
     }
 }
 
@@ -70,9 +56,29 @@ impl<'a> Emit for ChangeList<'a> {
     ghost bytes = { λ l. change_bytes (placement l.counted.plan.now.list.now ∷ []) };
 
     fn emit(&self, out: &mut Output) {
-        self.put_keys(out);
-        self.put_others(out);
+        let root_wanted = self.put_keys(out);
+        put_others(out, self.counted.plan, &self.tallies, root_wanted);
     }
+}
+
+// What follows the keys: root, buckets taken, spots, rows, file sectors and the end.
+// `put_keys` answers whether the root is wanted, and `tally_pieces` shows what is asked of the tallies.
+pub fn put_others(out: &mut Output, plan: &Plan, tallies: &Tallies, root_wanted: bool)
+    requires { Tallied (read_call plan.now.list.now).pieces tallies.now × (root_wanted ≡ root_is_wanted plan.now.list.now) }
+    ensures { out.new ≡ with_bytes out.old (encode (other_fields (placement plan.now.list.now))) }
+{
+    put_lru_root(out, root_wanted, plan.head.roots);
+    put_taken(out, plan.taken);
+    spots::put_spots(out, plan);
+    rows::put_rows(
+        out,
+        plan.taken.len() as u64,
+        tallies,
+        plan.head,
+        plan.option,
+    );
+    put_sectors(out, tallies.all.file);
+    batch_end::put_end(out);
 }
 
 // Field 70: the LRU root, where it is wanted and does not exist.
