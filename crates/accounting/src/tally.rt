@@ -25,6 +25,14 @@ pub struct Tallies {
     pub kinds: [Tally; 4],
 }
 
+// No piece yet.
+#[tactic(auto, unfolding(calls::specs::Lists::total))]
+pub fn none() -> Tally
+    ensures { result ≡ tally_of [] }
+{
+    Tally::default()
+}
+
 impl Tally {
     // One piece more. The limit on requests shows the bound.
     pub fn add(&mut self, p: Piece)
@@ -70,7 +78,10 @@ pub fn tally_pieces(pieces: &Pieces) -> Tallies
     requires { length (pieces_of pieces.now) ≤ 1024 }
     ensures { Tallied (pieces_of pieces.now) result }
 {
-    let mut tallies = Tallies::default();
+    let mut tallies = Tallies {
+        all: none(),
+        kinds: [none(); 4],
+    };
     for p in pieces.iter() {
         tallies.add(p);
     }

@@ -1,12 +1,11 @@
-use Rattle.std.proofs.Common.{arith, ap, ◌∙◌, []}
+use Rattle.std.proofs.Common.{arith, ap, ◌∙◌}
 use Rattle.reader.specs.Pieces.{piece_in}
 use Rattle.reader.specs.PieceLists.{pieces_of, pieces_left}
-use Rattle.accounting.specs.Tally.{tally_of}
-use Rattle.accounting.proofs.TallyLaws.{zero-tallies, tallied-first, tallied-few, tallied-next, tallied-end}
+use Rattle.accounting.proofs.TallyLaws.{none-tallied, tallied-first, tallied-few, tallied-next, tallied-end}
 use Rattle.accounting.proofs.tally.tally_pieces.Goals as goal
 
 pub loop-p-init : goal.loop-p-init
-loop-p-init c = tallied-first (let d = c.default-tallies.ensures in zero-tallies d.0 d.1.long (λ i h. d.1.at i (tally_of []) h)) (ap pieces_left c.into_iter-p-iterator.ensures.into_iter_gives ∙ ap pieces_of c.iter-p-items.ensures)
+loop-p-init c = tallied-first (none-tallied c.none.ensures c.none-2.ensures) (ap pieces_left c.into_iter-p-iterator.ensures.into_iter_gives ∙ ap pieces_of c.iter-p-items.ensures)
 
 pub add-requires : goal.add-requires
 add-requires c = tallied-few c.loop-p.invariant c.in-Some.ensures.steps c.requires
