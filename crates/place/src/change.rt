@@ -44,7 +44,7 @@ impl<'a> ChangeList<'a> {
         let plan = self.counted.plan;
         extents::put_extents(out, plan);
         allocs::put_allocs(out, &self.counted, self.clock);
-        let root_wanted = lru::put_lrus(out, &self.counted);
+        let root_wanted = lru::put_lrus(out, plan.taken, self.counted.dirty, plan.sectors);
         queue::put_queue(out, &self.runs, self.walked);
         backpointers::put_backpointers(out, plan);
         root_wanted

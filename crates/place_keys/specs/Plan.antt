@@ -76,3 +76,8 @@ pub record PieceStepped (s : List ℕ) (i : ℕ) (end : FileSector) (r : Placed)
 pub record Dirty (ps : List calls.Placed) (buckets : List Bucket) (counts : List ℕ) : Type 0 where
   pub long : length buckets ≤ length counts
   pub at : (i : ℕ) → i < length buckets → get_or counts i 0 ≡ dirty_in ps (bucket_at no_bucket buckets i)
+
+-- those of some placed pieces
+pub record DirtyKnown (buckets : List Bucket) (counts : List ℕ) : Type 0 where
+  pub placed : List calls.Placed
+  pub dirty : Dirty placed buckets counts

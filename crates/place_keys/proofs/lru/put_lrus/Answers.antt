@@ -9,8 +9,7 @@ use Rattle.wire.specs.declared.kinds.Bucket.{Bucket}
 use Rattle.wire.specs.Output.{with_bytes}
 use Rattle.wire.proofs.OutputLaws.{drop-next}
 use Rattle.calls.specs.Lru.{part_filled, lru_keys, lru_wanted}
-use Rattle.calls.specs.Place.{placed_of, dirty_in}
-use Rattle.calls.specs.Answers.{read_call}
+use Rattle.calls.specs.Place.{dirty_in}
 use Rattle.change_fields.specs.FieldBytes.{keys_bytes}
 use Rattle.change_fields.proofs.FieldLists.{flat-next, flat-none}
 use Rattle.place_keys.proofs.StepLaws.{bucket-at}
@@ -20,20 +19,18 @@ use Rattle.place_keys.proofs.ZipLaws.{pair-turn, two-slices}
 use Rattle.place_keys.proofs.lru.put_lrus.Goals as goal
 
 pub loop-b-preserved : goal.loop-b-preserved
-loop-b-preserved c =
+loop-b-preserved c = λ ps d.
     let i = length c.loop-b.yielded in
-    let bs = c.args.counted.now.plan.now.taken.now in
-    let n = non_zero_u64_get c.args.counted.now.plan.now.sectors in
+    let bs = c.args.taken.now in
+    let n = non_zero_u64_get c.args.sectors in
     let b = get_or bs i no_bucket in
-    let ds = c.args.counted.now.dirty.now in
+    let ds = c.args.dirty.now in
     let chain = two-slices bs ds c.into_iter-b-iterator.ensures.into_iter_gives c.zip-b-items.ensures.first c.iter.ensures.rest c.zip-b-items.ensures.second.0 in
     let turn = pair-turn bs ds chain c.loop-b.yielded c.loop-b.b-iterator c.loop-b.yielded_by c.next.result c.next.new.self _ c.in-Some.is c.next.ensures.steps in
     let next = drop-next no_bucket bs i turn.0 in
     let more : length (c.loop-b.yielded ++ (c.in-Some.b, c.in-Some.stored) ∷ []) ≡ i + 1 = length-append c.loop-b.yielded _ in
-    let ps = placed_of (read_call c.args.counted.now.plan.now.list.now) in
-    let d = c.args.counted.now.counted in
     let e : c.in-Some.stored.now ≡ dirty_in ps b = turn.3 0 ∙ d.at i turn.0 ∙ ap (dirty_in ps) (sym (bucket-at bs i)) in
-    let q = c.loop-b.invariant in
+    let q = c.loop-b.invariant ps d in
     rw more (
       run-put c.loop-b.out _ _ (flat-next (key_field 10) (λ a. lru_keys n a (dirty_in ps a)) next)
           (c.put_lru-root_wanted.ensures.0 ∙ ap (λ (y : Bucket). with_bytes c.loop-b.out (keys_bytes 10 (lru_keys n y c.in-Some.stored.now))) (turn.2 no_bucket) ∙ ap (λ (z : ℕ). with_bytes c.loop-b.out (keys_bytes 10 (lru_keys n b z))) e)
@@ -44,23 +41,19 @@ loop-b-preserved c =
 
 -- where the loop ends, no bucket is left
 pub returns-clause-keys : goal.returns-clause-keys
-returns-clause-keys c =
-    let plan = c.args.counted.now.plan.now in
-    let bs = plan.taken.now in
-    let ds = c.args.counted.now.dirty.now in
+returns-clause-keys c = λ ps d.
+    let bs = c.args.taken.now in
+    let ds = c.args.dirty.now in
     let chain = two-slices bs ds c.into_iter-b-iterator.ensures.into_iter_gives c.zip-b-items.ensures.first c.iter.ensures.rest c.zip-b-items.ensures.second.0 in
     let end = YieldsList-end chain c.loop-b.yielded c.loop-b.b-iterator c.loop-b.yielded_by c.next.result c.next.new.self c.in-None.is c.next.ensures.steps in
-    let none = drop_of_length-le bs {i = length c.loop-b.yielded} (omega (arith, end.1, length-zip bs ds, c.args.counted.now.counted.long)) in
-    let e : non_zero_u64_get c.args.counted.now.plan.now.sectors ≡ plan.head.bucket_sectors = plan.sized in
-    rw e at (sym (all-put c.loop-b.out (flat-none (key_field 10) (λ b. lru_keys (non_zero_u64_get c.args.counted.now.plan.now.sectors) b (dirty_in (placed_of (read_call plan.list.now)) b)) none)) ∙ c.loop-b.invariant.0)
+    let none = drop_of_length-le bs {i = length c.loop-b.yielded} (omega (arith, end.1, length-zip bs ds, d.long)) in
+    sym (all-put c.loop-b.out (flat-none (key_field 10) (λ b. lru_keys (non_zero_u64_get c.args.sectors) b (dirty_in ps b)) none)) ∙ (c.loop-b.invariant ps d).0
 
 pub returns-clause-root : goal.returns-clause-root
-returns-clause-root c =
-    let plan = c.args.counted.now.plan.now in
-    let bs = plan.taken.now in
-    let ds = c.args.counted.now.dirty.now in
+returns-clause-root c = λ ps d.
+    let bs = c.args.taken.now in
+    let ds = c.args.dirty.now in
     let chain = two-slices bs ds c.into_iter-b-iterator.ensures.into_iter_gives c.zip-b-items.ensures.first c.iter.ensures.rest c.zip-b-items.ensures.second.0 in
     let end = YieldsList-end chain c.loop-b.yielded c.loop-b.b-iterator c.loop-b.yielded_by c.next.result c.next.new.self c.in-None.is c.next.ensures.steps in
-    let none = drop_of_length-le bs {i = length c.loop-b.yielded} (omega (arith, end.1, length-zip bs ds, c.args.counted.now.counted.long)) in
-    let e : non_zero_u64_get c.args.counted.now.plan.now.sectors ≡ plan.head.bucket_sectors = plan.sized in
-    rw e at (wanted-none (non_zero_u64_get c.args.counted.now.plan.now.sectors) (dirty_in (placed_of (read_call plan.list.now))) c.loop-b.root_wanted none c.loop-b.invariant.1)
+    let none = drop_of_length-le bs {i = length c.loop-b.yielded} (omega (arith, end.1, length-zip bs ds, d.long)) in
+    wanted-none (non_zero_u64_get c.args.sectors) (dirty_in ps) c.loop-b.root_wanted none (c.loop-b.invariant ps d).1
