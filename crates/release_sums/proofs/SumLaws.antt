@@ -103,6 +103,14 @@ module _ {sums : List ℕ} {marks : List Bool} (m : Marked sums marks) (k : ℕ)
       go b h e true u = absurd (clash group-marked (ap (λ (i : ℕ). get_or (set marks (k / 64) true) i false) (sym (eqb-true (b.0 / 64) (k / 64) u)) ∙ e))
       go b h e false u = m.zero b h (sym (get_or-set_other marks (k / 64) (b.0 / 64) true false (eqb-false (b.0 / 64) (k / 64) u)) ∙ e)
 
+-- a bucket whose sum is not 0 is in a group that is marked
+pub marked-sum : {sums : List ℕ} {marks : List Bool} → Marked sums marks → (k : ℕ) → k < 65536 → 0 < get_or sums k 0 → get_or marks (k / 64) false ≡ true
+marked-sum {sums} {marks} m k h p = go (get_or marks (k / 64) false) refl
+  where
+    go : (t : Bool) → get_or marks (k / 64) false ≡ t → get_or marks (k / 64) false ≡ true
+    go true e = e
+    go false e = absurd (omega (arith, m.zero (bucket k) (lt-ltb k 65536 h) e))
+
 -- a bucket's sum changes in a group that is marked
 pub marked-set : {sums : List ℕ} {marks : List Bool} → Marked sums marks → (k x : ℕ) → get_or marks (k / 64) false ≡ true → Marked (set sums k x) marks
 marked-set {sums} {marks} m k x l = record { groups = m.groups; zero = λ b h e. go b.0 h e (eqb b.0 k) refl }

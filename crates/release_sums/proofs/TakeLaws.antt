@@ -5,15 +5,18 @@ use Prim.Native.Nat.{ℕ, zero, suc, ◌+◌, ◌-◌, ◌*◌, ◌/◌, ◌≤�
 use native.Mathlib.Nat.{add-zero}
 use native.Mathlib.Omega.{arith}
 use mathlib.Core.List.{List, [], ◌∷◌, ◌++◌, map}
-use lib.ListN.{length, get_or, set, take, replicate, replicate-append-replicate}
+use lib.ListN.{length, get_or, set, take, drop, replicate, replicate-append-replicate, length-drop}
 use lib.Seq.{get_or-set_other}
-use lib.Dec.{ltb}
-use borrow.Author.Tests.{lt-ltb, le-ltb}
-use Rattle.std.proofs.lemmas.List.{take_more, take_more_set}
+use lib.Dec.{eqb, ltb}
+use borrow.Author.Tests.{lt-ltb, le-ltb, ltb-true, ltb-false, eqb-true, eqb-false}
+use Rattle.std.specs.List.{prefix_len}
+use Rattle.std.proofs.lemmas.List.{take_more, take_more_set, get_or-take, get_or-drop, length-take-le}
+use Rattle.std.proofs.lemmas.List.Sums.{prefix_len-le-length, prefix_len_passes, prefix_len_stops}
 use Rattle.wire.specs.Kinds.{buckets_from}
+use Rattle.wire.specs.declared.kinds.Bucket.{Bucket}
 use Rattle.calls.specs.Lists.{those}
 use Rattle.calls.proofs.history.View.{bucket}
-use Rattle.release_sums.specs.Summing.{Marked, sum_of, summed_from}
+use Rattle.release_sums.specs.Summing.{Marked, FirstSum, sum_of, summed_from}
 use Rattle.release_sums.specs.declared.sums.BucketSum.{BucketSum}
 use Rattle.release_sums.specs.SumsLeft.{bucket_sum, sums_from}
 
@@ -94,9 +97,6 @@ module _ (s : List ℕ) (b : ℕ) where
   unfolding sums_from
   left-next h k = rw (next h, summed-miss s (65536 - (b + 1)) b (omega arith)) refl
 
-  pub left-miss : b < 65536 → get_or s b 0 ≡ 0 → sums_from b s ≡ sums_from (b + 1) (set s b 0)
-  left-miss h k = left-next h k ∙ rest-same
-
   pub left-end : 65536 ≤ b → sums_from b s ≡ []
   unfolding sums_from
   left-end h = rw (summed-none s (65536 - b) b (omega arith)) refl
@@ -107,18 +107,78 @@ left-many s b (suc m) h e =
     let q : b + suc m ≡ b + m + 1 = omega arith in
     left-many s b m (omega arith) (λ j l k. e j l (omega arith)) ∙ rw q (left-next s (b + m) (omega arith) (e (b + m) (omega arith) (omega arith)))
 
--- ---- the rest of a group that is not marked
-module _ {sums : List ℕ} {marks : List Bool} (m : Marked sums marks) (b : ℕ) (h : b < 65536) (e : get_or marks (b / 64) false ≡ false) where
-  unmarked : (j : ℕ) → b ≤ j → j < (b / 64 + 1) * 64 → get_or sums j 0 ≡ 0
-  unmarked j l k =
-      let d : j / 64 ≡ b / 64 = omega arith in
-      m.zero (bucket j) (lt-ltb j 65536 (omega arith)) (ap (λ (i : ℕ). get_or marks i false) d ∙ e)
+-- ---- the first bucket whose sum is not 0
+module _ {sums : List ℕ} {from first : ℕ} (f : FirstSum sums from 65536 first) where
+  passed : from + (first - from) ≡ first
+  passed = omega (arith, f.within.0)
 
-  end : b + ((b / 64 + 1) * 64 - b) ≡ (b / 64 + 1) * 64
-  end = omega arith
+  none : (j : ℕ) → from ≤ j → j < from + (first - from) → get_or sums j 0 ≡ 0
+  none j l k = f.zero (bucket j) l (omega (arith, f.within.0))
 
-  pub taken-group : take b sums ≡ replicate b 0 → 65536 ≤ length sums → take ((b / 64 + 1) * 64) sums ≡ replicate ((b / 64 + 1) * 64) 0
-  taken-group z l = rw (← end) (taken-many sums ((b / 64 + 1) * 64 - b) z (omega arith) (λ j i k. unmarked j i (omega arith)))
+  pub taken-first : take from sums ≡ replicate from 0 → 65536 ≤ length sums → take first sums ≡ replicate first 0
+  taken-first z l = rw (← passed) (taken-many sums (first - from) z (omega (arith, f.within)) none)
 
-  pub left-group : sums_from b sums ≡ sums_from ((b / 64 + 1) * 64) sums
-  left-group = rw (← end) (left-many sums b ((b / 64 + 1) * 64 - b) (omega arith) (λ j i k. unmarked j i (omega arith)))
+  pub left-first : sums_from from sums ≡ sums_from first sums
+  left-first = rw (← passed) (left-many sums from (first - from) (omega (arith, f.within)) none)
+
+-- ---- the walk over the groups
+-- the sums from a first one on, before an end, are 0
+abbrev pub NoneFrom : List ℕ → ℕ → ℕ → Type 0
+NoneFrom sums from end = (b : Bucket) → from ≤ b.0 → b.0 < end → sum_of sums b ≡ 0
+
+pub none-yet : (sums : List ℕ) (next : ℕ) → NoneFrom sums next next
+none-yet sums next b i k = absurd (omega arith)
+
+none-more : (sums : List ℕ) {next from end : ℕ} → NoneFrom sums next from → NoneFrom sums from end → NoneFrom sums next end
+none-more sums {from = from} z h b i k = go (ltb b.0 from) refl
+  where
+    go : (t : Bool) → ltb b.0 from ≡ t → sum_of sums b ≡ 0
+    go true e = z b i (ltb-true b.0 from e)
+    go false e = h b (ltb-false b.0 from e) k
+
+module _ {sums : List ℕ} {next from group : ℕ} (z : NoneFrom sums next from) (l : group < 1024) where
+  -- a group that is not marked
+  pub none-unmarked : {marks : List Bool} → Marked sums marks → from / 64 ≡ group → get_or marks group false ≡ false → NoneFrom sums next ((group + 1) * 64)
+  none-unmarked {marks} m h e =
+      none-more sums z (λ b i k.
+      let d : b.0 / 64 ≡ group = omega arith in
+      m.zero b (lt-ltb b.0 65536 (omega arith)) (ap (λ (g : ℕ). get_or marks g false) d ∙ e))
+
+  -- one that is
+  module _ {first : ℕ} (f : FirstSum sums from ((group + 1) * 64) first) where
+    pub none-marked : (group + 1) * 64 ≤ first → NoneFrom sums next ((group + 1) * 64)
+    none-marked q = none-more sums z (λ b i k. f.zero b i (omega arith))
+
+    pub first-marked : next ≤ from → first < (group + 1) * 64 → FirstSum sums next 65536 first
+    first-marked p q = record { within = (omega (arith, f.within), omega arith); zero = none-more sums z f.zero; found = λ k. f.found q }
+
+pub first-none : {sums : List ℕ} {next from : ℕ} → next ≤ 65536 → NoneFrom sums next from → 65536 ≤ from → FirstSum sums next 65536 65536
+first-none h z l = record { within = (h, omega arith); zero = λ b i k. z b i (omega arith); found = λ k. absurd (omega arith) }
+
+-- the walk in a group ends at its first bucket whose sum is not 0
+abbrev pub is_zero : ℕ → Bool
+is_zero x = eqb x 0
+
+module _ (sums : List ℕ) (from end : ℕ) (h : from ≤ end) (l : end ≤ length sums) where
+  abbrev pub walked : List ℕ
+  walked = drop from (take end sums)
+
+  walked-length : length walked ≡ end - from
+  walked-length = length-drop from (take end sums) ∙ ap (λ (n : ℕ). n - from) (length-take-le end sums l)
+
+  walked_at : (j : ℕ) → from ≤ j → j < end → get_or walked (j - from) 0 ≡ get_or sums j 0
+  walked_at j i k =
+      let e : from + (j - from) ≡ j = omega arith in
+      get_or-drop from (take end sums) (j - from) 0 ∙ ap (λ (n : ℕ). get_or (take end sums) n 0) e ∙ get_or-take end sums j 0 k
+
+  pub first-walked : {first : ℕ} → first ≡ from + prefix_len is_zero walked → FirstSum sums from end first
+  first-walked {first} e =
+      let q : from + prefix_len is_zero walked ≤ end = omega (arith, prefix_len-le-length is_zero walked, walked-length) in
+      let n : prefix_len is_zero walked ≡ first - from = omega (arith, e) in
+      record {
+        within = (omega (arith, e), omega (arith, e, q));
+        zero = λ b i k. sym (walked_at b.0 i (omega (arith, e, q))) ∙ eqb-true (get_or walked (b.0 - from) 0) 0 (prefix_len_passes is_zero walked (b.0 - from) 0 (omega (arith, e)));
+        found = λ k.
+            let s : is_zero (get_or walked (prefix_len is_zero walked) 0) ≡ false = prefix_len_stops is_zero walked 0 (omega (arith, e, walked-length)) in
+            omega (arith, eqb-false (get_or walked (first - from) 0) 0 (rw n at s), walked_at first (omega (arith, e)) k);
+      }

@@ -1,5 +1,5 @@
 -- The lent scratch: the sum of each bucket, and the buckets whose sum is not 0.
-use Rattle.std.specs.Prelude.{◌≡◌, true, false, Bool, ℕ, ◌/◌, ◌≤◌, List, length, get_or, ltb}
+use Rattle.std.specs.Prelude.{◌≡◌, true, false, Bool, ℕ, ◌/◌, ◌≤◌, ◌<◌, List, length, get_or, ltb}
 use Rattle.wire.specs.Kinds.{bucket_in_range, buckets_from, no_bucket}
 use Rattle.wire.specs.declared.kinds.Bucket.{Bucket}
 use Rattle.calls.specs.CallList.{Freed}
@@ -28,6 +28,12 @@ pub record Summed (sectors : ℕ) (rs : List Freed) (sums : List ℕ) : Type 0 w
 pub record Marked (sums : List ℕ) (marks : List Bool) : Type 0 where
   pub groups : length marks ≡ 1024
   pub zero : (b : Bucket) → bucket_in_range b ≡ true → mark_of marks b ≡ false → sum_of sums b ≡ 0
+
+-- the first bucket from a number on whose sum is not 0, or an end, where no bucket before it has one
+pub record FirstSum (sums : List ℕ) (from end first : ℕ) : Type 0 where
+  pub within : (from ≤ first) × (first ≤ end)
+  pub zero : (b : Bucket) → from ≤ b.0 → b.0 < first → sum_of sums b ≡ 0
+  pub found : first < end → 0 < get_or sums first 0
 
 -- those of n buckets from a first one on whose sum is not 0, ascending
 unfoldable pub summed_from : ℕ → Bucket → List ℕ → List Bucket

@@ -3,6 +3,7 @@ ghost use Rattle.std.specs.Prelude.{◌≡◌, ◌+◌, ◌≤◌, ◌++◌, len
 ghost use Rattle.release_sums.specs.Summing.{Cleared, Marked};
 
 use crate::requests::Freeds;
+use reader::skip;
 use std::num::NonZero;
 use wire::kinds;
 use wire::kinds::Bucket;
@@ -53,7 +54,7 @@ impl<'a> Sums<'a> {
     ghost use Rattle.calls.specs.Lists.{all_of};
     ghost use Rattle.calls.specs.Release.{freed_ok};
     ghost use Rattle.release_sums.specs.FreedsOf.{freeds_of};
-    ghost use Rattle.release_sums.specs.Summing.{Summed};
+    ghost use Rattle.release_sums.specs.Summing.{Summed, FirstSum};
 
     // The table with no group marked, and no sum taken out. `ClearedScratch` shows what is required.
     // By the slice and not by a `&mut ClearedScratch`: tried, and the borrow checker covers no slice that is returned past the ghost field of the struct that lends it.
@@ -83,6 +84,25 @@ impl<'a> Sums<'a> {
             self.sums[b] += r.sectors as u32;
         }
     }
+
+    // The first bucket from `next` on whose sum is not 0, or 65,536. A group that is not marked is passed as a whole.
+    fn first_left(&self) -> usize
+        ensures { FirstSum self.now.sums.now self.now.next 65536 result }
+    {
+        // By index: the group's number says where its sums stand.
+        let mut from = self.next;
+        for group in self.next / GROUP..BUCKETS / GROUP {
+            let end = (group + 1) * GROUP;
+            if self.marks[group] {
+                let first = skip::skip_while(&self.sums[..end], from, |sum: u32| sum == 0);
+                if first < end {
+                    return first;
+                }
+            }
+            from = end;
+        }
+        BUCKETS
+    }
 }
 
 impl<'a> Iterator for Sums<'a> {
@@ -97,23 +117,17 @@ impl<'a> Iterator for Sums<'a> {
 
     // Takes out the next sum that is not 0, if one is left.
     fn next(&mut self) -> Option<BucketSum> {
-        // A `while` and no range, which would visit each bucket: a group that is not marked is passed as a whole.
-        while self.next < BUCKETS {
-            let b = self.next;
-            if self.marks[b / GROUP] {
-                let sectors = self.sums[b];
-                self.sums[b] = 0;
-                self.next = b + 1;
-                if sectors != 0 {
-                    return Some(BucketSum {
-                        bucket: Bucket(b as u64),
-                        sectors,
-                    });
-                }
-            } else {
-                self.next = (b / GROUP + 1) * GROUP;
-            }
+        let b = self.first_left();
+        if b < BUCKETS {
+            let sectors = self.sums[b];
+            self.sums[b] = 0;
+            self.next = b + 1;
+            return Some(BucketSum {
+                bucket: Bucket(b as u64),
+                sectors,
+            });
         }
+        self.next = BUCKETS;
         None
     }
 }
