@@ -1,6 +1,6 @@
 -- Refusals 2, 22 and 3 of the volume and 2 of the change list, in their order.
 use mathlib.Core.Path.{◌≡◌, refl, ap, sym, ◌∙◌}
-use mathlib.Core.Bool.{Bool, true, false, ◌&&◌, and-true, and-false}
+use mathlib.Core.Bool.{Bool, true, false, ◌&&◌, cond, and-true, and-false}
 use mathlib.Core.List.{List, [], ◌∷◌, ◌++◌, append_assoc}
 use Prim.Native.Nat.{ℕ, ◌<◌}
 use native.Mathlib.Omega.{arith}
@@ -51,15 +51,26 @@ module _ (vol list xs : List ℕ) where
   answer-by t e = apply-is vol list room ∙ ap (λ (u : Bool). answer (test 2 u ∷ later_tests vol ++ next) bytes room) e
 
   -- either layout is broken
-  gives-2 : (volume_laid_out vol && change_laid_out list) ≡ false → made 2 0 xs ≡ outcome (apply vol list room) xs
-  gives-2 e = refused 2 xs (answer-by false e ∙ answer-stops 2 (later_tests vol ++ next) bytes room (λ z. omega arith)) refl
+  gives-2 : (volume_laid_out vol && change_laid_out list) ≡ false → apply vol list room ≡ record { number = 2; written = [] }
+  gives-2 e = answer-by false e ∙ answer-stops 2 (later_tests vol ++ next) bytes room (λ z. omega arith)
+
+  change-stops : change_laid_out list ≡ false → apply vol list room ≡ record { number = 2; written = [] }
+  change-stops e = gives-2 (ap (λ (t : Bool). volume_laid_out vol && t) e ∙ and-false (volume_laid_out vol))
 
   pub change-broken : change_laid_out list ≡ false → made 2 0 xs ≡ outcome (apply vol list room) xs
-  change-broken e = gives-2 (ap (λ (t : Bool). volume_laid_out vol && t) e ∙ and-false (volume_laid_out vol))
+  change-broken e = refused 2 xs (change-stops e) refl
 
   -- the volume's own refusal, where the change list keeps its layout
-  pub volume-refused : change_laid_out list ≡ true → 0 < volume_refusal vol → apply vol list room ≡ record { number = volume_refusal vol; written = [] }
-  volume-refused c f =
+  volume-stops : change_laid_out list ≡ true → 0 < volume_refusal vol → apply vol list room ≡ record { number = volume_refusal vol; written = [] }
+  volume-stops c f =
       answer-by (volume_laid_out vol) (ap (λ (t : Bool). volume_laid_out vol && t) c ∙ and-true (volume_laid_out vol))
       ∙ answer-first (test 2 (volume_laid_out vol) ∷ later_tests vol) next bytes room (λ z. omega (arith, refusal_is vol ∙ z))
       ∙ (λ i. record { number = sym (refusal_is vol) i; written = [] })
+
+  -- and 2 where it does not
+  stops-by : (t : Bool) → change_laid_out list ≡ t → 0 < volume_refusal vol → apply vol list room ≡ record { number = cond t (volume_refusal vol) 2; written = [] }
+  stops-by true c f = volume-stops c f
+  stops-by false c f = change-stops c
+
+  pub volume-refused : 0 < volume_refusal vol → (n : ℕ) → n ≡ cond (change_laid_out list) (volume_refusal vol) 2 → made n 0 xs ≡ outcome (apply vol list room) xs
+  volume-refused f n e = refused n xs (rw e (stops-by (change_laid_out list) refl f)) refl

@@ -1,8 +1,8 @@
 -- What is answered to a list that was read.
-use Rattle.std.specs.Prelude.{ℕ, ◌<◌, ◌≡◌, List, Option, Result}
+use Rattle.std.specs.Prelude.{ℕ, ◌<◌, ◌≡◌, List, Option, Result, Ok, Err}
 use Rattle.std.specs.Borrow.{Bor, MutBor}
 use Rattle.std.specs.Fn.{Once}
-use Rattle.reader.specs.Refusals.{number_in}
+use Rattle.reader.specs.Refusals.{number_of, number_in}
 use Rattle.reader.specs.Readings.{refusal_of, ReadAs}
 use Rattle.reader.specs.declared.read_list.ReadList.{ReadList}
 use Rattle.reader.specs.declared.refusal.Refusal.{Refusal}
@@ -39,3 +39,9 @@ RefusedAs asked s scratch out result scratch' out' =
 -- any other is answered
 abbrev pub AnsweredAs : {F : Type 0} → Answering F → F → Option ℕ → List ℕ → List ℕ → List ℕ → Result ℕ Refusal → List ℕ → List ℕ → Type 0
 AnsweredAs g f asked s scratch out result scratch' out' = 0 ≡ refusal_of asked s → AnswersRead g f asked s scratch out result scratch' out'
+
+-- the refusal of a list, with the scratch and the output as they were, or what is answered to it
+abbrev pub AnsweredApart : {F : Type 0} → Answering F → F → Option ℕ → List ℕ → List ℕ → List ℕ → Result (Result ℕ Refusal) Refusal → List ℕ → List ℕ → Type 0
+AnsweredApart g f asked s scratch out (Err r) scratch' out' =
+    ((number_of r ≡ refusal_of asked s) × (0 < refusal_of asked s)) × ((scratch' ≡ scratch) × (out' ≡ out))
+AnsweredApart g f asked s scratch out (Ok a) scratch' out' = (0 ≡ refusal_of asked s) × AnswersRead g f asked s scratch out a scratch' out'

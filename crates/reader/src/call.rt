@@ -7,7 +7,7 @@ ghost use Rattle.reader.specs.Heads.{head_in};
 ghost use Rattle.reader.specs.Refusals.{number_of};
 ghost use Rattle.reader.specs.Arranged.{PastAsked};
 ghost use Rattle.reader.specs.Table.{Fits};
-ghost use Rattle.reader.specs.Lending.{TakesRead, RefusedAs, AnsweredAs};
+ghost use Rattle.reader.specs.Lending.{TakesRead, RefusedAs, AnsweredAs, AnsweredApart};
 ghost use Rattle.reader.specs.Readings.{list_refusal, TableAnswered, ReadAnswered};
 
 use crate::head::Head;
@@ -38,7 +38,7 @@ fn past_refusal(s: &[u8], ordered: bool) -> Refusal
     Refusal::Limit
 }
 
-// A list of the call that is asked for, or of whatever call its head names: its head, and where the places of each tag end in the table. `with_list` shows that the table is long enough. A byte
+// A list of the call that is asked for, or of whatever call its head names: its head, and where the places of each tag end in the table. `with_list_apart` shows that the table is long enough. A byte
 // and no `Call`: sort asks for whatever byte a list has. `Fits` stands in each contract: a struct of a list and its table would have to say beside it that its table is the one that was lent.
 fn read_table(s: &[u8], asked: Option<u8>, index: &mut [u32]) -> Result<(Head, Ends), Refusal>
     requires { Fits s.now index.old }
@@ -57,7 +57,7 @@ fn read_table(s: &[u8], asked: Option<u8>, index: &mut [u32]) -> Result<(Head, E
     Ok((first, ends))
 }
 
-// The same, with the table cut into its parts. `with_list` shows that the table is long enough.
+// The same, with the table cut into its parts. `with_list_apart` shows that the table is long enough.
 fn read_parts<'a>(
     s: &'a [u8],
     asked: Option<u8>,
@@ -70,7 +70,7 @@ fn read_parts<'a>(
     Ok(read_list::cut(s, first, index, ends))
 }
 
-// Reads a list by a table, and answers it. `with_list` shows that the table is long enough.
+// Reads a list by a table, and answers it. `with_list_apart` shows that the table is long enough.
 fn answer_by<F: FnOnce(&ReadList, &mut [u32], &mut [u8]) -> Result<usize, Refusal>>(
     list: &[u8],
     asked: Option<u8>,
@@ -78,18 +78,34 @@ fn answer_by<F: FnOnce(&ReadList, &mut [u32], &mut [u8]) -> Result<usize, Refusa
     scratch: &mut [u32],
     out: &mut [u8],
     answer: F,
-) -> Result<usize, Refusal>
+) -> Result<Result<usize, Refusal>, Refusal>
     requires fits { Fits list.now index.old }
     requires callable { TakesRead F.FnOnce answer asked list.now scratch.old out.old }
-    ensures refused { RefusedAs asked list.now scratch.old out.old result scratch.new out.new }
-    ensures answered { AnsweredAs F.FnOnce answer asked list.now scratch.old out.old result scratch.new out.new }
+    ensures { AnsweredApart F.FnOnce answer asked list.now scratch.old out.old result scratch.new out.new }
 {
     let read = read_parts(list, asked, index)?;
-    answer(&read, scratch, out)
+    Ok(answer(&read, scratch, out))
 }
 
-// Reads a list of the call that is asked for, by its byte, or a volume: refusal 2, then 22, then 3, else what is answered to it, with the scratch and the output that are lent. A short
-// list has a table of its own, since the long one takes 3 µs more to clear (docs/BENCHMARKS.md). A byte and no `Call`: sort asks for whatever byte a list has.
+// Reads a list of the call that is asked for, by its byte, or a volume: refusal 2, then 22, then 3, else, apart from these, what is answered to it, with the scratch and the output that
+// are lent. A short list has a table of its own, since the long one takes 3 µs more to clear (docs/BENCHMARKS.md). A byte and no `Call`: sort asks for whatever byte a list has.
+pub fn with_list_apart<F: FnOnce(&ReadList, &mut [u32], &mut [u8]) -> Result<usize, Refusal>>(
+    list: &[u8],
+    asked: Option<u8>,
+    scratch: &mut [u32],
+    out: &mut [u8],
+    answer: F,
+) -> Result<Result<usize, Refusal>, Refusal>
+    requires callable { TakesRead F.FnOnce answer asked list.now scratch.old out.old }
+    ensures { AnsweredApart F.FnOnce answer asked list.now scratch.old out.old result scratch.new out.new }
+{
+    if list.len() <= 3072 {
+        return answer_by(list, asked, &mut [0u32; 1024], scratch, out, answer);
+    }
+    answer_by(list, asked, &mut [0u32; 29696], scratch, out, answer)
+}
+
+// The same, as one result.
 pub fn with_list<F: FnOnce(&ReadList, &mut [u32], &mut [u8]) -> Result<usize, Refusal>>(
     list: &[u8],
     asked: Option<u8>,
@@ -101,8 +117,5 @@ pub fn with_list<F: FnOnce(&ReadList, &mut [u32], &mut [u8]) -> Result<usize, Re
     ensures refused { RefusedAs asked list.now scratch.old out.old result scratch.new out.new }
     ensures answered { AnsweredAs F.FnOnce answer asked list.now scratch.old out.old result scratch.new out.new }
 {
-    if list.len() <= 3072 {
-        return answer_by(list, asked, &mut [0u32; 1024], scratch, out, answer);
-    }
-    answer_by(list, asked, &mut [0u32; 29696], scratch, out, answer)
+    with_list_apart(list, asked, scratch, out, answer)?
 }
