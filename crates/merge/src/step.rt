@@ -11,11 +11,12 @@ use sorting::entries::Entry;
 use wire::key_types::KeyType;
 use wire::output::Output;
 
-// A queued key, unless it is a deletion.
-fn put_shown(out: &mut Output, key: &Entry)
+// A queued key of a type, unless it is a deletion.
+fn put_shown(out: &mut Output, key: &Entry, ty: u8)
+    requires { ty ≡ (entry_listed key.now).type }
     ensures { out.new ≡ with_bytes out.old (section_bytes key.now.section (shown (entry_listed key.now))) }
 {
-    if key.key_type() != KeyType::Deleted.number() {
+    if ty != KeyType::Deleted.number() {
         let body = key.body();
         out.put_head(key.section, body.len());
         out.put_slice(body);
@@ -31,6 +32,6 @@ pub fn put_queued(out: &mut Output, rest: &mut Rest, key: &Entry)
     let ty = key.key_type();
     rest.put_below(out, Some(pos));
     rest.skip_at(pos);
-    put_shown(out, key);
+    put_shown(out, key, ty);
     rest.add_shown(ty, pos);
 }

@@ -7,15 +7,15 @@ use Rattle.sorting.specs.EntryPlaces.{size_at}
 use Rattle.merge.proofs.MergeLaws.{shown-none, shown-bytes}
 use Rattle.merge.proofs.step.put_shown.Goals as goal
 
-pub returns-then-key_type-number : goal.returns-then-key_type-number
-returns-then-key_type-number c =
+pub returns-then-ty-number : goal.returns-then-ty-number
+returns-then-ty-number c =
     let k = c.args.key.now in
     let b = rw c.body-body.ensures at (bytes-from c.body-body.result.now (λ i. search rules)) in
     let n : length c.body-body.result.now ≡ size_at k.list.now k.at =
     ap length c.body-body.ensures ∙ body-length k.list.now k.at (size_at k.list.now k.at) k.stands.within in
     rw (c.put_slice.ensures, c.put_head.ensures, n, c.body-body.ensures, with-with)
-    (ap (with_bytes c.args.out.now) (shown-bytes b k.stands (λ z. c.if-key_type-number.true (c.key_type.ensures ∙ z ∙ sym c.number.ensures)) refl))
+    (ap (with_bytes c.args.out.now) (shown-bytes b k.stands (λ z. c.if-ty-number.true (c.requires ∙ z ∙ sym c.number.ensures)) refl))
 
-pub returns-else-key_type-number : goal.returns-else-key_type-number
-returns-else-key_type-number c =
-    sym (ap (with_bytes c.args.out.now) (shown-none c.args.key.now.section _ (sym c.key_type.ensures ∙ (c.if-key_type-number.false ∙ c.number.ensures))) ∙ with-none c.args.out.now)
+pub returns-else-ty-number : goal.returns-else-ty-number
+returns-else-ty-number c =
+    sym (ap (with_bytes c.args.out.now) (shown-none c.args.key.now.section _ (sym c.requires ∙ (c.if-ty-number.false ∙ c.number.ensures))) ∙ with-none c.args.out.now)
