@@ -39,9 +39,9 @@ module _ (roots : ℕ) (f : Field) where
   unfolding after_field
   other-field h = rw (ne_eqb f.tag 70 h) refl
 
-  pub root-field : {q id : ℕ} → f.tag ≡ 70 → le 1 f.body ≡ id → q ≡ with_root roots id → q ≡ after_field roots f
+  pub root_field : {q id : ℕ} → f.tag ≡ 70 → le 1 f.body ≡ id → q ≡ with_root roots id → q ≡ after_field roots f
   unfolding after_field
-  root-field e g h = rw (eq-eqb f.tag 70 e, g) h
+  root_field e g h = rw (eq-eqb f.tag 70 e, g) h
 
 -- the loop on its way
 

@@ -16,6 +16,7 @@ use wire::tags::Tag;
 
 // What one field of a change list makes of the root bits. The layout of the change list shows what a field 70 holds.
 // The roots are a byte, as `Head` holds them.
+#[tactic(auto, using(crate::proofs::RootLaws::root_field))]
 fn after_field(roots: u8, field: Field) -> u8
     requires { NamesRoot (field_in field) }
     ensures { result ≡ after_field roots (field_in field.entry) }
