@@ -1,5 +1,5 @@
 // Of sorted places, the last at each position.
-ghost use Rattle.std.specs.Prelude.{◌≡◌, drop, get_or};
+ghost use Rattle.std.specs.Prelude.{◌≡◌, ◌≤◌, length, drop, get_or};
 ghost use Rattle.wire.specs.Bytes.{All};
 ghost use Rattle.sorting.specs.Lasts.{ahead, lasts};
 ghost use Rattle.sorting.specs.Places.{FieldInside, place_less};
@@ -21,7 +21,9 @@ fn is_ahead(s: &[u8], t: &[usize]) -> bool
 // Of places in order, the last at each position, moved to the front in order. The caller's table shows the bounds.
 pub fn keep_last<'t>(s: &[u8], t: &'t mut [usize]) -> &'t [usize]
     requires { All (FieldInside s.now) t.old }
-    ensures { result.now ≡ lasts (place_less s.now) t.old }
+    ensures kept { result.now ≡ lasts (place_less s.now) t.old }
+    ensures within { length result.now ≤ length t.old }
+    ensures front { result.ref_ptr ≡ t.entry.ref_ptr }
 {
     // By index, as no form is plainer: the slice that is read is the one that is written, so that no iterator may hold it.
     let mut n = 0;
