@@ -35,7 +35,7 @@ impl Stretch {
 
 // What is left of the keys of a section, by their places in the volume, and how many keys were written so far.
 // The output is no field of it: `skip_at` and `add_shown` write nothing, and would have to say that it stays.
-#[derive(Drop)]
+#[derive(Clone, Drop)]
 pub struct Rest<'a> {
     section: u8,
     vol: &'a [u8],
@@ -88,11 +88,19 @@ impl<'a> Rest<'a> {
         requires { All (StandsWithin section vol.now) keys.now }
         ensures { result ≡ left_in section vol.now keys.now 0 }
     {
+        Rest::counted(section, vol, keys, KeyCount::new())
+    }
+
+    // The keys of a section that are left, by a table of the volume, and how many were written so far.
+    pub fn counted(section: u8, vol: &'a [u8], keys: &'a [u32], count: KeyCount) -> Rest<'a>
+        requires { All (StandsWithin section vol.now) keys.now }
+        ensures { result ≡ left_in section vol.now keys.now count }
+    {
         Rest {
             section,
             vol,
             keys,
-            count: KeyCount::new(),
+            count,
         }
     }
 
