@@ -5,31 +5,31 @@ use mathlib.Core.List.{List}
 use mathlib.Core.Bool.{true, false}
 use native.Mathlib.Omega.{arith}
 use borrow.Author.Tests.{ne_eqb}
-use Rattle.std.specs.Prelude.{Some, None, Result, Ok, Err}
+use Rattle.std.specs.Prelude.{Result, Ok, Err}
 use Rattle.std.specs.Result.{result_ok}
-use Rattle.wire.specs.Tags.{tag_number}
+use Rattle.wire.specs.Tags.{tag_number, TagNamed}
 use Rattle.wire.specs.declared.bpos.Bpos.{Bpos}
 use Rattle.wire.specs.declared.tags.Tag.{Tag}
 use Rattle.wire.specs.declared.tags.Tag.TheVariants.{Key, Reserved, Piece, Freed, Root, Taken, Spot, Row, Sectors, Unreserved, End}
 use Rattle.wire.specs.declared.trees.Tree.TheVariants.{Extents, Alloc, Lru, Freespace, NeedDiscard, Backpointers, BucketGens}
 use Rattle.wire.specs.declared.tags.UnknownTag.{UnknownTag}
-use Rattle.wire.specs.declared.fields.Field.{Field}
-use Rattle.reader.specs.declared.named_field.NamedField.{NamedField}
-use Rattle.reader.specs.NamedFields.{FieldNamed}
+use Rattle.reader.specs.NamedFields.{TagOf}
 use Rattle.reader.specs.Bodies.{change_field_ok}
-use Rattle.reader.specs.CallFields.{call_field_ok, key_fits}
+use Rattle.reader.specs.CallFields.{call_field_ok, key_fits, field_within}
+use Rattle.reader.specs.Table.{rank_of}
 use Rattle.reader.proofs.ShapeLaws.{change-none, call_none}
+use Rattle.reader.proofs.OrderingLaws.{within-others}
 
--- a field whose tag has a name, or has none
-pub named-is : {f : Field} {n : NamedField} (r : Result NamedField UnknownTag) → FieldNamed f r → result_ok r ≡ Some n → n.field ≡ f
-named-is {n = n} (Ok m) h e =
-    let z : m ≡ n = cc in
-    rw (← z) h
-named-is (Err x) h e = absurd (let z : ◌≡◌ {A = ℕ} 0 1 = cc in omega arith)
-
-pub unnamed-is : (f : Field) (r : Result NamedField UnknownTag) → FieldNamed f r → result_ok r ≡ None → (t : Tag) → f.tag ≡ tag_number t → ⊥
-unnamed-is f (Ok m) h e = absurd (let z : ◌≡◌ {A = ℕ} 0 1 = cc in omega arith)
-unnamed-is f (Err x) h e = h
+-- the tag that was looked up by a number, or none
+pub tag_of : {n : ℕ} (r : Result Tag UnknownTag) → TagNamed n r → TagOf n (result_ok r)
+tag_of (Ok t) h =
+    record {
+      is = λ u e.
+          let z : t ≡ u = cc in
+          rw (← z) h;
+      none = λ e. absurd (let z : ◌≡◌ {A = ℕ} 0 1 = cc in omega arith);
+    }
+tag_of (Err x) h = record { is = λ u e. absurd (let z : ◌≡◌ {A = ℕ} 0 1 = cc in omega arith); none = λ e. h.1 }
 
 module _ {n : ℕ} (u : (t : Tag) → n ≡ tag_number t → ⊥) where
   no_key : 10 ≤ n → n < 15 → ⊥
@@ -52,4 +52,20 @@ module _ {n : ℕ} (u : (t : Tag) → n ≡ tag_number t → ⊥) where
         ne_eqb n 4 (u (Key Alloc)),
         ne_eqb n 12 (u (Key NeedDiscard)),
         ne_eqb n 11 (u (Key Freespace)),
+      )
+
+  pub within-unnamed : (body : List ℕ) → true ≡ field_within (record { tag = n; body = body })
+  within-unnamed body = sym (within-others n body (u (Key Alloc)) (u (Key Freespace)) (u (Key NeedDiscard)) (u Reserved))
+
+  pub rank-unnamed : 7 ≡ rank_of n
+  unfolding rank_of
+  rank-unnamed =
+      simp (
+        ne_eqb n 4 (u (Key Alloc)),
+        ne_eqb n 10 (u (Key Lru)),
+        ne_eqb n 11 (u (Key Freespace)),
+        ne_eqb n 12 (u (Key NeedDiscard)),
+        ne_eqb n 13 (u (Key Backpointers)),
+        ne_eqb n 14 (u (Key BucketGens)),
+        ne_eqb n 64 (u Reserved),
       )

@@ -3,6 +3,7 @@ pub mod Bodies
 pub mod CallFields
 pub mod NamedFields
 pub mod CallKinds
+pub mod Asked
 pub mod Table
 pub mod Readings
 pub mod Lending

@@ -7,9 +7,11 @@ ghost use Rattle.reader.specs.Heads.{head_in};
 ghost use Rattle.reader.specs.Refusals.{number_of};
 ghost use Rattle.reader.specs.Arranged.{PastAsked};
 ghost use Rattle.reader.specs.Table.{Fits};
+ghost use Rattle.reader.specs.Surveyed.{Surveyed};
 ghost use Rattle.reader.specs.Lending.{TakesRead, RefusedAs, AnsweredAs, AnsweredApart};
 ghost use Rattle.reader.specs.Readings.{list_refusal, TableAnswered, ReadAnswered};
 
+use crate::asked::Asked;
 use crate::head::Head;
 use crate::read_list::ReadList;
 use crate::refusal::Refusal;
@@ -38,13 +40,21 @@ fn past_refusal(s: &[u8], ordered: bool) -> Refusal
     Refusal::Limit
 }
 
+// The pass over a list of the call that is asked for, or without one of any, in which no request may stand.
+fn survey_asked(s: &[u8], asked: Option<u8>, index: &mut [u32]) -> Option<Laid>
+    requires { Fits s.now index.old }
+    ensures { Surveyed (unwrap_or asked 0) (is_none asked) s.now index.new result }
+{
+    survey::survey(s, Asked::from(asked), index)
+}
+
 // A list of the call that is asked for, or of whatever call its head names: its head, and where the places of each tag end in the table. `with_list_apart` shows that the table is long enough. A byte
 // and no `Call`: sort asks for whatever byte a list has. `Fits` stands in each contract: a struct of a list and its table would have to say beside it that its table is the one that was lent.
 fn read_table(s: &[u8], asked: Option<u8>, index: &mut [u32]) -> Result<(Head, Ends), Refusal>
     requires { Fits s.now index.old }
     ensures { TableAnswered (list_refusal (unwrap_or asked 0) (is_none asked) s.now) (unwrap_or asked 0) s.now index.new result }
 {
-    let laid = survey::survey(s, asked, index).ok_or(Refusal::Layout)?;
+    let laid = survey_asked(s, asked, index).ok_or(Refusal::Layout)?;
     let first = head::read_head(s, laid.head_at);
     let Some(counts) = counts_within(laid, first) else {
         return Err(past_refusal(s, laid.ordered));

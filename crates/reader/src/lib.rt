@@ -3,6 +3,7 @@
 
 pub mod answer;
 pub mod arrange;
+pub mod asked;
 pub mod call;
 pub mod call_kinds;
 pub mod change;

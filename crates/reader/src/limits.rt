@@ -37,18 +37,30 @@ pub fn key_fits(section: u8, key_type: u8, pos: Bpos) -> bool
     key_within(tag, key_type, pos)
 }
 
+// Whether a body of a field with a tag, after field 1, is within the limits. The length that the tag asks shows the bound.
+#[inline(always)]
+#[tactic(auto, using(crate::proofs::OrderingLaws::within_cases))]
+fn body_within(tag: Tag, body: &[u8]) -> bool
+    requires { least_of (tag_number tag) ≤ length body.now }
+    ensures { result ≡ field_within (record { tag = tag_number tag; body = body.now }) }
+{
+    match tag {
+        Tag::Key(_) => key_within(tag, keys::type_at(body, 0), keys::pos_at(body, 0)),
+        Tag::Reserved => kinds::bucket_in_range(kinds::read_bucket(body, 0)),
+        _ => true,
+    }
+}
+
 impl<'a> NamedField<'a> {
-    // Whether a field after field 1 keeps the limits. The length that its tag asks shows the bound.
-    #[tactic(auto, using(crate::proofs::OrderingLaws::within_cases))]
+    // Whether a field after field 1 keeps the limits; one with a tag that has no name does. The length that its tag asks shows the bound.
+    #[inline(always)]
     pub fn keeps_limits(self) -> bool
         requires { least_of self.field.tag ≤ length self.field.body.now }
         ensures { result ≡ field_within (field_in self.entry.field) }
     {
-        let body = self.field.body;
         match self.tag {
-            Tag::Key(_) => key_within(self.tag, keys::type_at(body, 0), keys::pos_at(body, 0)),
-            Tag::Reserved => kinds::bucket_in_range(kinds::read_bucket(body, 0)),
-            _ => true,
+            Some(tag) => body_within(tag, self.field.body),
+            None => true,
         }
     }
 }

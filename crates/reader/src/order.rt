@@ -1,6 +1,7 @@
 // The fields beside field 1: each by itself, and in order after the one before it.
-ghost use Rattle.std.specs.Prelude.{◌≡◌, ◌≤◌, unwrap_or, length};
+ghost use Rattle.std.specs.Prelude.{◌≡◌, ◌≤◌, length};
 ghost use Rattle.wire.specs.FieldsFound.{field_in};
+ghost use Rattle.wire.specs.Tags.{tag_number};
 ghost use Rattle.reader.specs.CallFields.{call_field_ok, least_of};
 ghost use Rattle.reader.specs.CallFields as specs;
 
@@ -25,20 +26,32 @@ fn ascends(tag: u8, before: &[u8], body: &[u8]) -> bool
     }
 }
 
+// Whether a body may stand in a field with a tag beside field 1, in a call's list.
+#[inline(always)]
+#[tactic(auto, using(crate::proofs::ShapeLaws::call_cases))]
+fn body_may_stand(tag: Tag, call: u8, body: &[u8]) -> bool
+    ensures { result ≡ call_field_ok call (record { tag = tag_number tag; body = body.now }) }
+{
+    let len = body.len();
+    match tag {
+        Tag::Key(Tree::Extents) => false,
+        Tag::Key(_) => keys::key_ok(body),
+        Tag::Reserved => len == 4,
+        Tag::Piece => call == Call::Place.number() && len == 13,
+        Tag::Freed => call == Call::Release.number() && len == 10,
+        _ => false,
+    }
+}
+
 impl<'a> NamedField<'a> {
-    // Whether a field beside field 1 may stand in a list of the call that is asked for; without one no request may.
-    #[tactic(auto, using(crate::proofs::ShapeLaws::call_cases))]
-    pub fn may_stand(self, asked: Option<u8>) -> bool
-        ensures { result ≡ call_field_ok (unwrap_or asked 0) (field_in self.entry.field) }
+    // Whether a field beside field 1 may stand in a call's list; one with a tag that has no name may not.
+    #[inline(always)]
+    pub fn may_stand(self, call: u8) -> bool
+        ensures { result ≡ call_field_ok call (field_in self.entry.field) }
     {
-        let len = self.field.body.len();
         match self.tag {
-            Tag::Key(Tree::Extents) => false,
-            Tag::Key(_) => keys::key_ok(self.field.body),
-            Tag::Reserved => len == 4,
-            Tag::Piece => asked == Some(Call::Place.number()) && len == 13,
-            Tag::Freed => asked == Some(Call::Release.number()) && len == 10,
-            _ => false,
+            Some(tag) => body_may_stand(tag, call, self.field.body),
+            None => false,
         }
     }
 

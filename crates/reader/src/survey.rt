@@ -1,13 +1,15 @@
 // One pass over a call list or a volume: its layout, its limits, whether its fields are in order, and where they stand.
-ghost use Rattle.std.specs.Prelude.{◌≡◌, ◌≤◌, unwrap_or, is_none, length};
+ghost use Rattle.std.specs.Prelude.{◌≡◌, ◌≤◌, length};
 ghost use Rattle.wire.specs.FieldsFound.{field_in};
+ghost use Rattle.reader.specs.Asked.{call_asked, any_asked};
 ghost use Rattle.reader.specs.CallFields.{head_field_ok, least_of};
 ghost use Rattle.reader.specs.Table.{rank_of, Free, FieldNoted, Fits};
 ghost use Rattle.reader.specs.Surveyed.{HeadFirst, Surveyed, OrderSurveyed};
 
+use crate::asked::Asked;
+use crate::head;
 use crate::named_field::NamedField;
 use crate::table::PlaceTable;
-use crate::{head, table};
 use wire::fields::{Field, Fields};
 use wire::tags::Tag;
 
@@ -22,21 +24,21 @@ pub struct Laid {
     pub counts: Option<[usize; 8]>,
 }
 
-// Whether the body of a field 1 is one of the call that is asked for, or of any where none is.
+// Whether the body of a field 1 is one of the call that is asked for, or of any.
 #[tactic(auto, using(crate::proofs::HeadLaws::head_cases))]
-fn head_field_ok(asked: Option<u8>, body: &[u8]) -> bool
-    ensures { result ≡ head_field_ok (unwrap_or asked 0) (is_none asked) body.now }
+fn head_field_ok(asked: Asked, body: &[u8]) -> bool
+    ensures { result ≡ head_field_ok (call_asked asked) (any_asked asked) body.now }
 {
     if body.len() != 39 {
         return false;
     }
     let first = head::read_head(body, 0);
-    head::head_ok(first) && asked.unwrap_or(first.call) == first.call
+    head::head_ok(first) && asked.takes(first.call)
 }
 
 // Such a field 1, if one stands first.
-fn head_first(s: &[u8], asked: Option<u8>) -> Option<Field>
-    ensures { HeadFirst (unwrap_or asked 0) (is_none asked) s.now result }
+fn head_first(s: &[u8], asked: Asked) -> Option<Field>
+    ensures { HeadFirst (call_asked asked) (any_asked asked) s.now result }
 {
     let field = Fields::of(s).next()?;
     let is_head = field.tag == Tag::Head.number() && head_field_ok(asked, field.body);
@@ -49,25 +51,26 @@ fn note_field(table: &mut PlaceTable, named: NamedField)
     requires { (least_of named.field.tag ≤ length named.field.body.now) × Free table.old (rank_of named.field.tag) }
     ensures { FieldNoted (field_in named.entry.field) named.entry.field.start table.old table.new }
 {
-    if named.keeps_limits() {
-        table.note(table::rank(named.tag), named.field.start);
-    } else {
+    if table.counts.is_none() {
+        return;
+    }
+    if !named.keeps_limits() || !table.note(named.rank(), named.field.start) {
         table.counts = None;
     }
 }
 
 // The pass over a list in any order, of the call that is asked for, or of whatever call its head names: field 1 may stand anywhere, and no order is told. None where the list breaks the layout, as a field that passes the end does. `Fits` says that the table that is lent is long enough.
-fn survey_any(s: &[u8], asked: Option<u8>, index: &mut [u32]) -> Option<Laid>
+fn survey_any(s: &[u8], asked: Asked, index: &mut [u32]) -> Option<Laid>
     requires { Fits s.now index.old }
-    ensures { Surveyed (unwrap_or asked 0) (is_none asked) s.now index.new result }
+    ensures { Surveyed (call_asked asked) (any_asked asked) s.now index.new result }
 {
     let mut table = PlaceTable::new(index);
     let mut head = None;
     let mut fields = Fields::of(s);
     // By `while let`: tried `for` over `by_ref`; that `fields` is then as the last step of the loop left it stays open.
     while let Some(field) = fields.next() {
-        let named = NamedField::try_from(field).ok()?;
-        if named.may_stand(asked) {
+        let named = NamedField::from(field);
+        if named.may_stand(asked.call()) {
             note_field(&mut table, named);
         } else {
             if field.tag != Tag::Head.number()
@@ -90,9 +93,9 @@ fn survey_any(s: &[u8], asked: Option<u8>, index: &mut [u32]) -> Option<Laid>
 }
 
 // The pass over a list that begins with field 1 and whose other fields are in order; none of any other list. Field 1 is the one before the first of them. `Fits` says that the table that is lent is long enough.
-fn survey_ordered(s: &[u8], asked: Option<u8>, index: &mut [u32]) -> Option<Laid>
+fn survey_ordered(s: &[u8], asked: Asked, index: &mut [u32]) -> Option<Laid>
     requires { Fits s.now index.old }
-    ensures { OrderSurveyed (unwrap_or asked 0) (is_none asked) s.now index.new result }
+    ensures { OrderSurveyed (call_asked asked) (any_asked asked) s.now index.new result }
 {
     let head_field = head_first(s, asked)?;
     let mut table = PlaceTable::new(index);
@@ -100,8 +103,8 @@ fn survey_ordered(s: &[u8], asked: Option<u8>, index: &mut [u32]) -> Option<Laid
     let mut fields = Fields::from_place(s, head_field.start + head_field.body.len());
     // By `while let`: tried `for` over `by_ref`; that `fields` is then as the last step of the loop left it stays open.
     while let Some(field) = fields.next() {
-        let named = NamedField::try_from(field).ok()?;
-        if !named.may_stand(asked) || !named.follows(last) {
+        let named = NamedField::from(field);
+        if !named.may_stand(asked.call()) || !named.follows(last) {
             return None;
         }
         note_field(&mut table, named);
@@ -118,9 +121,9 @@ fn survey_ordered(s: &[u8], asked: Option<u8>, index: &mut [u32]) -> Option<Laid
 }
 
 // The pass over a list in order; where it is none, over it again in any order; none where the list breaks the layout. `Fits` says that the table that is lent is long enough. It stands in each contract: a struct of a list and its table would have to say beside it that its table is the one that was lent.
-pub fn survey(s: &[u8], asked: Option<u8>, index: &mut [u32]) -> Option<Laid>
+pub fn survey(s: &[u8], asked: Asked, index: &mut [u32]) -> Option<Laid>
     requires { Fits s.now index.old }
-    ensures { Surveyed (unwrap_or asked 0) (is_none asked) s.now index.new result }
+    ensures { Surveyed (call_asked asked) (any_asked asked) s.now index.new result }
 {
     // By `match`: tried `or_else`; what the table holds that its closure borrows stays open.
     match survey_ordered(s, asked, index) {

@@ -2,4 +2,4 @@ use Rattle.reader.proofs.FieldRankLaws.{rank_below}
 use Rattle.reader.proofs.survey.note_field.Goals as goal
 
 pub note-requires : goal.note-requires
-note-requires c = rw (c.rank.ensures, ← c.args.named.named) (rank_below _, c.requires.1)
+note-requires c = rw c.rank.ensures (rank_below _, c.requires.1)

@@ -1,7 +1,6 @@
 use Rattle.std.proofs.Common.{sym, ◌∙◌, refl, ap, arith, true, rules}
 use Rattle.wire.proofs.FieldStepLaws.{field-found, field-is, list-stays, steps-to, to-the-end}
 use Rattle.reader.specs.CallFields.{call_field_ok, follows}
-use Rattle.reader.proofs.TagLaws.{named-is}
 use Rattle.reader.proofs.SurveyLaws.{next-within, last_within, next-free, next-below, goes_after}
 use Rattle.reader.proofs.SurveyStartLaws.{first-found, first-going}
 use Rattle.reader.proofs.SurveyEndLaws.{ends_found, ordered-found}
@@ -22,28 +21,28 @@ loop-field-init c =
 
 pub follows-requires : goal.follows-requires
 follows-requires c =
-    let same = named-is c.try_from.result c.try_from.ensures (sym c.ok.ensures.value ∙ c.in_ok-named.was) in
+    let same = c.from-named.ensures in
     let i = c.loop-field.invariant in
     let w = c.in-Some.ensures.steps in
     let f = field-found i.0 w in
-    let ok = ap (call_field_ok _) (sym (field-is i.0 w)) ∙ sym (rw same at c.may_stand.ensures) ∙ c.if-not-may_stand.false in
+    let ok = ap (call_field_ok _) (sym (field-is i.0 w)) ∙ sym (rw (same, c.call.ensures) at c.may_stand.ensures) ∙ c.if-not-may_stand.false in
     rw same (last_within _ _ _ _ _ _ _ i.1 _ _ _ f ok, next-within _ _ _ _ _ _ _ i.1 _ _ _ f ok)
 
 pub note_field-requires : goal.note_field-requires
 note_field-requires c =
-    let same = named-is c.try_from.result c.try_from.ensures (sym c.ok.ensures.value ∙ c.in_ok-named.was) in
+    let same = c.from-named.ensures in
     let w = c.in-Some.ensures.steps in
     let i = c.loop-field.invariant in
-    let ok = ap (call_field_ok _) (sym (field-is i.0 w)) ∙ sym (rw same at c.may_stand.ensures) ∙ c.if-not-may_stand.false in
+    let ok = ap (call_field_ok _) (sym (field-is i.0 w)) ∙ sym (rw (same, c.call.ensures) at c.may_stand.ensures) ∙ c.if-not-may_stand.false in
     rw same (next-within _ _ _ _ _ _ _ i.1 _ _ _ (field-found i.0 w) ok, next-free _ _ _ _ _ _ _ i.1 _ _ _ (steps-to i.0 w) ok)
 
 pub loop-field-preserved : goal.loop-field-preserved
 loop-field-preserved c =
-    let same = named-is c.try_from.result c.try_from.ensures (sym c.ok.ensures.value ∙ c.in_ok-named.was) in
+    let same = c.from-named.ensures in
     let w = c.in-Some.ensures.steps in
     let i = c.loop-field.invariant in
     let is = field-is i.0 w in
-    let ok = ap (call_field_ok _) (sym is) ∙ sym (rw same at c.may_stand.ensures) ∙ c.if-not-may_stand.false in
+    let ok = ap (call_field_ok _) (sym is) ∙ sym (rw (same, c.call.ensures) at c.may_stand.ensures) ∙ c.if-not-may_stand.false in
     let order = ap (follows _) (sym is) ∙ sym (rw same at c.follows.ensures) ∙ c.if-not-follows.false in (
       list-stays i.0 w,
       rw (w.at, is) (goes_after _ _ _ _ _ _ _ i.1 _ _ _ (steps-to i.0 w) ok _ order (rw (same, is) at c.note_field.ensures)),
