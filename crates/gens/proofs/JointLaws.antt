@@ -191,7 +191,7 @@ last-key gens {part} {k} {x} h p q =
     let l : 0 < k = omega (arith, n, q.0) in
     let at : x.at ≡ get_or ps (k - 1) 0 =
     q.1.at ∙ ap (λ (m : ℕ). get_or part.places.now (m - 1) 0) n ∙ ap (λ (os : List ℕ). get_or os (k - 1) 0) p.1 ∙ get_or-take k ps (k - 1) 0 (omega arith) in
-    (l, key-of {ks = gens} {i = k - 1} {k = x} (omega arith) (record { list = q.1.list ∙ p.0; at = at }))
+    (l, key-of {ks = gens} {i = k - 1} {k = x} (omega arith) (record { list = q.1.list ∙ p.0; at = at; fits = q.1.fits }))
 
 -- the last of the first k keys, kept where it is the bucket's record
 pub record-kept :

@@ -1,5 +1,5 @@
 // The generation records: a table of where each stands.
-ghost use Rattle.std.specs.Prelude.{◌≡◌, true, eqb, replicate};
+ghost use Rattle.std.specs.Prelude.{◌≡◌, ◌≤◌, true, eqb, replicate};
 ghost use Rattle.wire.specs.Kinds.{bucket_in_range};
 ghost use Rattle.reader.specs.KeyHere.{keys_here};
 ghost use Rattle.reader.specs.ListedKeys.{key_listed};
@@ -26,16 +26,17 @@ pub fn is_record(key: ListedKey) -> bool
     key.key_type() == KeyType::BucketGens.number()
 }
 
-// Notes a key whose position is one of a record: its place, or 0 where it is of another type.
+// Notes a key whose position is one of a record: its place, or 0 where it is of another type. The table of places shows that its place has four bytes.
 #[tactic(auto, unfolding(crate::specs::Records::record_noted))]
 fn note_record(key: ListedKey, table: &mut [u32; 256])
+    requires { key.at ≤ 0xffff_ffff }
     ensures { table.new ≡ record_noted key.entry.at (key_listed key.entry) table.old }
 {
     let p = key.pos();
     if p.inode != 0 || p.snapshot != 0 || 256 <= p.offset {
         return;
     }
-    table[p.offset as usize] = if is_record(key) { key.at } else { 0 };
+    table[p.offset as usize] = if is_record(key) { key.at as u32 } else { 0 };
 }
 
 // Notes all keys in a table of zeros, the last of them first, so that the first at a position stands. `Records::of` shows what is asked.
@@ -72,7 +73,7 @@ impl<'a> Records<'a> {
             0 => None,
             at => Some(ListedKey {
                 list: self.gens.list,
-                at,
+                at: at as usize,
             }),
         }
     }

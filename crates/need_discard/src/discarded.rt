@@ -56,7 +56,7 @@ pub fn discarded_keys<'a>(room: &'a mut [u32], alloc: Keys<'a>, waiting: &Waitin
     let mut n: usize = 0;
     for key in alloc.iter() {
         if is_discarded(&key, waiting) {
-            room[n] = key.at;
+            room[n] = key.at as u32;
             n += 1;
         }
     }

@@ -18,10 +18,11 @@ keys_listed ks = keys_here ks.list.now ks.places.now
 abbrev pub keys_left : KeysLeft → List Key
 keys_left l = keys_listed l.keys
 
--- a key is that with an index
+-- a key is that with an index, at a place of four bytes
 pub record KeyOf (ks : Keys) (i : ℕ) (k : ListedKey) : Type 0 where
   pub list : k.list.now ≡ ks.list.now
   pub at : k.at ≡ get_or ks.places.now i 0
+  pub fits : k.at ≤ 0xffff_ffff
 
 -- the key with an index, or none where there are not so many
 abbrev pub KeyGot : Keys → ℕ → Option ListedKey → Type 0
@@ -33,10 +34,11 @@ abbrev pub KeyLast : Keys → Option ListedKey → Type 0
 KeyLast ks (Some k) = (0 < length ks.places.now) × KeyOf ks (length ks.places.now - 1) k
 KeyLast ks None = ks.places.now ≡ []
 
--- a key is the first of those that are left, at the first of their places, and the others are left after it
+-- a key is the first of those that are left, at the first of their places, of four bytes, and the others are left after it
 pub record KeyTaken (before : KeysLeft) (k : ListedKey) (after : KeysLeft) : Type 0 where
   pub keys : keys_left before ≡ key_listed k ∷ keys_left after
   pub places : before.keys.places.now ≡ k.at ∷ after.keys.places.now
+  pub fits : k.at ≤ 0xffff_ffff
   pub list : k.list.now ≡ before.keys.list.now
   pub same : after.keys.list.now ≡ before.keys.list.now
 
@@ -45,9 +47,10 @@ abbrev pub KeyStepped : KeysLeft → Option ListedKey → KeysLeft → Type 0
 KeyStepped before (Some k) after = KeyTaken before k after
 KeyStepped before None after = keys_left before ≡ []
 
--- a key is the last of those that are left, and the others are left before it
+-- a key is the last of those that are left, at a place of four bytes, and the others are left before it
 pub record KeyTakenBack (before : KeysLeft) (k : ListedKey) (after : KeysLeft) : Type 0 where
   pub places : before.keys.places.now ≡ after.keys.places.now ++ (k.at ∷ [])
+  pub fits : k.at ≤ 0xffff_ffff
   pub list : k.list.now ≡ before.keys.list.now
   pub same : after.keys.list.now ≡ before.keys.list.now
 

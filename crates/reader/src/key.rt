@@ -11,11 +11,11 @@ use wire::keys::Bkey;
 use wire::kinds::Bucket;
 use wire::{fields, keys, positions};
 
-// A key of a list: its body starts at a place, which has four bytes in a table of places. Whoever makes one shows that a whole key stands there.
+// A key of a list: its body starts at a place. Whoever makes one shows that a whole key stands there.
 #[derive(Clone, Copy, Drop)]
 pub struct ListedKey<'a> {
     pub list: &'a [u8],
-    pub at: u32,
+    pub at: usize,
     pub ghost whole: { Whole list.now at },
 }
 
@@ -26,28 +26,28 @@ impl<'a> ListedKey<'a> {
     fn body_len(&self) -> usize
         ensures { result ≡ body_len self.now.list.now self.now.at }
     {
-        fields::len_at(self.list, self.at as usize)
+        fields::len_at(self.list, self.at)
     }
 
     // Its type.
     pub fn key_type(&self) -> u8
         ensures { result ≡ (key_listed self.now).type }
     {
-        keys::type_at(self.list, self.at as usize)
+        keys::type_at(self.list, self.at)
     }
 
     // Its size.
     pub fn size(&self) -> u32
         ensures { result ≡ (key_listed self.now).size }
     {
-        keys::size_at(self.list, self.at as usize)
+        keys::size_at(self.list, self.at)
     }
 
     // Its position.
     pub fn pos(&self) -> Bpos
         ensures { result ≡ (key_listed self.now).pos }
     {
-        keys::pos_at(self.list, self.at as usize)
+        keys::pos_at(self.list, self.at)
     }
 
     // The bucket that its position names.
@@ -61,8 +61,7 @@ impl<'a> ListedKey<'a> {
     pub fn value(&self) -> &'a [u8]
         ensures { result.now ≡ (key_listed self.now).value }
     {
-        let at = self.at as usize;
-        &self.list[at + 37..at + self.body_len()]
+        &self.list[self.at + 37..self.at + self.body_len()]
     }
 
     // The whole key.
@@ -70,7 +69,6 @@ impl<'a> ListedKey<'a> {
     pub fn key(&self) -> Bkey
         ensures { key_in result ≡ key_listed self.now }
     {
-        let at = self.at as usize;
-        keys::read_key(&self.list[at..at + self.body_len()])
+        keys::read_key(&self.list[self.at..self.at + self.body_len()])
     }
 }

@@ -40,7 +40,7 @@ impl<'a> Keys<'a> {
     {
         ListedKey {
             list: self.list,
-            at,
+            at: at as usize,
         }
     }
 
@@ -98,7 +98,7 @@ impl<'a> Keys<'a> {
             from,
             |at: u32|
                 requires { Whole list.now at × ((k : ListedKey) → F.pre test k) }
-            { test(ListedKey { list, at }) },
+            { test(ListedKey { list, at: at as usize }) },
         )
     }
 

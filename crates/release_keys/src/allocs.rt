@@ -44,7 +44,7 @@ fn place_here(ascending: AscendingKeys, p: Bpos) -> Option<u32>
     ensures { PlaceOf ascending.entry.keys.list.now result (lookup p (keys_listed ascending.entry.keys)) }
 {
     let key = ascending.keys.get(0)?;
-    bpos::pos_same(key.pos(), p).then_some(key.at)
+    bpos::pos_same(key.pos(), p).then_some(key.at as u32)
 }
 
 // Lists the sums that are taken out of the table, each with the place of its bucket's alloc key, in the front of a slice, which is answered. `list_freed` shows what is required.

@@ -30,3 +30,6 @@ returns-clause-keys c = let i = c.loop-key.invariant in chosen-all (rw i.0 at c.
 
 pub returns-clause-places : goal.returns-clause-places
 returns-clause-places c = let i = c.loop-key.invariant in (refl, chosen-places (rw i.0 at c.in-None.ensures.steps) i.1)
+
+pub overflow_cast-room : goal.overflow_cast-room
+overflow_cast-room c = omega (arith, c.in-Some.ensures.steps.fits)

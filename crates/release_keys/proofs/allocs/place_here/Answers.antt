@@ -14,6 +14,9 @@ returns-in_err-key c =
     let keys = c.args.ascending.keys in
     rw c.from_residual.ensures (missing (here-none c.args.p (keys_listed keys) (omega (arith, c.in_err-key.ensures, length-map keys.places.now (key_here keys.list.now)))))
 
+pub overflow_cast-key : goal.overflow_cast-key
+overflow_cast-key c = omega (arith, c.in_ok-key.ensures.1.fits)
+
 pub returns : goal.returns
 returns c =
     let keys = c.args.ascending.keys in
