@@ -98,7 +98,12 @@ impl<'a> Keys<'a> {
             from,
             |at: u32|
                 requires { Whole list.now at × ((k : ListedKey) → F.pre test k) }
-            { test(ListedKey { list, at: at as usize }) },
+            {
+                test(ListedKey {
+                    list,
+                    at: at as usize,
+                })
+            },
         )
     }
 
