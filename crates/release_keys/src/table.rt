@@ -67,7 +67,10 @@ impl FreedBucket {
         ensures { MatchOption result (self.now.place ≡ None) (λ k. (k.list.now ≡ list.now) × (self.now.place ≡ Some k.at)) }
     {
         let at = self.place?;
-        Some(ListedKey { list, at: at as usize })
+        Some(ListedKey {
+            list,
+            at: at as usize,
+        })
     }
 }
 
