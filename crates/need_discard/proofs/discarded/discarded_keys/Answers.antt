@@ -1,4 +1,4 @@
-use Rattle.std.proofs.Common.{sym, refl, ◌∙◌}
+use Rattle.std.proofs.Common.{arith, sym, refl, ◌∙◌}
 use Rattle.need_discard.proofs.ChosenLaws.{choosing-start, choosing-more, choosing-same, chosen-whole, chosen-places, chosen-all}
 use Rattle.need_discard.proofs.discarded.discarded_keys.Goals as goal
 
