@@ -54,7 +54,7 @@ fn in_use(key: ListedKey) -> bool
 
 impl BucketBits {
     // No bucket is marked.
-    fn new() -> BucketBits
+    pub fn new() -> BucketBits
         ensures { result.bytes ≡ replicate 8192 0 }
     {
         BucketBits { bytes: [0; 8192] }
@@ -91,27 +91,23 @@ impl BucketBits {
         }
     }
 
-    // The reserved buckets are marked. Refusals 2, 22 and 3 show what is asked.
-    pub fn of_reserved(reserved: ReservedBuckets) -> BucketBits
-        requires { ReservedChecked (buckets_listed reserved) }
-        ensures { Marks result (is_in (buckets_listed reserved.entry)) }
+    // Marks the reserved buckets, where none is marked. Refusals 2, 22 and 3 show what is asked.
+    pub fn mark_reserved(&mut self, reserved: ReservedBuckets)
+        requires { ReservedChecked (buckets_listed reserved) × (self.old.bytes ≡ replicate 8192 0) }
+        ensures { Marks self.new (is_in (buckets_listed reserved.entry)) }
     {
-        let mut bits = BucketBits::new();
         for b in reserved.iter() {
-            bits.mark(b);
+            self.mark(b);
         }
-        bits
     }
 
-    // The buckets in use are marked. Refusals 2, 22 and 3 show what is asked.
-    pub fn of_used(keys: Keys) -> BucketBits
-        requires { AllocChecked (keys_listed keys) }
-        ensures { Marks result (is_used (keys_listed keys.entry)) }
+    // Marks the buckets in use, where none is marked. Refusals 2, 22 and 3 show what is asked.
+    pub fn mark_used(&mut self, keys: Keys)
+        requires { AllocChecked (keys_listed keys) × (self.old.bytes ≡ replicate 8192 0) }
+        ensures { Marks self.new (is_used (keys_listed keys.entry)) }
     {
-        let mut bits = BucketBits::new();
         for key in keys.iter() {
-            bits.mark_key(key);
+            self.mark_key(key);
         }
-        bits
     }
 }

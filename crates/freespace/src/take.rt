@@ -124,8 +124,10 @@ pub fn walk_runs(read: &ReadList, n: usize, taken: &mut [Bucket]) -> Result<Walk
     requires { AllocChecked (keys_listed read.now.alloc) × RunsChecked (keys_listed read.now.freespace) × ReservedChecked (buckets_listed read.now.reserved) × (n ≤ length taken.old) }
     ensures { WalkIs n (λ w. take w.passed (keys_listed read.now.freespace)) (walk (is_in (buckets_listed read.now.reserved)) (is_used (keys_listed read.now.alloc)) n (runs_of (keys_listed read.now.freespace))) unwalked taken.old taken.new result }
 {
-    let reserved = BucketBits::of_reserved(read.reserved);
-    let used = BucketBits::of_used(read.alloc);
+    let mut reserved = BucketBits::new();
+    reserved.mark_reserved(read.reserved);
+    let mut used = BucketBits::new();
+    used.mark_used(read.alloc);
     let walker = Walker {
         read,
         reserved: &reserved,

@@ -1,12 +1,12 @@
 use Rattle.wire.specs.Kinds.{same_bucket, bucket_in_range}
 use Rattle.calls.specs.Freespace.{is_in}
 use Rattle.bucket_bits.proofs.MarkLaws.{marking-start, marking-end, first-ranged, reserved-more}
-use Rattle.bucket_bits.proofs.marks.BucketBits.of_reserved.Goals as goal
+use Rattle.bucket_bits.proofs.marks.BucketBits.mark_reserved.Goals as goal
 
 pub loop-b-init : goal.loop-b-init
 loop-b-init c =
     rw (c.into_iter-b-iterator.ensures.into_iter_gives, c.iter-b-items.ensures)
-    (marking-start (λ a b. same_bucket a b) bucket_in_range _ _ c.new-bits.ensures c.requires.range)
+    (marking-start (λ a b. same_bucket a b) bucket_in_range _ _ c.requires.1 c.requires.0.range)
 
 pub mark-requires : goal.mark-requires
 mark-requires c = first-ranged (λ a b. same_bucket a b) bucket_in_range _ c.loop-b.invariant c.in-Some.ensures.steps
