@@ -110,4 +110,23 @@ impl BucketBits {
             self.mark_key(key);
         }
     }
+    // The reserved buckets are marked. Refusals 2, 22 and 3 show what is asked.
+    pub fn of_reserved(reserved: ReservedBuckets) -> BucketBits
+        requires { ReservedChecked (buckets_listed reserved) }
+        ensures { Marks result (is_in (buckets_listed reserved.entry)) }
+    {
+        let mut bits = BucketBits::new();
+        bits.mark_reserved(reserved);
+        bits
+    }
+
+    // The buckets in use are marked. Refusals 2, 22 and 3 show what is asked.
+    pub fn of_used(keys: Keys) -> BucketBits
+        requires { AllocChecked (keys_listed keys) }
+        ensures { Marks result (is_used (keys_listed keys.entry)) }
+    {
+        let mut bits = BucketBits::new();
+        bits.mark_used(keys);
+        bits
+    }
 }
