@@ -6,12 +6,12 @@ use Rattle.reader.specs.Pieces.{piece_in}
 use Rattle.reader.specs.PieceLists.{pieces_of, pieces_left}
 use Rattle.place_keys.proofs.SlotTables.{no_slot}
 use Rattle.place_keys.proofs.StepLaws.{slots-many, index-low, stored-most}
-use Rattle.place_keys.proofs.BucketLaws.{counting-first, counting-next, counting-end, zero-at}
+use Rattle.place_keys.proofs.BucketLaws.{counting-first, counting-next, counting-end}
 use Rattle.place_keys.proofs.ZipLaws.{pair-turn, slice-and-rest}
-use Rattle.place_keys.proofs.dirty.dirty_counts.Goals as goal
+use Rattle.place_keys.proofs.dirty.fill_dirty.Goals as goal
 
 pub loop-slot-init : goal.loop-slot-init
-loop-slot-init c = counting-first (omega (arith, c.args.plan.now.planned.short)) (λ k. zero-at 1024 k)
+loop-slot-init c = counting-first c.requires.0 c.requires.1
 
 pub bounds-dirty-index : goal.bounds-dirty-index
 bounds-dirty-index c =
@@ -20,7 +20,7 @@ bounds-dirty-index c =
     slice-and-rest piece_in pieces_left p.slots.now (pieces_of p.pieces) c.into_iter-slot-iterator.ensures.into_iter_gives c.zip-slot-items.ensures.first
     c.zip-slot-items.ensures.second c.iter.ensures.rest (ap pieces_of c.iter-2.ensures) in
     let turn = pair-turn p.slots.now (pieces_of p.pieces) chain c.loop-slot.yielded c.loop-slot.slot-iterator c.loop-slot.yielded_by c.next.result c.next.new.self _ c.in-Some.is c.next.ensures.steps in
-    omega (arith, p.planned.short, index-low p.planned (length c.loop-slot.yielded) turn.1 c.in-Some.slot.now (turn.2 no_slot))
+    omega (arith, c.loop-slot.invariant.long, index-low p.planned (length c.loop-slot.yielded) turn.1 c.in-Some.slot.now (turn.2 no_slot))
 
 pub bounds-dirty-index-in-loop-slot : goal.bounds-dirty-index-in-loop-slot
 bounds-dirty-index-in-loop-slot c =
@@ -29,7 +29,7 @@ bounds-dirty-index-in-loop-slot c =
     slice-and-rest piece_in pieces_left p.slots.now (pieces_of p.pieces) c.into_iter-slot-iterator.ensures.into_iter_gives c.zip-slot-items.ensures.first
     c.zip-slot-items.ensures.second c.iter.ensures.rest (ap pieces_of c.iter-2.ensures) in
     let turn = pair-turn p.slots.now (pieces_of p.pieces) chain c.loop-slot.yielded c.loop-slot.slot-iterator c.loop-slot.yielded_by c.next.result c.next.new.self _ c.in-Some.is c.next.ensures.steps in
-    omega (arith, p.planned.short, index-low p.planned (length c.loop-slot.yielded) turn.1 c.in-Some.slot.now (turn.2 no_slot))
+    omega (arith, c.loop-slot.invariant.long, index-low p.planned (length c.loop-slot.yielded) turn.1 c.in-Some.slot.now (turn.2 no_slot))
 
 pub loop-slot-preserved : goal.loop-slot-preserved
 loop-slot-preserved c =
