@@ -4,7 +4,7 @@ use mathlib.Core.Bool.{true}
 use mathlib.Core.List.{List, []}
 use Prim.Native.Nat.{ℕ, ◌≤◌}
 use native.Mathlib.Omega.{arith}
-use Rattle.std.specs.Prelude.{Ok, Some}
+use Rattle.std.specs.Prelude.{Ok}
 use Rattle.std.specs.Int.NonZero.{non_zero_u64_get}
 use lib.ListN.{length, take, length-take}
 use Rattle.wire.specs.Keys.{Key}
@@ -17,7 +17,6 @@ use Rattle.calls.specs.Place.{slots_of, walk_of}
 use Rattle.calls.specs.Answers.{read_call, read_volume}
 use Rattle.calls.proofs.freespace.RunLaws.{walk-gives}
 use Rattle.calls.proofs.freespace.TakenAscend.{place-taken-ascend}
-use Rattle.reader.specs.Readings.{ReadAs}
 use Rattle.reader.specs.declared.read_list.ReadList.{ReadList}
 use Rattle.place_tests.specs.Called.{Called}
 use Rattle.place_tests.specs.Choice.{ChosenIs}
@@ -29,7 +28,6 @@ use Rattle.place_tests.proofs.SizedLaws.{needed-short}
 use Rattle.freespace.proofs.TakeLaws.{queue-take}
 use Rattle.freespace.proofs.TakenLaws.{walk-in-range}
 use Rattle.place.specs.Planned.{PlanFor}
-use Rattle.place.proofs.ReadLaws.{called}
 
 -- what is chosen, for the change list
 pub record Choice (l : ReadList) (ps : List Piece) (c : Chosen) : Type 0 where
@@ -96,9 +94,3 @@ module _ {l : ReadList} {ps : Pieces} {r : Chosen} (q : Called l ps) (o : Chosen
         few = omega (arith, passed-all, length-take r.walked.passed ks);
         queue = sym (w.queue ∙ ap (λ (m : ℕ). queue_of m r.walked.left (take r.walked.passed ks)) passed-all ∙ sym (queue-take r.walked.passed r.walked.left ks));
       }
-
--- of a list that was read
-pub choice : {l : ReadList} (ps : Pieces) {r : Chosen} → ReadAs (Some 1) l → pieces_of ps ≡ (read_call l.list.now).pieces → length (pieces_of ps) ≤ 1024
-    → ChosenIs l.list.now (Ok r)
-    → Choice l (pieces_of ps) r
-choice ps q e few o = chosen (called {ps = ps} q e few) o
