@@ -23,7 +23,7 @@ use wire::output::Output;
 use wire::tags::Tag;
 use wire::trees::Tree;
 
-// Alloc keys that are discarded, and the need-discard keys. `discarded_keys` and the limits show what is said of the alloc keys.
+// Alloc keys that are discarded, and the need-discard keys. `discarded_in` and the limits show what is said of the alloc keys.
 #[derive(Clone, Copy, Drop)]
 pub struct Discarded<'a, 'w> {
     pub keys: Keys<'a>,

@@ -92,7 +92,7 @@ fn discard_within<const N: usize>(
 {
     let mut room = [0u32; N];
     let d = Discarded {
-        keys: discarded::discarded_keys(&mut room, list.read.alloc, waiting),
+        keys: discarded::discarded_in(&mut room, list.read.alloc, waiting),
         waiting,
     };
     answer::written(&Changes::new(list.size, d), out)

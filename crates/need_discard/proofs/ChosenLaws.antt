@@ -1,4 +1,4 @@
--- Which alloc keys are discarded: those that pass, with their places in the front of a table.
+-- Which alloc keys are discarded: those that pass, with their places in the front of a room.
 use Prim.Native.Nat.{ℕ, ◌+◌, ◌≤◌, ◌<◌}
 use mathlib.Core.Path.{◌≡◌, refl, sym, ap, ◌∙◌, subst}
 use mathlib.Core.Bool.{true, false, ◌&&◌}
@@ -9,28 +9,27 @@ use lib.Dec.{leb, eqb}
 use lib.ListN.{length, set, take, length-set}
 use lib.Seq.{take-suc-set, append_snoc}
 use borrow.Author.Tests.{eqb-true, leb-true}
-use Rattle.wire.specs.Bytes.{All, none, more}
+use Rattle.wire.specs.Bytes.{All}
 use Rattle.wire.specs.Keys.{Key}
 use Rattle.calls.specs.Limits.{at_inode0}
 use Rattle.calls.specs.Discard.{is_discarded}
 use Rattle.calls.proofs.lists.BoolLaws.{parts}
-use Rattle.calls.proofs.lists.AllLaws.{first, all_tail, all-nth, all-imp, all-chosen}
-use Rattle.wire.proofs.NumberLaws.{all_append}
+use Rattle.calls.proofs.lists.AllLaws.{first, all_tail, all-nth, all-imp, all-chosen, all-those}
 use Rattle.calls.proofs.lists.ThoseLaws.{those-hit, those-miss, those-none, those-length, those-map}
-use Rattle.reader.specs.KeyHere.{key_here, keys_here, Whole, WholeKeys}
+use Rattle.reader.specs.KeyHere.{key_here, keys_here, WholeKeys}
+use Rattle.reader.proofs.ListedKeyLaws.{whole-each}
 use Rattle.need_discard.specs.Kept.{AllocKept, DiscardedKept}
 use Rattle.need_discard.specs.Chosen.{need_trees, discarded_from, places_discarded}
 
 -- the walk on its way: the first places of the room are those of keys that are discarded, and with those of the places that are left they are all
 pub record Choosing (s : List ℕ) (needs : List Key) (all left room : List ℕ) (n : ℕ) : Type 0 where
   pub fits : n + length left ≤ length room
-  pub whole : All (Whole s) (take n room)
   pub chosen : take n room ++ places_discarded needs s left ≡ places_discarded needs s all
   pub kept : All AllocKept (keys_here s left)
 
 pub choosing-start : (s : List ℕ) (needs : List Key) {room places : List ℕ} → All AllocKept (keys_here s places) → length places ≤ length room
     → Choosing s needs places places room 0
-choosing-start s needs a l = record { fits = omega (arith, l); whole = none; chosen = refl; kept = a }
+choosing-start s needs a l = record { fits = omega (arith, l); chosen = refl; kept = a }
 
 -- the next key, at a place
 module _ {s : List ℕ} {needs : List Key} {all left rest : List ℕ} {at : ℕ} {room : List ℕ} {n : ℕ} (e : left ≡ at ∷ rest)
@@ -44,12 +43,11 @@ module _ {s : List ℕ} {needs : List Key} {all left rest : List ℕ} {at : ℕ}
   pub next-fits : n < length room
   next-fits = omega (arith, c.fits, ap length e)
 
-  pub choosing-more : Whole s at → is_discarded (need_trees needs) (key_here s at) ≡ true → Choosing s needs all rest (set room n at) (n + 1)
-  choosing-more w t =
+  pub choosing-more : is_discarded (need_trees needs) (key_here s at) ≡ true → Choosing s needs all rest (set room n at) (n + 1)
+  choosing-more t =
       let front : take (n + 1) (set room n at) ≡ take n room ++ at ∷ [] = rw add-one (take-suc-set room n at next-fits) in
       record {
         fits = omega (arith, c.fits, ap length e, length-set room n at);
-        whole = subst (All (Whole s)) (sym front) (all_append c.whole (more w none));
         chosen =
             ap (λ (l : List ℕ). l ++ places_discarded needs s rest) front
             ∙ append_snoc (take n room) at (places_discarded needs s rest)
@@ -62,7 +60,6 @@ module _ {s : List ℕ} {needs : List Key} {all left rest : List ℕ} {at : ℕ}
   choosing-same t =
       record {
         fits = omega (arith, c.fits, ap length e);
-        whole = c.whole;
         chosen = ap (λ (l : List ℕ). take n room ++ l) (sym (those-miss _ e t)) ∙ c.chosen;
         kept = all_tail kept_here;
       }
@@ -73,15 +70,21 @@ no-place s [] e = refl
 no-place s (x ∷ xs) e = absurd (omega (arith, ap length e))
 
 -- all are chosen
-module _ {s : List ℕ} {needs : List Key} {all left room : List ℕ} {n : ℕ} (e : keys_here s left ≡ []) (c : Choosing s needs all left room n) where
-  pub chosen-whole : WholeKeys s (take n room)
-  chosen-whole = record { at = all-nth 0 c.whole }
+pub chosen-places : {s : List ℕ} {needs : List Key} {all left room : List ℕ} {n : ℕ} → keys_here s left ≡ [] → Choosing s needs all left room n
+    → (n ≤ length room) × (take n room ≡ places_discarded needs s all)
+chosen-places {s} {room = room} {n = n} e c =
+    let p = no-place s _ e in (
+      omega (arith, c.fits),
+      sym (append-nil (take n room)) ∙ ap (λ (l : List ℕ). take n room ++ l) (sym (those-none _ p)) ∙ c.chosen,
+    )
 
-  pub chosen-places : take n room ≡ places_discarded needs s all
-  chosen-places = sym (append-nil (take n room)) ∙ ap (λ (l : List ℕ). take n room ++ l) (sym (those-none _ (no-place s left e))) ∙ c.chosen
+-- the keys at the places that are chosen are whole, and are those that are discarded
+module _ (needs : List Key) (s places : List ℕ) where
+  pub chosen-whole : WholeKeys s places → WholeKeys s (places_discarded needs s places)
+  chosen-whole w = record { at = all-nth 0 (all-those (λ at. is_discarded (need_trees needs) (key_here s at)) (whole-each w)) }
 
-  pub chosen-all : keys_here s (take n room) ≡ discarded_from needs (keys_here s all)
-  chosen-all = ap (keys_here s) chosen-places ∙ sym (those-map (is_discarded (need_trees needs)) (key_here s) all)
+  pub chosen-all : keys_here s (places_discarded needs s places) ≡ discarded_from needs (keys_here s places)
+  chosen-all = sym (those-map (is_discarded (need_trees needs)) (key_here s) places)
 
 -- what is chosen is what the batches want of it
 pub discarded-kept : (needs : List Key) {alloc : List Key} → All AllocKept alloc → All DiscardedKept (discarded_from needs alloc)

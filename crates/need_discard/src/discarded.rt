@@ -1,5 +1,5 @@
 // Which alloc keys are discarded.
-ghost use Rattle.std.specs.Prelude.{◌≡◌, ◌+◌, ◌≤◌, length, drop};
+ghost use Rattle.std.specs.Prelude.{◌≡◌, ◌+◌, ◌≤◌, length, take, drop};
 ghost use Rattle.wire.specs.Bytes.{All};
 ghost use Rattle.calls.specs.Discard.{gen_taken, is_discarded};
 ghost use Rattle.reader.specs.ListedKeys.{key_listed, keys_listed};
@@ -46,13 +46,12 @@ fn is_discarded(key: &ListedKey, waiting: &Waiting) -> bool
         && waiting.is_waiting(positions::bucket_in(pos))
 }
 
-// The alloc keys that are discarded, with their places in the front of a room for those of all. The limits show the bound.
-pub fn discarded_keys<'a>(room: &'a mut [u32], alloc: Keys<'a>, waiting: &Waiting) -> Keys<'a>
+// The places of the alloc keys that are discarded, in the front of a room for those of all, and how many they are. The limits show the bound.
+pub fn discarded_keys(room: &mut [u32], alloc: Keys, waiting: &Waiting) -> usize
     requires { All AllocKept (keys_listed alloc) × (length alloc.places.now ≤ length room.old) }
-    ensures keys { keys_listed result ≡ discarded_from waiting.now (keys_listed alloc.entry) }
-    ensures places { (result.list.now ≡ alloc.entry.list.now) × (result.places.now ≡ places_discarded waiting.now alloc.entry.list.now alloc.entry.places.now) }
+    ensures { (result ≤ length room.new) × (take result room.new ≡ places_discarded waiting.now alloc.entry.list.now alloc.entry.places.now) }
 {
-    // No heap: the room is the caller's slice, of any length, and n counts its front. No `ArrayVec`: what is answered are `Keys`, which hold a slice that is lent.
+    // No heap: the room is the caller's slice, of any length, and n counts its front. No `ArrayVec`: its length stands in its type, and a room may have any.
     let mut n: usize = 0;
     for key in alloc.iter() {
         if is_discarded(&key, waiting) {
@@ -60,6 +59,16 @@ pub fn discarded_keys<'a>(room: &'a mut [u32], alloc: Keys<'a>, waiting: &Waitin
             n += 1;
         }
     }
+    n
+}
+
+// The same, as keys whose places are the front of the room.
+pub fn discarded_in<'a>(room: &'a mut [u32], alloc: Keys<'a>, waiting: &Waiting) -> Keys<'a>
+    requires { All AllocKept (keys_listed alloc) × (length alloc.places.now ≤ length room.old) }
+    ensures keys { keys_listed result ≡ discarded_from waiting.now (keys_listed alloc.entry) }
+    ensures places { (result.list.now ≡ alloc.entry.list.now) × (result.places.now ≡ places_discarded waiting.now alloc.entry.list.now alloc.entry.places.now) }
+{
+    let n = discarded_keys(room, alloc, waiting);
     Keys {
         list: alloc.list,
         places: &room[..n],

@@ -1,5 +1,5 @@
 use Rattle.std.proofs.Common.{arith, sym, refl, ◌∙◌}
-use Rattle.need_discard.proofs.ChosenLaws.{choosing-start, choosing-more, choosing-same, chosen-whole, chosen-places, chosen-all}
+use Rattle.need_discard.proofs.ChosenLaws.{choosing-start, choosing-more, choosing-same, chosen-places}
 use Rattle.need_discard.proofs.discarded.discarded_keys.Goals as goal
 
 pub loop-key-init : goal.loop-key-init
@@ -13,8 +13,7 @@ loop-key-preserved-then-is_discarded c =
     let i = c.loop-key.invariant in
     let s = c.in-Some.ensures.steps in
     let e = s.list ∙ i.0 in
-    let k = c.in-Some.key in
-    (s.same ∙ i.0, choosing-more s.places i.1 (rw e at k.whole) (rw e at (sym c.is_discarded.ensures ∙ c.if-is_discarded.true)))
+    (s.same ∙ i.0, choosing-more s.places i.1 (rw e at (sym c.is_discarded.ensures ∙ c.if-is_discarded.true)))
 
 pub loop-key-preserved : goal.loop-key-preserved
 loop-key-preserved c =
@@ -22,14 +21,8 @@ loop-key-preserved c =
     let s = c.in-Some.ensures.steps in
     (s.same ∙ i.0, choosing-same s.places i.1 (rw (s.list ∙ i.0) at (sym c.is_discarded.ensures ∙ c.if-is_discarded.false)))
 
-pub invariant_of-result : goal.invariant_of-result
-invariant_of-result c = let i = c.loop-key.invariant in record { whole = chosen-whole (rw i.0 at c.in-None.ensures.steps) i.1 }
-
-pub returns-clause-keys : goal.returns-clause-keys
-returns-clause-keys c = let i = c.loop-key.invariant in chosen-all (rw i.0 at c.in-None.ensures.steps) i.1
-
-pub returns-clause-places : goal.returns-clause-places
-returns-clause-places c = let i = c.loop-key.invariant in (refl, chosen-places (rw i.0 at c.in-None.ensures.steps) i.1)
+pub returns : goal.returns
+returns c = let i = c.loop-key.invariant in chosen-places (rw i.0 at c.in-None.ensures.steps) i.1
 
 pub overflow_cast-room : goal.overflow_cast-room
 overflow_cast-room c = omega (arith, c.in-Some.ensures.steps.fits)

@@ -5,5 +5,5 @@ use Rattle.need_discard.proofs.discarded.discarded_keys.Given as goal
 
 abbrev pub invariant-loop-key : goal.invariant-loop-key
 invariant-loop-key l =
-    (l.key-iterator.keys.list.now ≡ l.alloc.list.now)
-    × Choosing l.alloc.list.now l.waiting l.alloc.places.now l.key-iterator.keys.places.now l.room l.n
+    (l.key-iterator.keys.list.now ≡ l.fn.alloc.list.now)
+    × Choosing l.fn.alloc.list.now l.waiting l.fn.alloc.places.now l.key-iterator.keys.places.now l.room l.n
