@@ -110,6 +110,7 @@ impl BucketBits {
             self.mark_key(key);
         }
     }
+
     // The reserved buckets are marked. Refusals 2, 22 and 3 show what is asked.
     pub fn of_reserved(reserved: ReservedBuckets) -> BucketBits
         requires { ReservedChecked (buckets_listed reserved) }
