@@ -1,6 +1,6 @@
 -- The lent scratch: the sum of each bucket, and the buckets whose sum is not 0.
 use Rattle.std.specs.Prelude.{◌≡◌, true, false, Bool, ℕ, ◌/◌, ◌≤◌, ◌<◌, List, length, get_or, ltb}
-use Rattle.wire.specs.Kinds.{bucket_in_range, buckets_from, no_bucket}
+use Rattle.wire.specs.Kinds.{bucket_in_range, bucket_number, buckets_from, no_bucket}
 use Rattle.wire.specs.declared.kinds.Bucket.{Bucket}
 use Rattle.calls.specs.CallList.{Freed}
 use Rattle.calls.specs.Lists.{those}
@@ -32,7 +32,7 @@ pub record Marked (sums : List ℕ) (marks : List Bool) : Type 0 where
 -- the first bucket from a number on whose sum is not 0, or an end, where no bucket before it has one
 pub record FirstSum (sums : List ℕ) (from end first : ℕ) : Type 0 where
   pub within : (from ≤ first) × (first ≤ end)
-  pub zero : (b : Bucket) → from ≤ b.0 → b.0 < first → sum_of sums b ≡ 0
+  pub zero : (b : Bucket) → from ≤ bucket_number b → bucket_number b < first → sum_of sums b ≡ 0
   pub found : first < end → 0 < get_or sums first 0
 
 -- those of n buckets from a first one on whose sum is not 0, ascending
