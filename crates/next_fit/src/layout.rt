@@ -34,9 +34,9 @@ pub fn fit_piece(
 }
 
 // The slots of the pieces that are lent, each by `fit_piece`, at the front of a table, and the bucket that is open after them. Two-byte fields and 1,024 pieces show the bounds.
-pub fn layout<'a>(pieces: &[Piece], bucket: u64, slots: &'a mut [Slot]) -> (&'a [Slot], OpenBucket)
+pub fn layout(pieces: &[Piece], bucket: u64, slots: &mut [Slot]) -> OpenBucket
     requires { (length pieces.now ≤ 1024) × (length pieces.now ≤ length slots.old) × (bucket < 65536) }
-    ensures { (result.1 ≡ lay bucket unused pieces.now) × (slots_in result.0.now ≡ next_fit bucket 0 0 (map (λ p. p.stored) pieces.now)) }
+    ensures { (result ≡ lay bucket unused pieces.now) × (slots_in (take (length pieces.now) slots.new) ≡ next_fit bucket 0 0 (map (λ p. p.stored) pieces.now)) }
 {
     let mut open = OpenBucket { index: 0, used: 0 };
     // By index: after an adapter of iter_mut nothing is known of a slice (Rattle's LIBRARY.md).
@@ -45,7 +45,7 @@ pub fn layout<'a>(pieces: &[Piece], bucket: u64, slots: &'a mut [Slot]) -> (&'a 
         let _stored = p.stored;
         open = fit_piece(slots, i, bucket, open, *p);
     }
-    (&slots[..pieces.len()], open)
+    open
 }
 
 // The pieces of a call list as records, at the front of an array. Refusal 3 shows that they are few.
@@ -70,19 +70,20 @@ pub fn read_pieces(pieces: &Pieces) -> [Piece; 1024]
     records
 }
 
-// The slots of the pieces of a call list, read into records first. Refusal 3 shows that they are few; who lends the table shows that it is as long.
+// Lays the pieces of a call list out, read into records first: their slots at the front of a table, and how many buckets they need. Refusal 3 shows that they are few; who lends the table shows that it is as long.
 // No type bounds them: `Pieces` is a `Listed`, which reads the fields of any kind.
-pub fn lay_out<'a>(pieces: &Pieces, bucket: u16, slots: &'a mut [Slot]) -> &'a [Slot]
+pub fn lay_out(pieces: &Pieces, bucket: u16, slots: &mut [Slot]) -> usize
     requires { (length (pieces_of pieces.now) ≤ 1024) × (length (pieces_of pieces.now) ≤ length slots.old) }
-    ensures { slots_in result.now ≡ next_fit bucket 0 0 (map (λ p. p.stored) (pieces_of pieces.now)) }
+    ensures { (result ≡ buckets_needed (next_fit bucket 0 0 (map (λ p. p.stored) (pieces_of pieces.now)))) × (slots_in (take (length (pieces_of pieces.now)) slots.new) ≡ next_fit bucket 0 0 (map (λ p. p.stored) (pieces_of pieces.now))) }
 {
     let n = pieces.len();
     // Without pieces no array is filled.
     if n == 0 {
-        return &slots[..0];
+        return 0;
     }
     let records = read_pieces(pieces);
-    layout(&records[..n], bucket as u64, slots).0
+    layout(&records[..n], bucket as u64, slots);
+    buckets_needed(&slots[..n])
 }
 
 // How many buckets pieces with these slots need.

@@ -69,7 +69,7 @@ fn place_read(read: &ReadList, out: &mut [u8]) -> Result<usize, Refusal>
     }; 1024];
     let pieces = Pieces::asked(read);
     let asked = Placement { read, pieces };
-    let chosen = asked.choose_buckets(&mut taken, &mut slots)?;
+    let chosen = asked.choose(&mut taken, &mut slots)?;
     place_buckets(&asked, chosen, out)
 }
 

@@ -6,6 +6,7 @@ ghost use Rattle.calls.specs.Freespace.{is_in, runs_of, overlaps, free_count, wa
 ghost use Rattle.calls.specs.Place.{place_tests};
 ghost use Rattle.calls.specs.Refusals.{verdict};
 ghost use Rattle.format.specs.Checksums.{option_byte};
+ghost use Rattle.reader.specs.PieceLists.{pieces_of};
 ghost use Rattle.reader.specs.Refusals.{number_in};
 
 use crate::asked::Placement;
@@ -19,6 +20,14 @@ use reader::refusal::Refusal;
 use std::num::NonZero;
 use wire::kinds::Bucket;
 
+// What is chosen for a placement, beside the buckets and the slots, which stand in two tables: the sectors of a bucket, the checksum option, and how far the walk over the runs is.
+#[derive(Clone, Copy, Drop)]
+pub struct Choice {
+    pub sectors: NonZero<u64>,
+    pub option: ChecksumOption,
+    pub walked: Walked,
+}
+
 // What is chosen for a placement: the sectors of a bucket, the checksum option, the slots of the pieces, the buckets taken, and how far the walk over the runs is.
 #[derive(Clone, Copy, Drop)]
 pub struct Chosen<'a> {
@@ -30,7 +39,7 @@ pub struct Chosen<'a> {
 }
 
 impl<'a> Placement<'a> {
-    ghost use Rattle.place_tests.specs.Choice.{ChosenIs};
+    ghost use Rattle.place_tests.specs.Choice.{ChoiceIs, ChosenIs};
 
     // Refusals 4 to 9, of what is asked: the first of them, or the sectors of a bucket and the checksum option.
     #[tactic(auto, unfolding(calls::specs::Pieces::block_of))]
@@ -68,14 +77,14 @@ impl<'a> Placement<'a> {
         wanted <= runs::free_count(read.freespace, read.reserved)
     }
 
-    // The slots and the buckets of the pieces: the first refusal of 4 to 13, or what is chosen. The lent tables show what is required.
+    // The slots and the buckets of the pieces, in the fronts of two tables: the first refusal of 4 to 13, or what else is chosen. The lent tables show what is required.
     pub fn choose_buckets(
         &self,
-        taken: &'a mut [Bucket],
-        slots: &'a mut [Slot],
-    ) -> Result<Chosen<'a>, Refusal>
+        taken: &mut [Bucket],
+        slots: &mut [Slot],
+    ) -> Result<Choice, Refusal>
         requires { (1024 ≤ length taken.old) × (1024 ≤ length slots.old) }
-        ensures { ChosenIs self.now.read.now.list.now result }
+        ensures { ChoiceIs self.now.read.now.list.now taken.old taken.new (take (length (pieces_of self.now.pieces)) slots.new) result }
     {
         let read = self.read;
         // 4 to 9: what is asked
@@ -85,19 +94,35 @@ impl<'a> Placement<'a> {
             return Err(Refusal::RunsOverlap);
         }
         // 11: too few buckets are free
-        let slots = layout::lay_out(&self.pieces, read.head.bucket_sectors, slots);
-        let n = layout::buckets_needed(slots);
+        let n = layout::lay_out(&self.pieces, read.head.bucket_sectors, slots);
         if !self.enough_free(n) {
             return Err(Refusal::TooFewFree);
         }
         // 12 and 13: the walk meets a run begun before bucket 0, or a used bucket
         let walked = take::walk_runs(read, n, taken)?;
-        Ok(Chosen {
+        Ok(Choice {
             sectors,
             option,
-            slots,
-            taken: &taken[..walked.count],
             walked,
+        })
+    }
+
+    // The same, with the slots and the buckets as the fronts of the tables that hold them.
+    pub fn choose(
+        &self,
+        taken: &'a mut [Bucket],
+        slots: &'a mut [Slot],
+    ) -> Result<Chosen<'a>, Refusal>
+        requires { (1024 ≤ length taken.old) × (1024 ≤ length slots.old) }
+        ensures { ChosenIs self.now.read.now.list.now result }
+    {
+        let choice = self.choose_buckets(taken, slots)?;
+        Ok(Chosen {
+            sectors: choice.sectors,
+            option: choice.option,
+            slots: &slots[..self.pieces.len()],
+            taken: &taken[..choice.walked.count],
+            walked: choice.walked,
         })
     }
 }
