@@ -10,8 +10,8 @@ ghost use Rattle.apply.specs.NextVolume.{Lists, bytes_after, Ready, next_of, Sec
 use crate::front;
 use merge::below::Rest;
 use merge::limits::KeyCount;
+use merge::merge as merging;
 use merge::queue::Queue;
-use merge::{merge as merging, queue};
 use reader::answer;
 use reader::answer::Emit;
 use reader::read_list::ReadList;
@@ -149,7 +149,7 @@ fn apply_within<const N: usize, const HALF: usize>(
 {
     let mut table = [0usize; N];
     let mut spare = [0usize; HALF];
-    let queue = queue::sort_queue(change, &mut table, &mut spare);
+    let queue = Queue::sorted(change, &mut table, &mut spare);
     let next = NextVolume {
         read: *read,
         roots: front::roots_after(change, read.head.roots),

@@ -10,4 +10,5 @@ pub mod CollectLaws
 pub mod TableLaws
 pub mod SortQueueLaws
 pub mod PartLaws
+pub mod CutLaws
 pub mod RankLaws

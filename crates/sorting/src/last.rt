@@ -1,5 +1,5 @@
 // Of sorted places, the last at each position.
-ghost use Rattle.std.specs.Prelude.{◌≡◌, ◌≤◌, length, drop, get_or};
+ghost use Rattle.std.specs.Prelude.{◌≡◌, ◌≤◌, length, take, drop, get_or};
 ghost use Rattle.wire.specs.Bytes.{All};
 ghost use Rattle.sorting.specs.Lasts.{ahead, lasts};
 ghost use Rattle.sorting.specs.Places.{FieldInside, place_less};
@@ -18,12 +18,10 @@ fn is_ahead(s: &[u8], t: &[usize]) -> bool
     }
 }
 
-// Of places in order, the last at each position, moved to the front in order. The caller's table shows the bounds.
-pub fn keep_last<'t>(s: &[u8], t: &'t mut [usize]) -> &'t [usize]
+// Of places in order, the last at each position, moved to the front in order; how many they are. The caller's table shows the bounds.
+pub fn keep_last(s: &[u8], t: &mut [usize]) -> usize
     requires { All (FieldInside s.now) t.old }
-    ensures kept { result.now ≡ lasts (place_less s.now) t.old }
-    ensures within { length result.now ≤ length t.old }
-    ensures front { result.ref_ptr ≡ t.entry.ref_ptr }
+    ensures { (result ≤ length t.new) × (take result t.new ≡ lasts (place_less s.now) t.old) }
 {
     // By index, as no form is plainer: the slice that is read is the one that is written, so that no iterator may hold it.
     let mut n = 0;
@@ -33,5 +31,5 @@ pub fn keep_last<'t>(s: &[u8], t: &'t mut [usize]) -> &'t [usize]
             n += 1;
         }
     }
-    &t[..n]
+    n
 }

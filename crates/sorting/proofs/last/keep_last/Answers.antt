@@ -13,5 +13,5 @@ loop-i-preserved c =
       | else-is_ahead w ↦ rw (w.t-is, w.n-is) (keeping-past k (omega arith) (a ∙ sym w.if-is_ahead.ensures))
     ]
 
-pub returns-clause-kept : goal.returns-clause-kept
-returns-clause-kept c = (keeping-end c.loop-i.invariant (omega arith)).1
+pub returns : goal.returns
+returns c = keeping-end c.loop-i.invariant (omega arith)
