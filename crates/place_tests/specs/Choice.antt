@@ -16,7 +16,7 @@ use Rattle.next_fit.specs.declared.slot.Slot.{Slot}
 use Rattle.place_tests.specs.declared.refusals.Choice.{Choice}
 use Rattle.place_tests.specs.declared.refusals.Chosen.{Chosen}
 
--- What is chosen for a list: the walk leaves `after` of a table of buckets that held `before`, with those that it takes at the front, and `slots` are the pieces'.
+-- what is chosen for a list, by two tables: the walk leaves `after` of a table of buckets that held `before`, with those that it takes at the front, and `slots` are the pieces'
 pub record ChoiceFor (s : List ℕ) (before after : List Bucket) (slots : List Slot) (c : Choice) : Type 0 where
   pub sectors : non_zero_u64_get c.sectors ≡ (read_volume s).head.bucket_sectors
   pub option : option_byte c.option ≡ (read_volume s).head.option
@@ -29,7 +29,7 @@ pub record ChoiceIs (s : List ℕ) (before after : List Bucket) (slots : List Sl
   pub refusal : number_in r ≡ verdict (place_tests (read_call s))
   pub chosen : IfOk r (ChoiceFor s before after slots)
 
--- what is chosen for a list
+-- what is chosen for a list, by slices of the tables
 pub record ChosenFor (s : List ℕ) (c : Chosen) : Type 0 where
   pub sectors : non_zero_u64_get c.sectors ≡ (read_volume s).head.bucket_sectors
   pub option : option_byte c.option ≡ (read_volume s).head.option

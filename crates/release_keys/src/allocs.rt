@@ -29,6 +29,14 @@ struct AscendingKeys<'a> {
     ghost ascend: { keys_ascend (keys_listed keys) ≡ true },
 }
 
+// Keys that ascend, as such. Not where the loop is that takes them: of a struct that its own function makes, a loop's invariant sees the fields alone.
+fn ascending(keys: Keys) -> AscendingKeys
+    requires { keys_ascend (keys_listed keys) ≡ true }
+    ensures { result.keys ≡ keys.entry }
+{
+    AscendingKeys { keys }
+}
+
 // The keys from the first one on that does not stand before a position.
 fn skip_below<'k>(ascending: AscendingKeys<'k>, p: Bpos) -> AscendingKeys<'k>
     ensures { KeysSkipped ascending.entry.keys p result.keys }
@@ -47,17 +55,15 @@ fn place_here(ascending: AscendingKeys, p: Bpos) -> Option<u32>
     bpos::pos_same(key.pos(), p).then_some(key.at as u32)
 }
 
-// Lists the sums that are taken out of the table, each with the place of its bucket's alloc key, in the front of a slice, which is answered. `list_freed` shows what is required.
-fn list_sums<'a>(
-    sums: &mut Sums,
-    alloc: AscendingKeys,
-    buckets: &'a mut [FreedBucket; 1024],
-) -> &'a [FreedBucket]
-    requires { (length (sums_left sums.old) ≤ 1024) × SumsAscend (sums_left sums.old) }
+// Lists the sums that are taken out of the table, each with the place of its bucket's alloc key, in the front of a slice, and gives how many they are. `list_freed` shows what is required.
+pub fn list_sums(sums: &mut Sums, alloc: Keys, buckets: &mut [FreedBucket; 1024]) -> usize
+    requires sums { (length (sums_left sums.old) ≤ 1024) × SumsAscend (sums_left sums.old) }
+    requires ascend { keys_ascend (keys_listed alloc) ≡ true }
     ensures table { SameTable sums.old sums.new × (take 65536 sums.new.sums.now ≡ replicate 65536 0) }
-    ensures listed { (map row_sum result.now ≡ sums_left sums.old) × PlacesOf alloc.entry.keys.list.now (keys_listed alloc.entry.keys) result.now }
+    ensures many { result ≡ length (sums_left sums.old) }
+    ensures listed { (map row_sum (take result buckets.new) ≡ sums_left sums.old) × PlacesOf alloc.entry.list.now (keys_listed alloc.entry) (take result buckets.new) }
 {
-    let mut keys = alloc;
+    let mut keys = ascending(alloc);
     let mut n: usize = 0;
     // No heap: the table is the caller's, and `n` counts its front. A lent `ArrayVec` was tried, and proves, but its `new` copies the table's 24 KiB: 351,600 instructions for 324,400 in a release of one piece, the row that is nearest to its aim (docs/BENCHMARKS.md).
     while let Some(sum) = sums.next() {
@@ -70,7 +76,7 @@ fn list_sums<'a>(
         };
         n += 1;
     }
-    &buckets[..n]
+    n
 }
 
 // The freed buckets of the requests, in the front of a slice; the scratch is left cleared. The reader and refusals 4 and 14 show what is required.
@@ -87,11 +93,10 @@ pub fn list_freed<'a>(
     let lent = &mut *scratch.sums;
     let mut sums = Sums::new(lent);
     sums.add_up(Freeds::of(&read), bucket_sectors);
-    let alloc = AscendingKeys { keys: read.alloc };
-    let buckets = list_sums(&mut sums, alloc, buckets);
+    let n = list_sums(&mut sums, read.alloc, buckets);
     FreedTable {
         read,
         bucket_sectors,
-        buckets,
+        buckets: &buckets[..n],
     }
 }

@@ -8,11 +8,11 @@ use Rattle.calls.specs.Release.{freed_in}
 
 -- a bucket's sum
 abbrev pub sum_of : List ℕ → Bucket → ℕ
-sum_of sums b = get_or sums b.0 0
+sum_of sums b = get_or sums (bucket_number b) 0
 
 -- the mark of a bucket's group of 64
 abbrev pub mark_of : List Bool → Bucket → Bool
-mark_of marks b = get_or marks (b.0 / 64) false
+mark_of marks b = get_or marks (bucket_number b / 64) false
 
 -- the sums of all buckets within the limit are 0
 pub record Cleared (sums : List ℕ) : Type 0 where

@@ -5,8 +5,8 @@ use Rattle.release_keys.specs.Given.{volume_in, requests_in}
 use Rattle.release_keys.proofs.AllocLaws.{sums-up, sums-few, tables-listed, all-taken}
 use Rattle.release_keys.proofs.allocs.list_freed.Goals as goal
 
-pub list_sums-buckets-requires : goal.list_sums-buckets-requires
-list_sums-buckets-requires c =
+pub list_sums-n-requires-clause-sums : goal.list_sums-n-requires-clause-sums
+list_sums-n-requires-clause-sums c =
     let p = c.requires.0 in
     let g = c.args.read in
     let m = rw (c.of.ensures, c.requires.2) at c.add_up.ensures.summed in
@@ -18,7 +18,7 @@ invariant_of-result c =
     let p = c.requires.0 in
     let g = c.args.read in
     let m = rw (c.of.ensures, c.requires.2) at c.add_up.ensures.summed in
-    let l = c.list_sums-buckets.ensures.listed in
+    let l = c.list_sums-n.ensures.listed in
     record {
       same_sectors = c.requires.2;
       checked = p;
@@ -27,16 +27,16 @@ invariant_of-result c =
 
 pub invariant_of-scratch : goal.invariant_of-scratch
 invariant_of-scratch c =
-    let t = c.list_sums-buckets.ensures.table in
+    let t = c.list_sums-n.ensures.table in
     let name = t.0.0 ∙ c.add_up.ensures.same_reference ∙ c.new-sums.ensures.same_reference in
     let past = t.0.1 ∙ c.add_up.ensures.summed.1 ∙ ap (drop 65536) c.new-sums.ensures.same_sums in
     record {
-      cleared = cleared c.args.scratch.now.sums.now _ c.args.scratch.now.cleared.long (c.lent-2-1.given.1.1 (sym name) ∙ all-taken c.list_sums-buckets.new.sums.sums.now c.args.scratch.now.sums.now t.1 past);
+      cleared = cleared c.args.scratch.now.sums.now _ c.args.scratch.now.cleared.long (c.lent-2-1.given.1.1 (sym name) ∙ all-taken c.list_sums-n.new.sums.sums.now c.args.scratch.now.sums.now t.1 past);
     }
 
 pub returns-clause-tabled : goal.returns-clause-tabled
 returns-clause-tabled c =
-    let t = c.list_sums-buckets.ensures.table in
+    let t = c.list_sums-n.ensures.table in
     let name = t.0.0 ∙ c.add_up.ensures.same_reference ∙ c.new-sums.ensures.same_reference in
     let past = t.0.1 ∙ c.add_up.ensures.summed.1 ∙ ap (drop 65536) c.new-sums.ensures.same_sums in
-    (refl, c.lent-2-1.given.1.1 (sym name) ∙ all-taken c.list_sums-buckets.new.sums.sums.now c.args.scratch.now.sums.now t.1 past)
+    (refl, c.lent-2-1.given.1.1 (sym name) ∙ all-taken c.list_sums-n.new.sums.sums.now c.args.scratch.now.sums.now t.1 past)
