@@ -56,8 +56,8 @@ fn place_here(ascending: AscendingKeys, p: Bpos) -> Option<u32>
 }
 
 // Lists the sums that are taken out of the table, each with the place of its bucket's alloc key, in the front of a slice, and gives how many they are. `list_freed` shows what is required.
-pub fn list_sums(sums: &mut Sums, alloc: Keys, buckets: &mut [FreedBucket; 1024]) -> usize
-    requires sums { (length (sums_left sums.old) ≤ 1024) × SumsAscend (sums_left sums.old) }
+pub fn list_sums(sums: &mut Sums, alloc: Keys, buckets: &mut [FreedBucket]) -> usize
+    requires sums { (length (sums_left sums.old) ≤ length buckets.old) × SumsAscend (sums_left sums.old) }
     requires ascend { keys_ascend (keys_listed alloc) ≡ true }
     ensures table { SameTable sums.old sums.new × (take 65536 sums.new.sums.now ≡ replicate 65536 0) }
     ensures many { result ≡ length (sums_left sums.old) }

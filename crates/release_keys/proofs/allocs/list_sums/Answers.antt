@@ -4,13 +4,13 @@ use Rattle.release_keys.proofs.AllocLaws.{listing-starts, listing-room, listing-
 use Rattle.release_keys.proofs.allocs.list_sums.Goals as goal
 
 pub loop-sum-init : goal.loop-sum-init
-loop-sum-init c = ((refl, refl), omega arith, rw c.ascending-keys.ensures (listing-starts {keys = c.args.alloc} c.args.buckets.now c.requires.sums.1))
+loop-sum-init c = ((refl, refl), refl, rw c.ascending-keys.ensures (listing-starts {keys = c.args.alloc} c.args.buckets.now c.requires.sums.1))
 
 pub offset_bounds-buckets-n : goal.offset_bounds-buckets-n
-offset_bounds-buckets-n c = omega (arith, listing-room c.loop-sum.invariant.2 c.in-Some.ensures.steps.0, c.requires.sums.0)
+offset_bounds-buckets-n c = omega (arith, listing-room c.loop-sum.invariant.2 c.in-Some.ensures.steps.0, c.requires.sums.0, c.loop-sum.invariant.1)
 
 pub bounds-buckets-n : goal.bounds-buckets-n
-bounds-buckets-n c = omega (arith, listing-room c.loop-sum.invariant.2 c.in-Some.ensures.steps.0, c.requires.sums.0)
+bounds-buckets-n c = omega (arith, listing-room c.loop-sum.invariant.2 c.in-Some.ensures.steps.0, c.requires.sums.0, c.loop-sum.invariant.1)
 
 pub loop-sum-preserved : goal.loop-sum-preserved
 loop-sum-preserved c =

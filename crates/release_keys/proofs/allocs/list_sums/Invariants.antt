@@ -7,7 +7,7 @@ use Rattle.release_keys.proofs.allocs.list_sums.Given as goal
 
 abbrev pub invariant-loop-sum : goal.invariant-loop-sum
 invariant-loop-sum l =
-    SameTable l.fn.sums l.sums × (length l.buckets ≡ 1024) × Listing l.alloc.list.now (keys_listed l.alloc) (sums_left l.fn.sums) (sums_left l.sums) l.keys.keys l.buckets l.n
+    SameTable l.fn.sums l.sums × (length l.buckets ≡ length l.fn.buckets) × Listing l.alloc.list.now (keys_listed l.alloc) (sums_left l.fn.sums) (sums_left l.sums) l.keys.keys l.buckets l.n
 
 abbrev pub decreases-loop-sum : goal.decreases-loop-sum
 decreases-loop-sum l = length (sums_left l.sums)
