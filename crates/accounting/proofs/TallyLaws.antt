@@ -146,6 +146,25 @@ pub record TalliedUpTo (ps left : List Piece) (t : Tallies) : Type 0 where
   pub is : t ≡ tallies_of passed
   pub small : Smalls (length passed) t
 
+-- tallies of zeros are those of no piece
+abbrev Zeros : Tally → Type 0
+Zeros t = (t.count ≡ 0) × ((t.file ≡ 0) × (t.stored ≡ 0))
+
+four-zeros : (ts : List Tally) → length ts ≡ 4 → ((i : ℕ) → i < 4 → Zeros (get_or ts i (tally_of []))) → ts ≡ kinds_of []
+unfolding of_kind those total
+four-zeros (a ∷ b ∷ c ∷ e ∷ []) l z =
+    let none : (t : Tally) → Zeros t → t ≡ tally_of [] = λ t h. tally-equal t _ h.0 h.1.0 h.1.1 in
+    λ x. none a (z 0 (omega arith)) x ∷ none b (z 1 (omega arith)) x ∷ none c (z 2 (omega arith)) x ∷ none e (z 3 (omega arith)) x ∷ []
+four-zeros [] l z = absurd (omega arith)
+four-zeros (a ∷ []) l z = absurd (omega arith)
+four-zeros (a ∷ b ∷ []) l z = absurd (omega arith)
+four-zeros (a ∷ b ∷ c ∷ []) l z = absurd (omega arith)
+four-zeros (a ∷ b ∷ c ∷ e ∷ f ∷ ts) l z = absurd (omega arith)
+
+pub zero-tallies : {t : Tallies} → Zeros t.all → length t.kinds ≡ 4 → ((i : ℕ) → i < 4 → Zeros (get_or t.kinds i (tally_of []))) → t ≡ tallies_of []
+unfolding total
+zero-tallies a l k = tallies-equal _ _ (tally-equal _ _ a.0 a.1.0 a.1.1) (four-zeros _ l k)
+
 -- four tallies of no piece are those of the kinds, as an array of them is filled
 pub none-tallied : {a b : Tally} → a ≡ tally_of [] → b ≡ tally_of [] → ◌≡◌ {A = Tallies} (record { all = a; kinds = replicate 4 b }) (tallies_of [])
 unfolding of_kind those

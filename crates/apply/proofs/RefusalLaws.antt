@@ -61,16 +61,16 @@ module _ (vol list xs : List ℕ) where
   change-broken e = refused 2 xs (change-stops e) refl
 
   -- the volume's own refusal, where the change list keeps its layout
-  volume-stops : change_laid_out list ≡ true → 0 < volume_refusal vol → apply vol list room ≡ record { number = volume_refusal vol; written = [] }
-  volume-stops c f =
+  pub volume-refused : change_laid_out list ≡ true → 0 < volume_refusal vol → apply vol list room ≡ record { number = volume_refusal vol; written = [] }
+  volume-refused c f =
       answer-by (volume_laid_out vol) (ap (λ (t : Bool). volume_laid_out vol && t) c ∙ and-true (volume_laid_out vol))
       ∙ answer-first (test 2 (volume_laid_out vol) ∷ later_tests vol) next bytes room (λ z. omega (arith, refusal_is vol ∙ z))
       ∙ (λ i. record { number = sym (refusal_is vol) i; written = [] })
 
   -- and 2 where it does not
   stops-by : (t : Bool) → change_laid_out list ≡ t → 0 < volume_refusal vol → apply vol list room ≡ record { number = cond t (volume_refusal vol) 2; written = [] }
-  stops-by true c f = volume-stops c f
+  stops-by true c f = volume-refused c f
   stops-by false c f = change-stops c
 
-  pub volume-refused : 0 < volume_refusal vol → (n : ℕ) → n ≡ cond (change_laid_out list) (volume_refusal vol) 2 → made n 0 xs ≡ outcome (apply vol list room) xs
-  volume-refused f n e = refused n xs (rw e (stops-by (change_laid_out list) refl f)) refl
+  pub first-refused : 0 < volume_refusal vol → (n : ℕ) → n ≡ cond (change_laid_out list) (volume_refusal vol) 2 → made n 0 xs ≡ outcome (apply vol list room) xs
+  first-refused f n e = refused n xs (rw e (stops-by (change_laid_out list) refl f)) refl

@@ -50,6 +50,7 @@ fn fill_table(gens: Keys, table: &mut [u32; 256])
 }
 
 impl<'a> Records<'a> {
+    ghost use Rattle.std.specs.Prelude.{IfSome};
     ghost use Rattle.calls.specs.Generations.{gen_record};
     ghost use Rattle.reader.specs.ListedKeys.{keys_listed};
     ghost use Rattle.gens.specs.Records.{record_listed};
@@ -63,11 +64,12 @@ impl<'a> Records<'a> {
         Records { gens, table }
     }
 
-    // A bucket's record, if there is one. The limits show the bound.
+    // A bucket's record, if there is one, at a place of four bytes. The limits show the bound.
     // No type shows it: one in range would be a second kind beside `Bucket`, and a bucket of a list may have any number.
     pub fn record_of(&self, b: Bucket) -> Option<ListedKey<'a>>
         requires { bucket_in_range b ≡ true }
-        ensures { record_listed result ≡ gen_record (keys_listed self.now.gens) b }
+        ensures record { record_listed result ≡ gen_record (keys_listed self.now.gens) b }
+        ensures fits { IfSome result (λ k. k.at ≤ 0xffff_ffff) }
     {
         match self.table[(b.0 / 256) as usize] {
             0 => None,

@@ -1,10 +1,11 @@
 -- What choosing answers, at each of its ends.
-use mathlib.Core.Path.{◌≡◌, ap, sym, ◌∙◌}
+use mathlib.Core.Path.{◌≡◌, refl, ap, sym, ◌∙◌}
 use mathlib.Core.Bool.{Bool}
-use mathlib.Core.List.{List}
-use Prim.Native.Nat.{ℕ}
+use mathlib.Core.List.{List, [], ◌∷◌}
+use Prim.Native.Nat.{ℕ, zero, suc}
 use lib.Dec.{leb}
 use lib.ListN.{take}
+use Rattle.wire.specs.Keys.{Key}
 use Rattle.wire.specs.declared.kinds.Bucket.{Bucket}
 use Rattle.calls.specs.Answers.{read_call, read_volume}
 use Rattle.calls.specs.Freespace as freespace
@@ -17,13 +18,16 @@ use Rattle.reader.specs.declared.head.Head.{Head}
 use Rattle.reader.specs.Refusals.{number_of}
 use Rattle.reader.specs.declared.refusal.Refusal.{Refusal}
 use Rattle.std.specs.Prelude.{Result, Err}
-use Rattle.place_tests.specs.Choice.{ChoiceIs}
-use Rattle.freespace.specs.Walks.{unwalked, WalkIs}
+use Rattle.place_tests.specs.Choice.{ChosenIs, ChoiceIs}
+use Rattle.freespace.specs.Walks.{unwalked, WalkIs, WalkTook}
 use Rattle.freespace.specs.declared.take.Walked.{Walked}
 use Rattle.next_fit.specs.declared.slot.Slot.{Slot}
 use Rattle.place_tests.proofs.RefusalLaws.{enough}
 
 -- a refusal
+pub chosen-stopped : {s : List ℕ} (e : Refusal) → number_of e ≡ verdict (place_tests (read_call s)) → ChosenIs s (Err e)
+chosen-stopped e v = record { refusal = v; chosen = tt }
+
 pub choice-stopped : {s : List ℕ} {before after : List Bucket} {slots : List Slot} (e : Refusal) → number_of e ≡ verdict (place_tests (read_call s))
     → ChoiceIs s before after slots (Err e)
 choice-stopped e v = record { refusal = v; chosen = tt }
@@ -45,3 +49,13 @@ module _ (s : List ℕ) {n : ℕ} (e : n ≡ buckets_needed (slots_of (read_call
   pub chosen-walk : {before after : List Bucket} {r : Result Walked Refusal} → WalkIs n (λ w. take w.passed (read_volume s).trees.freespace) (walked n) unwalked before after r
       → WalkIs (buckets_needed (slots_of (read_call s))) (λ x. take x.passed (read_volume s).trees.freespace) (walk_of (read_call s)) unwalked before after r
   chosen-walk w = rw (← e, ← walk_is) w
+
+-- the walk from no bucket on, by the front of the table that it fills
+take-front : (n : ℕ) (bs : List Bucket) → take n (take n bs) ≡ take n bs
+take-front zero bs = refl
+take-front (suc n) [] = refl
+take-front (suc n) (b ∷ bs) = ap (λ (l : List Bucket). b ∷ l) (take-front n bs)
+
+pub took-front : {n : ℕ} {ks : List Key} {w : freespace.Walked} {before after : List Bucket} {r : Walked} → WalkTook n ks w unwalked before after r
+    → WalkTook n ks w unwalked [] (take r.count after) r
+took-front {after = after} {r = r} t = record { taken = take-front r.count after ∙ t.taken; count = t.count; passed = t.passed; queue = t.queue; short = t.short }

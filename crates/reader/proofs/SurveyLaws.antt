@@ -19,7 +19,7 @@ use Rattle.calls.specs.Limits.{list_within}
 use Rattle.calls.specs.Answers.{read_call}
 use Rattle.calls.proofs.encoding.Blocks.{field}
 use Rattle.reader.specs.CallFields.{rest_shapes, call_field_ok, head_field_ok, any_field_ok, others, least_of, follows, field_within}
-use Rattle.reader.specs.Table.{rank_of, most_of, Fits, Free, Unfilled, room, counted_more, FieldNoted}
+use Rattle.reader.specs.Table.{rank_of, most_of, Fits, Free, Unfilled, room, counted_more, Noted, FieldNoted}
 use Rattle.reader.specs.Readings.{laid_as}
 use Rattle.reader.specs.declared.table.PlaceTable.{PlaceTable}
 use Rattle.reader.proofs.BoolLaws.{apart, and_left, fails}
@@ -249,7 +249,7 @@ set-length true xs i v = length-set xs i v
 set-length false xs i v = refl
 
 pub passed_length :
-    {f : Field} {b : ℕ} {before after : PlaceTable} → FieldNoted f b before after → length after.index.now ≡ length before.index.now
+    {within : Bool} {rank b : ℕ} {before after : PlaceTable} → Noted within before after rank b → length after.index.now ≡ length before.index.now
 passed_length {b = b} {before = before} {after = after} p = ap length p.placed ∙ set-length (is_some after.counts) before.index.now before.n b
 
 at-most-one : (r : Bool) (n : ℕ) → cond r (n + 1) n ≤ n + 1

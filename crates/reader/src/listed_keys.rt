@@ -89,15 +89,15 @@ impl<'a> Keys<'a> {
     // The first index, from one on, at which a test of the key fails; how many keys there are where it fails at none. Where the walk before ended shows the bound.
     pub fn skip_while<F: Fn(ListedKey) -> bool>(&self, from: usize, test: F) -> usize
         requires from_within { from ≤ length self.now.places.now }
-        requires callable { (k : ListedKey) → F.pre test k }
-        ensures { (t : Key → Bool) → ((k : ListedKey) (r : Bool) → F.post test k r → r ≡ t (key_listed k)) → result ≡ from + prefix_len t (drop from (keys_listed self.now)) }
+        requires callable { (k : ListedKey) → k.at ≤ 0xffff_ffff → F.pre test k }
+        ensures { (t : Key → Bool) → ((k : ListedKey) (r : Bool) → k.at ≤ 0xffff_ffff → F.post test k r → r ≡ t (key_listed k)) → result ≡ from + prefix_len t (drop from (keys_listed self.now)) }
     {
         let list = self.list;
         skip::skip_while(
             self.places,
             from,
             |at: u32|
-                requires { Whole list.now at × ((k : ListedKey) → F.pre test k) }
+                requires { Whole list.now at × ((k : ListedKey) → k.at ≤ 0xffff_ffff → F.pre test k) }
             {
                 test(ListedKey {
                     list,

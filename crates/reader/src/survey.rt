@@ -54,7 +54,7 @@ fn note_field(table: &mut PlaceTable, named: NamedField)
     if table.counts.is_none() {
         return;
     }
-    if !named.keeps_limits() || !table.note(named.rank(), named.field.start) {
+    if !named.keeps_limits() || !table.try_note(named.rank(), named.field.start) {
         table.counts = None;
     }
 }

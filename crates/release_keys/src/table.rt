@@ -58,13 +58,14 @@ pub struct HeldLeft<'a> {
 }
 
 impl FreedBucket {
-    ghost use Rattle.std.specs.Prelude.{ℕ, Some, None, MatchOption};
+    ghost use Rattle.std.specs.Prelude.{ℕ, ◌≤◌, Some, None, IfSome, MatchOption};
     ghost use Rattle.reader.specs.KeyHere.{Whole};
 
-    // Its alloc key in a list, if it has one. The table shows that a whole key stands at its place.
+    // Its alloc key in a list, if it has one, at a place of four bytes. The table shows that a whole key stands at its place.
     pub fn key<'a>(&self, list: &'a [u8]) -> Option<ListedKey<'a>>
         requires { (at : ℕ) → self.now.place ≡ Some at → Whole list.now at }
-        ensures { MatchOption result (self.now.place ≡ None) (λ k. (k.list.now ≡ list.now) × (self.now.place ≡ Some k.at)) }
+        ensures key { MatchOption result (self.now.place ≡ None) (λ k. (k.list.now ≡ list.now) × (self.now.place ≡ Some k.at)) }
+        ensures fits { IfSome result (λ k. k.at ≤ 0xffff_ffff) }
     {
         let at = self.place?;
         Some(ListedKey {
@@ -108,14 +109,16 @@ impl<'a> HeldTable<'a> {
 }
 
 impl<'a> HeldBucket<'a> {
+    ghost use Rattle.std.specs.Prelude.{◌≤◌};
     ghost use Rattle.reader.specs.ListedKeys.{key_listed};
     ghost use Rattle.format.specs.Packing.{get};
     ghost use Rattle.format.specs.AllocV4.{gen, next_gen};
     ghost use Rattle.release_keys.specs.Tables.{row_key, row_dirty, row_emptied};
 
-    // Its alloc key.
+    // Its alloc key, at a place of four bytes.
     pub fn key(&self) -> ListedKey<'a>
-        ensures { key_listed result ≡ row_key self.now.list.now self.now.freed }
+        ensures key { key_listed result ≡ row_key self.now.list.now self.now.freed }
+        ensures fits { result.at ≤ 0xffff_ffff }
     {
         self.freed.key(self.list).unwrap()
     }

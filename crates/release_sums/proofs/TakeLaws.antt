@@ -97,6 +97,9 @@ module _ (s : List ℕ) (b : ℕ) where
   unfolding sums_from
   left-next h k = rw (next h, summed-miss s (65536 - (b + 1)) b (omega arith)) refl
 
+  pub left-miss : b < 65536 → get_or s b 0 ≡ 0 → sums_from b s ≡ sums_from (b + 1) (set s b 0)
+  left-miss h k = left-next h k ∙ rest-same
+
   pub left-end : 65536 ≤ b → sums_from b s ≡ []
   unfolding sums_from
   left-end h = rw (summed-none s (65536 - b) b (omega arith)) refl
@@ -106,6 +109,22 @@ left-many s b zero h e = rw (add-zero) refl
 left-many s b (suc m) h e =
     let q : b + suc m ≡ b + m + 1 = omega arith in
     left-many s b m (omega arith) (λ j l k. e j l (omega arith)) ∙ rw q (left-next s (b + m) (omega arith) (e (b + m) (omega arith) (omega arith)))
+
+-- ---- the rest of a group that is not marked
+module _ {sums : List ℕ} {marks : List Bool} (m : Marked sums marks) (b : ℕ) (h : b < 65536) (e : get_or marks (b / 64) false ≡ false) where
+  unmarked : (j : ℕ) → b ≤ j → j < (b / 64 + 1) * 64 → get_or sums j 0 ≡ 0
+  unmarked j l k =
+      let d : j / 64 ≡ b / 64 = omega arith in
+      m.zero (bucket j) (lt-ltb j 65536 (omega arith)) (ap (λ (i : ℕ). get_or marks i false) d ∙ e)
+
+  end : b + ((b / 64 + 1) * 64 - b) ≡ (b / 64 + 1) * 64
+  end = omega arith
+
+  pub taken-group : take b sums ≡ replicate b 0 → 65536 ≤ length sums → take ((b / 64 + 1) * 64) sums ≡ replicate ((b / 64 + 1) * 64) 0
+  taken-group z l = rw (← end) (taken-many sums ((b / 64 + 1) * 64 - b) z (omega arith) (λ j i k. unmarked j i (omega arith)))
+
+  pub left-group : sums_from b sums ≡ sums_from ((b / 64 + 1) * 64) sums
+  left-group = rw (← end) (left-many sums b ((b / 64 + 1) * 64 - b) (omega arith) (λ j i k. unmarked j i (omega arith)))
 
 -- ---- the first bucket whose sum is not 0
 module _ {sums : List ℕ} {from first : ℕ} (f : FirstSum sums from 65536 first) where

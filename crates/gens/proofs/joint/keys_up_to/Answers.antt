@@ -16,4 +16,4 @@ skip_while-requires-clause-from_within c =
 pub returns : goal.returns
 returns c =
     let p = gens_at c.args.b in
-    up-to-walked p _ c.requires (c.skip_while.ensures (λ k. not (pos_less p k.pos)) (λ k r q. search (rules, tests)))
+    up-to-walked p _ c.requires (c.skip_while.ensures (λ k. not (pos_less p k.pos)) (λ k r h q. search (rules, tests)))

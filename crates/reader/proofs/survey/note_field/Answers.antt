@@ -1,5 +1,5 @@
 use Rattle.reader.proofs.FieldRankLaws.{rank_below}
 use Rattle.reader.proofs.survey.note_field.Goals as goal
 
-pub note-requires : goal.note-requires
-note-requires c = rw c.rank.ensures (rank_below _, c.requires.1)
+pub try_note-requires : goal.try_note-requires
+try_note-requires c = rw c.rank.ensures (rank_below _, c.requires.1)

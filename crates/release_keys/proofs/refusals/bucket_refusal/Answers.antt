@@ -10,7 +10,7 @@ use Rattle.release_keys.proofs.refusals.bucket_refusal.Goals.{else-dirty-f-2-via
 
 pub returns-in_err-key : goal.returns-in_err-key
 returns-in_err-key c =
-    let z = key-none _ c.key.ensures c.ok_or.ensures.ok_part c.ok_or.ensures.value c.in_err-key.was in
+    let z = key-none _ c.key.ensures.key c.ok_or.ensures.ok_part c.ok_or.ensures.value c.in_err-key.was in
     let p = err_from_is_err_and c.from_residual.result c.from_residual.ensures.1 in
     rw (p.1, p.2 ∙ z.0) (sym (row-15 c.requires.0 z.1))
 
@@ -19,12 +19,12 @@ key-requires c = c.requires.0.key.whole
 
 pub returns-then-value-lt56 : goal.returns-then-value-lt56
 returns-then-value-lt56 c =
-    let k = key-some _ c.key.ensures c.ok_or.ensures.ok_part c.in_ok-key.was in
+    let k = key-some _ c.key.ensures.key c.ok_or.ensures.ok_part c.in_ok-key.was in
     sym (row-16 c.requires.0 c.in_ok-key.key.at k.1 (omega (arith, ap length (rw k.0 at c.value-value.ensures))))
 
 pub returns-then-read-dirty : goal.returns-then-read-dirty
 returns-then-read-dirty c =
-    let k = key-some _ c.key.ensures c.ok_or.ensures.ok_part c.in_ok-key.was in
+    let k = key-some _ c.key.ensures.key c.ok_or.ensures.ok_part c.in_ok-key.was in
     let e = rw k.0 at c.value-value.ensures in
     let long : 56 ≤ length (key_here c.args.read.now.alloc.list.now c.in_ok-key.key.at).value = omega (arith, ap length e) in
     let d = c.dirty_sectors-dirty.ensures ∙ ap (get dirty_sectors) e in
@@ -32,7 +32,7 @@ returns-then-read-dirty c =
 
 pub returns-then-dirty-f : goal.returns-then-dirty-f
 returns-then-dirty-f c =
-    let k = key-some _ c.key.ensures c.ok_or.ensures.ok_part c.in_ok-key.was in
+    let k = key-some _ c.key.ensures.key c.ok_or.ensures.ok_part c.in_ok-key.was in
     let e = rw k.0 at c.value-value.ensures in
     let long : 56 ≤ length (key_here c.args.read.now.alloc.list.now c.in_ok-key.key.at).value = omega (arith, ap length e) in
     let d = c.dirty_sectors-dirty.ensures ∙ ap (get dirty_sectors) e in
@@ -40,7 +40,7 @@ returns-then-dirty-f c =
 
 pub returns-then-gen_short : goal.returns-then-gen_short
 returns-then-gen_short c =
-    let k = key-some _ c.key.ensures c.ok_or.ensures.ok_part c.in_ok-key.was in
+    let k = key-some _ c.key.ensures.key c.ok_or.ensures.ok_part c.in_ok-key.was in
     let e = rw k.0 at c.value-value.ensures in
     let long : 56 ≤ length (key_here c.args.read.now.alloc.list.now c.in_ok-key.key.at).value = omega (arith, ap length e) in
     let d = c.dirty_sectors-dirty.ensures ∙ ap (get dirty_sectors) e in
@@ -48,7 +48,7 @@ returns-then-gen_short c =
 
 pub returns : goal.returns
 returns c =
-    let k = key-some _ c.key.ensures c.ok_or.ensures.ok_part c.in_ok-key.was in
+    let k = key-some _ c.key.ensures.key c.ok_or.ensures.ok_part c.in_ok-key.was in
     let e = rw k.0 at c.value-value.ensures in
     let long : 56 ≤ length (key_here c.args.read.now.alloc.list.now c.in_ok-key.key.at).value = omega (arith, ap length e) in
     let d = c.dirty_sectors-dirty.ensures ∙ ap (get dirty_sectors) e in
