@@ -20,14 +20,14 @@ use Rattle.calls.specs.Freespace.{end_of, buckets_of, runs_of, Passed, pass, sho
 use Rattle.bucket_bits.specs.Bits.{marked, Marks}
 use Rattle.bucket_bits.specs.declared.marks.BucketBits.{BucketBits}
 use Rattle.reader.specs.Checked.{end_in_range}
-use Rattle.freespace.specs.Runs.{began_early, run_in}
+use Rattle.freespace.specs.Runs.{began_early, run_in, covering_in}
 use Rattle.reader.specs.declared.refusal.Refusal.{Refusal}
 use Rattle.reader.specs.declared.refusal.Refusal.TheVariants.{RunBeforeBuckets}
 use Rattle.freespace.specs.Walks.{unwalked, thirteen, key_walk, left_of, key_queue, queue_of, RunTook, WalkEnded, WalkTook, WalkIs}
 use Rattle.freespace.specs.declared.runs.Run.{Run}
 use Rattle.freespace.specs.declared.take.Walked.{Walked}
 use Rattle.reader.proofs.NumberLaws.{refused-some}
-use Rattle.freespace.proofs.RunLaws.{run_end, run_buckets, run-buckets, run_none}
+use Rattle.freespace.proofs.RunLaws.{run_end, run_buckets, run-buckets, run_none, covering-buckets, covering_none}
 use Rattle.freespace.proofs.WalkLaws.{pass-none, pass-left, pass-sum, pass-agree}
 
 -- ---- what the walk makes of one key
@@ -179,14 +179,14 @@ module _ (R U : Bucket → Bool) (k : Key) (n : ℕ) (from : Walked) (before aft
         ∙ sym (ap (pass_if R U k (n - from.count)) f) in
         key-walked r (rw s at e)
 
--- a key that is no run
-pub key-alone :
-    (R U : Bucket → Bool) (k : Key) (n : ℕ) (from : Walked) (table : List Bucket) → began_early k ≡ false → from.count ≤ n → run_in k ≡ None
+-- a key whose run has no bucket
+walk-alone :
+    (R U : Bucket → Bool) (k : Key) (n : ℕ) (from : Walked) (table : List Bucket) → began_early k ≡ false → from.count ≤ n → run_buckets (run_in k) ≡ run_buckets None
     → WalkIs n (λ x. k ∷ []) (key_walk R U (n - from.count) k) from table table
     (Ok (record { count = from.count; passed = from.passed + 1; left = 0 }))
-key-alone R U k n from table inside most f =
+walk-alone R U k n from table inside most f =
     let s : pass_if R U k (n - from.count) (run_in k) ≡ record { taken = []; left = 0; need = n - from.count; used = false } =
-    ap (pass_if R U k (n - from.count)) f ∙ pass-none R U (n - from.count) in
+    ap (pass R U (n - from.count)) f ∙ pass-none R U (n - from.count) in
     key-walked R U k n from table table inside most _
     (record {
       used = ap (λ (x : Passed). thirteen x.used 0) (sym s);
@@ -198,6 +198,28 @@ key-alone R U k n from table inside most f =
             rest = ap (λ (x : Passed). x.left) (sym s);
           };
     })
+
+-- the buckets that it covers are those of the run that it is
+same-buckets : (k : Key) → run_buckets (run_in k) ≡ run_buckets (covering_in k)
+same-buckets k = go (is_run k) refl
+  where
+    go : (t : Bool) → is_run k ≡ t → run_buckets (run_in k) ≡ run_buckets (covering_in k)
+    go true e = run-buckets k e ∙ sym (covering-buckets k e)
+    go false e = ap run_buckets (run_none k e ∙ sym (covering_none k e))
+
+-- one that covers none: no run, or an empty one
+pub key-alone :
+    (R U : Bucket → Bool) (k : Key) (n : ℕ) (from : Walked) (table : List Bucket) → began_early k ≡ false → from.count ≤ n → covering_in k ≡ None
+    → WalkIs n (λ x. k ∷ []) (key_walk R U (n - from.count) k) from table table
+    (Ok (record { count = from.count; passed = from.passed + 1; left = 0 }))
+key-alone R U k n from table inside most f = walk-alone R U k n from table inside most (same-buckets k ∙ ap run_buckets f)
+
+-- one that is no run
+pub key-other :
+    (R U : Bucket → Bool) (k : Key) (n : ℕ) (from : Walked) (table : List Bucket) → began_early k ≡ false → from.count ≤ n → run_in k ≡ None
+    → WalkIs n (λ x. k ∷ []) (key_walk R U (n - from.count) k) from table table
+    (Ok (record { count = from.count; passed = from.passed + 1; left = 0 }))
+key-other R U k n from table inside most f = walk-alone R U k n from table inside most (ap run_buckets f)
 
 -- ---- the keys queued, one key more
 no-left : (j : ℕ) → left_of j 0 ≡ 0

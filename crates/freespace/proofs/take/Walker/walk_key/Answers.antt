@@ -1,6 +1,6 @@
 use Rattle.std.proofs.Common.{sym, ◌∙◌}
 use Rattle.freespace.proofs.RunLaws.{run_end}
-use Rattle.freespace.proofs.TakeLaws.{key-began, key-run, key-alone}
+use Rattle.freespace.proofs.TakeLaws.{key-began, key-run, key-other}
 use Rattle.freespace.proofs.take.Walker.walk_key.Goals as goal
 
 pub returns-then-began_early : goal.returns-then-began_early
@@ -19,4 +19,4 @@ returns-in-Some c =
 pub returns-in-None : goal.returns-in-None
 returns-in-None c =
     rw c.past_key.ensures
-    (key-alone _ _ _ _ c.args.before _ (sym c.began_early.ensures ∙ c.if-began_early.false) c.requires.most (sym c.run_of.ensures ∙ c.in-None.is))
+    (key-other _ _ _ _ c.args.before _ (sym c.began_early.ensures ∙ c.if-began_early.false) c.requires.most (sym c.run_of.ensures ∙ c.in-None.is))
