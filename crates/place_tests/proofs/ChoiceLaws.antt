@@ -1,10 +1,12 @@
 -- What choosing answers, at each of its ends.
-use mathlib.Core.Path.{◌≡◌, refl, ap, sym, ◌∙◌}
+use mathlib.Core.Path.{◌≡◌, ap, sym, ◌∙◌}
 use mathlib.Core.Bool.{Bool}
-use mathlib.Core.List.{List, [], ◌∷◌}
-use Prim.Native.Nat.{ℕ, zero, suc}
+use mathlib.Core.List.{List, []}
+use Prim.Native.Nat.{ℕ}
+use native.Mathlib.Omega.{arith}
 use lib.Dec.{leb}
 use lib.ListN.{take}
+use lib.Seq.{take-take}
 use Rattle.wire.specs.Keys.{Key}
 use Rattle.wire.specs.declared.kinds.Bucket.{Bucket}
 use Rattle.calls.specs.Answers.{read_call, read_volume}
@@ -51,11 +53,6 @@ module _ (s : List ℕ) {n : ℕ} (e : n ≡ buckets_needed (slots_of (read_call
   chosen-walk w = rw (← e, ← walk_is) w
 
 -- the walk from no bucket on, by the front of the table that it fills
-take-front : (n : ℕ) (bs : List Bucket) → take n (take n bs) ≡ take n bs
-take-front zero bs = refl
-take-front (suc n) [] = refl
-take-front (suc n) (b ∷ bs) = ap (λ (l : List Bucket). b ∷ l) (take-front n bs)
-
 pub took-front : {n : ℕ} {ks : List Key} {w : freespace.Walked} {before after : List Bucket} {r : Walked} → WalkTook n ks w unwalked before after r
     → WalkTook n ks w unwalked [] (take r.count after) r
-took-front {after = after} {r = r} t = record { taken = take-front r.count after ∙ t.taken; count = t.count; passed = t.passed; queue = t.queue; short = t.short }
+took-front {after = after} {r = r} t = record { taken = take-take r.count r.count after (omega arith) ∙ t.taken; count = t.count; passed = t.passed; queue = t.queue; short = t.short }

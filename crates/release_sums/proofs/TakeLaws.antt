@@ -110,41 +110,32 @@ left-many s b (suc m) h e =
     let q : b + suc m ≡ b + m + 1 = omega arith in
     left-many s b m (omega arith) (λ j l k. e j l (omega arith)) ∙ rw q (left-next s (b + m) (omega arith) (e (b + m) (omega arith) (omega arith)))
 
--- ---- the rest of a group that is not marked
-module _ {sums : List ℕ} {marks : List Bool} (m : Marked sums marks) (b : ℕ) (h : b < 65536) (e : get_or marks (b / 64) false ≡ false) where
-  unmarked : (j : ℕ) → b ≤ j → j < (b / 64 + 1) * 64 → get_or sums j 0 ≡ 0
-  unmarked j l k =
-      let d : j / 64 ≡ b / 64 = omega arith in
-      m.zero (bucket j) (lt-ltb j 65536 (omega arith)) (ap (λ (i : ℕ). get_or marks i false) d ∙ e)
-
-  end : b + ((b / 64 + 1) * 64 - b) ≡ (b / 64 + 1) * 64
-  end = omega arith
-
-  pub taken-group : take b sums ≡ replicate b 0 → 65536 ≤ length sums → take ((b / 64 + 1) * 64) sums ≡ replicate ((b / 64 + 1) * 64) 0
-  taken-group z l = rw (← end) (taken-many sums ((b / 64 + 1) * 64 - b) z (omega arith) (λ j i k. unmarked j i (omega arith)))
-
-  pub left-group : sums_from b sums ≡ sums_from ((b / 64 + 1) * 64) sums
-  left-group = rw (← end) (left-many sums b ((b / 64 + 1) * 64 - b) (omega arith) (λ j i k. unmarked j i (omega arith)))
-
--- ---- the first bucket whose sum is not 0
-module _ {sums : List ℕ} {from first : ℕ} (f : FirstSum sums from 65536 first) where
-  passed : from + (first - from) ≡ first
-  passed = omega (arith, f.within.0)
-
-  none : (j : ℕ) → from ≤ j → j < from + (first - from) → get_or sums j 0 ≡ 0
-  none j l k = f.zero (bucket j) l (omega (arith, f.within.0))
-
-  pub taken-first : take from sums ≡ replicate from 0 → 65536 ≤ length sums → take first sums ≡ replicate first 0
-  taken-first z l = rw (← passed) (taken-many sums (first - from) z (omega (arith, f.within)) none)
-
-  pub left-first : sums_from from sums ≡ sums_from first sums
-  left-first = rw (← passed) (left-many sums from (first - from) (omega (arith, f.within)) none)
-
--- ---- the walk over the groups
--- the sums from a first one on, before an end, are 0
+-- ---- the sums from a first one on, before an end, are 0
 abbrev pub NoneFrom : List ℕ → ℕ → ℕ → Type 0
 NoneFrom sums from end = (b : Bucket) → from ≤ b.0 → b.0 < end → sum_of sums b ≡ 0
 
+module _ (sums : List ℕ) {from end : ℕ} (z : NoneFrom sums from end) (h : from ≤ end) (l : end ≤ 65536) where
+  passed : from + (end - from) ≡ end
+  passed = omega (arith, h)
+
+  none : (j : ℕ) → from ≤ j → j < from + (end - from) → get_or sums j 0 ≡ 0
+  none j i k = z (bucket j) i (omega (arith, h))
+
+  taken-none : take from sums ≡ replicate from 0 → 65536 ≤ length sums → take end sums ≡ replicate end 0
+  taken-none t n = rw (← passed) (taken-many sums (end - from) t (omega (arith, h, l)) none)
+
+  left-none : sums_from from sums ≡ sums_from end sums
+  left-none = rw (← passed) (left-many sums from (end - from) (omega (arith, h, l)) none)
+
+-- ---- the first bucket whose sum is not 0
+module _ {sums : List ℕ} {from first : ℕ} (f : FirstSum sums from 65536 first) where
+  pub taken-first : take from sums ≡ replicate from 0 → 65536 ≤ length sums → take first sums ≡ replicate first 0
+  taken-first z l = taken-none sums f.zero f.within.0 f.within.1 z l
+
+  pub left-first : sums_from from sums ≡ sums_from first sums
+  left-first = left-none sums f.zero f.within.0 f.within.1
+
+-- ---- the walk over the groups
 pub none-yet : (sums : List ℕ) (next : ℕ) → NoneFrom sums next next
 none-yet sums next b i k = absurd (omega arith)
 
@@ -170,6 +161,17 @@ module _ {sums : List ℕ} {next from group : ℕ} (z : NoneFrom sums next from)
 
     pub first-marked : next ≤ from → first < (group + 1) * 64 → FirstSum sums next 65536 first
     first-marked p q = record { within = (omega (arith, f.within), omega arith); zero = none-more sums z f.zero; found = λ k. f.found q }
+
+-- the rest of a group that is not marked
+module _ {sums : List ℕ} {marks : List Bool} (m : Marked sums marks) (b : ℕ) (h : b < 65536) (e : get_or marks (b / 64) false ≡ false) where
+  unmarked : NoneFrom sums b ((b / 64 + 1) * 64)
+  unmarked = none-unmarked (none-yet sums b) (omega arith) m refl e
+
+  pub taken-group : take b sums ≡ replicate b 0 → 65536 ≤ length sums → take ((b / 64 + 1) * 64) sums ≡ replicate ((b / 64 + 1) * 64) 0
+  taken-group z l = taken-none sums unmarked (omega arith) (omega arith) z l
+
+  pub left-group : sums_from b sums ≡ sums_from ((b / 64 + 1) * 64) sums
+  left-group = left-none sums unmarked (omega arith) (omega arith)
 
 pub first-none : {sums : List ℕ} {next from : ℕ} → next ≤ 65536 → NoneFrom sums next from → 65536 ≤ from → FirstSum sums next 65536 65536
 first-none h z l = record { within = (h, omega arith); zero = λ b i k. z b i (omega arith); found = λ k. absurd (omega arith) }
